@@ -1,0 +1,16 @@
+-- `ewah::marker::segment` meets its contract. Assumes nothing.
+use native.Mathlib.Omega.{arith}
+use borrow.Author.Needs.{needs}
+use Rattle.meaning.specs.Segment.{fill}
+use Rattle.ewah.proofs.marker.segment.Statement.{statement}
+use Rattle.ewah.proofs.marker.segment.Tie as tie
+
+mul-result : tie.Need-mul-result
+mul-result c = search needs
+
+returns : tie.Need-returns
+unfolding fill
+returns c = search needs
+
+pub segment-spec : {M : Type 1} → statement M
+segment-spec = tie.close (tie.spec mul-result returns)

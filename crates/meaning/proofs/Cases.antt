@@ -1,0 +1,9 @@
+-- The starred readings hold.
+-- Assumes nothing.
+use mathlib.Core.Path.{_≡_, refl}
+use mathlib.Core.Bool.{true}
+use Rattle.meaning.specs.Readings.{allPass, readings}
+
+pub readings-hold : allPass readings ≡ true
+unfolding allPass readings
+readings-hold = refl

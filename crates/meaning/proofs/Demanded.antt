@@ -1,0 +1,269 @@
+-- Demands 2 and 3 hold.
+-- Assumes nothing.
+use Prim.Native.Nat.{ℕ, zero, suc, _+_, _*_, _^_, _≤_, _<_}
+use mathlib.Core.Bool.{Bool, true, false, not, _||_, true≢false}
+use mathlib.Core.Path.{_≡_, refl, sym, ap, _∙_, subst}
+use mathlib.Core.Logic.{_↔_}
+use mathlib.Core.List.{List, [], _∷_, _++_, map}
+use lib.Dec.{eqb, leb, ltb}
+use lib.ListN.{length, getD, drop}
+use native.Mathlib.Omega.{arith}
+use native.Mathlib.Decide.{decLe}
+use borrow.Author.Tests.{ltb-true, ltb-false, leb-true, leb-false, lt-ltb, le-ltb, le-leb, lt-leb, ne-eqb, eq-eqb, eqb-false}
+use Rattle.meaning.specs.Limits.{mostRows, mostNamed, mostBitmaps, mostIndexWords, headWords, indexKind}
+use Rattle.meaning.specs.Segment.{hasRow, segmentCount, lastLimit, lastOf, fromRows}
+use Rattle.meaning.specs.Refusal.{Outcome, refused, answer, Verdict, sound, refuseIf, _then_}
+use Rattle.meaning.specs.Ewah.{Sound, rowsOf, bodyFault}
+use Rattle.meaning.specs.Canonical.{Canonical, canonical}
+use Rattle.meaning.specs.Index.{SoundIndex, rowCount, bitmapCount, indexFault, entriesFault, bodiesFault, entryPlace, bodyAt, rowsAt, startOf}
+use Rattle.meaning.specs.Question.{held, atLeast, byTable, totalWords, stretches}
+use Rattle.meaning.specs.Answer.{fits, write, askPlain, rowsFault, plainFault, checkBody, bufferAfter, check, badBitmap, anyBad, badList, named, namedBodies, rightRows, threshold, symmetric, badEntry, expand, compress, wordsReported, stretchesReported}
+use Rattle.meaning.specs.Demands.{Words, Exactly, BodyOf, Fewest, Asked, NoRoom, Written, Demand3, Demand3Holds, PlainRows, Demand2, StretchBounds, StretchesHold}
+use Rattle.meaning.proofs.Decoded.{Whole, sound-whole}
+use Rattle.meaning.proofs.Stretches.{stretches-le}
+use Rattle.meaning.proofs.Enough.{AllWhole, words-le}
+use Rattle.meaning.proofs.RowWords.{rows-decide, from-length, from-has, from-last}
+use Rattle.meaning.proofs.Outcomes.{refuse-no, refuse-answer, then-sound, then-answer, fits-yes, fits-no, fits-answer}
+use Rattle.meaning.proofs.CanonicalBody.{canonical-sound, canonical-rows, canonical-body, canonical-fewest, canonical-ext, canonical-form}
+
+leb-iff : (m n : ℕ) → (leb m n ≡ true) ↔ (m ≤ n)
+leb-iff m n = (leb-true m n, le-leb m n)
+
+-- ---- the bodies of a sound index are sound
+
+abbrev WholeAt : List ℕ → ℕ → Type 0
+WholeAt index k = Whole (lastLimit 32 (rowCount index)) 0 (segmentCount 32 (rowCount index)) (bodyAt index k)
+
+bodies-whole : (index : List ℕ) (k more : ℕ) → bodiesFault index k more ≡ sound → (i : ℕ) → k ≤ i → i < k + more → WholeAt index i
+unfolding bodiesFault bodyFault
+bodies-whole index k zero e i h g = absurd (omega arith)
+bodies-whole index k (suc more) e i h g =
+    let p = then-answer (bodyFault k (startOf index k) (rowCount index) (bodyAt index k)) (bodiesFault index (suc k) more) tt e in
+    elim (decLe (suc k) i) [
+      | yes l ↦ bodies-whole index (suc k) more (p .1) i l (omega arith)
+      | no l ↦
+          let is : k ≡ i = omega arith in
+          subst (λ (z : ℕ). WholeAt index z) is (sound-whole k (rowCount index) (startOf index k) 0 (segmentCount 32 (rowCount index)) (bodyAt index k) (omega arith) (omega arith) (p .0))
+    ]
+
+index-whole : (index : List ℕ) → SoundIndex index → (k : ℕ) → k < bitmapCount index → WholeAt index k
+unfolding indexFault
+index-whole index e k h =
+    let a = refuse-answer (ltb mostIndexWords (length index)) 3 0 0 _ tt e in
+    let b = refuse-answer (ltb (length index) headWords) 1 0 (length index) _ tt (a .1) in
+    let c = refuse-answer (not (eqb (getD index 0 0) indexKind)) 2 0 0 _ tt (b .1) in
+    let d = refuse-answer (ltb mostRows (rowCount index)) 3 0 1 _ tt (c .1) in
+    let f = refuse-answer (ltb mostBitmaps (bitmapCount index)) 3 0 2 _ tt (d .1) in
+    let g = refuse-answer (ltb (length index) (entryPlace (bitmapCount index))) 1 0 (length index) _ tt (f .1) in
+    let i = then-answer (entriesFault index 0 (bitmapCount index) (entryPlace (bitmapCount index))) (bodiesFault index 0 (bitmapCount index)) tt (g .1) in
+    bodies-whole index 0 (bitmapCount index) (i .1) k (omega arith) (omega arith)
+
+all-whole : (index list : List ℕ) → SoundIndex index → ((i : ℕ) → i < length list → getD list i 0 < bitmapCount index) → AllWhole (rowCount index) (map (bodyAt index) list)
+all-whole index [] s h = tt
+all-whole index (k ∷ ks) s h = (index-whole index s k (h 0 (omega arith)), all-whole index ks s (λ i g. h (suc i) (omega arith)))
+
+named-is : (index list : List ℕ) → map (rowsAt index) list ≡ map rowsOf (map (bodyAt index) list)
+unfolding rowsAt
+named-is index [] = refl
+named-is index (k ∷ ks) = ap (λ (l : List (ℕ → Bool)). rowsOf (bodyAt index k) ∷ l) (named-is index ks)
+
+-- an answer whose row r is decided by `f` from the number that have r has at most two words for each stretch
+pub twice-stretches : (index list : List ℕ) (f : ℕ → Bool) → SoundIndex index → 1 ≤ length list → ((i : ℕ) → i < length list → getD list i 0 < bitmapCount index)
+    → length (canonical (rowCount index) (λ r. f (held (named index list) r))) ≤ 2 * stretches (rowCount index) (namedBodies index list)
+unfolding named namedBodies
+twice-stretches index [] f s n h = absurd (omega arith)
+twice-stretches index (k ∷ ks) f s n h =
+    let e = words-le (rowCount index) f (bodyAt index k) (map (bodyAt index) ks) (all-whole index (k ∷ ks) s h) in
+    subst (λ (l : List (ℕ → Bool)). length (canonical (rowCount index) (λ r. f (held l r))) ≤ 2 * stretches (rowCount index) (map (bodyAt index) (k ∷ ks))) (sym (named-is index (k ∷ ks))) e
+
+-- ---- a threshold question
+
+all-good : (index list : List ℕ) → ((i : ℕ) → i < length list → getD list i 0 < bitmapCount index) → anyBad index list ≡ false
+unfolding anyBad badBitmap
+all-good index [] h = refl
+all-good index (k ∷ ks) h = rw (lt-leb (bitmapCount index) k (h 0 (omega arith))) (all-good index ks (λ i g. h (suc i) (omega arith)))
+
+module _ (index list : List ℕ) (T : ℕ) where
+  -- nothing but the room is left to be asked
+  pub asked-writes : Asked index list T → (room : ℕ) → threshold index list T room ≡ write (rowCount index) (rightRows index list T) room
+  unfolding threshold check badList
+  asked-writes a room =
+      then-sound (indexFault index) _ (a .isSound)
+      ∙ refuse-no (badList index list || eqb T 0 || ltb (length list) T) 8 0 0 (write (rowCount index) (rightRows index list T) room) good
+    where
+      good : badList index list || eqb T 0 || ltb (length list) T ≡ false
+      good = rw (ne-eqb (length list) 0 (omega (arith, a .some)), le-ltb mostNamed (length list) (a .most), all-good index list (a .its), ne-eqb T 0 (omega (arith, a .low)), le-ltb (length list) T (a .high))
+
+  -- what is answered is the canonical body of the right rows
+  pub answered-is : (room : ℕ) (b : List ℕ) → threshold index list T room ≡ answer b → b ≡ canonical (rowCount index) (rightRows index list T)
+  unfolding threshold write
+  answered-is room b e =
+      let p = then-answer (check index) _ b e in
+      let q = refuse-answer (badList index list || eqb T 0 || ltb (length list) T) 8 0 0 (write (rowCount index) (rightRows index list T) room) b (p .1) in
+      fits-answer room (canonical (rowCount index) (rightRows index list T)) b (q .1)
+
+  right-iff : (r : ℕ) → (rightRows index list T r ≡ true) ↔ (T ≤ held (named index list) r)
+  unfolding rightRows atLeast
+  right-iff r = leb-iff T (held (named index list) r)
+
+  module _ (buffer : List ℕ) (a : Asked index list T) where
+    abbrev R : ℕ
+    R = rowCount index
+
+    abbrev p : ℕ → Bool
+    p = rightRows index list T
+
+    abbrev o : Outcome (List ℕ)
+    o = threshold index list T (length buffer)
+
+    no-room : length buffer < length (canonical R p) → NoRoom (length (canonical R p)) buffer o (bufferAfter o buffer)
+    unfolding write bufferAfter
+    no-room h =
+        let e : o ≡ refused 9 0 (length (canonical R p)) = asked-writes a (length buffer) ∙ fits-no (length buffer) (canonical R p) h in
+        record { number = e; kept = ap (λ (z : Outcome (List ℕ)). bufferAfter z buffer) e }
+
+    room : length (canonical R p) ≤ length buffer → Written R p (length (canonical R p)) buffer o (bufferAfter o buffer)
+    unfolding write bufferAfter
+    room h =
+        let e : o ≡ answer (canonical R p) = asked-writes a (length buffer) ∙ fits-yes (length buffer) (canonical R p) h in
+        record {
+          body = canonical R p;
+          answered = e;
+          buffer-is = ap (λ (z : Outcome (List ℕ)). bufferAfter z buffer) e;
+          form = canonical-form R p;
+          right = canonical-body R p;
+          fewest = refl;
+        }
+
+    few : length (canonical R p) ≤ 2 * totalWords (namedBodies index list)
+    unfolding rightRows atLeast
+    few = omega (arith, twice-stretches index list (λ c. leb T c) (a .isSound) (a .some) (a .its), stretches-le R (namedBodies index list))
+
+    holds : Demand3 index list T buffer o (bufferAfter o buffer)
+    holds = record {
+      right = right-iff;
+      least = length (canonical R p);
+      least-is = canonical-fewest R p;
+      no-room = no-room;
+      room = room;
+      enough = few;
+    }
+
+pub demand3 : Demand3Holds
+demand3 index list T buffer a = holds index list T buffer a
+
+-- ---- stretches
+
+or-false : (a b : Bool) → a || b ≡ false → (a ≡ false) × (b ≡ false)
+or-false true b e = absurd (true≢false e)
+or-false false b e = (refl, e)
+
+good-each : (index list : List ℕ) → anyBad index list ≡ false → (i : ℕ) → i < length list → getD list i 0 < bitmapCount index
+unfolding anyBad badBitmap
+good-each index [] e i h = absurd (omega arith)
+good-each index (k ∷ ks) e zero h = leb-false (bitmapCount index) k (or-false (leb (bitmapCount index) k) (anyBad index ks) e .0)
+good-each index (k ∷ ks) e (suc i) h = good-each index ks (or-false (leb (bitmapCount index) k) (anyBad index ks) e .1) i (omega arith)
+
+module _ (index list : List ℕ) (f : ℕ → Bool) (bad : Bool) (room : ℕ) where
+  abbrev rows : ℕ → Bool
+  rows r = f (held (named index list) r)
+
+  -- any question whose answer `f` gives from the number of named bitmaps that have a row
+  bounds : (o : Outcome (List ℕ)) → o ≡ (check index then refuseIf (badList index list || bad) 8 0 0 (write (rowCount index) rows room)) → StretchBounds index list o
+  unfolding stretchesReported wordsReported check
+  bounds (refused n b w) e = record { few = omega arith; twice = omega arith }
+  bounds (answer ws) e =
+      let p = then-answer (check index) _ ws (sym e) in
+      let q = refuse-answer (badList index list || bad) 8 0 0 (write (rowCount index) rows room) ws (p .1) in
+      let l = or-false (badList index list) bad (q .0) in
+      let is = fits-answer room (canonical (rowCount index) rows) ws (opened (q .1)) in
+      let m = listed (l .0) in
+      let two = twice-stretches index list f (p .0) (m .0) (m .1) in
+      record { few = stretches-le (rowCount index) (namedBodies index list); twice = rw is two }
+    where
+      opened : write (rowCount index) rows room ≡ answer ws → fits room (canonical (rowCount index) rows) ≡ answer ws
+      opened h = unfold write in h
+
+      listed : badList index list ≡ false → (1 ≤ length list) × ((i : ℕ) → i < length list → getD list i 0 < bitmapCount index)
+      listed h =
+          let a = or-false (eqb (length list) 0 || ltb mostNamed (length list)) (anyBad index list) (unfold badList in h) in
+          let b = or-false (eqb (length list) 0) (ltb mostNamed (length list)) (a .0) in
+          let z = eqb-false (length list) 0 (b .0) in
+          (omega arith, good-each index list (a .1))
+
+or-group : (a b c : Bool) → a || b || c ≡ a || (b || c)
+or-group true b c = refl
+or-group false b c = refl
+
+pub stretches-hold : StretchesHold
+stretches-hold = record { of-threshold = of-threshold; of-symmetric = of-symmetric }
+  where
+    of-threshold : (index list : List ℕ) (T room : ℕ) → StretchBounds index list (threshold index list T room)
+    of-threshold index list T room = bounds index list (λ c. leb T c) (eqb T 0 || ltb (length list) T) room (threshold index list T room) e
+      where
+        e : threshold index list T room ≡ (check index then refuseIf (badList index list || (eqb T 0 || ltb (length list) T)) 8 0 0 (write (rowCount index) (λ r. leb T (held (named index list) r)) room))
+        e = unfold threshold rightRows atLeast in ap (λ (t : Bool). check index then refuseIf t 8 0 0 (write (rowCount index) (λ r. leb T (held (named index list) r)) room)) (or-group (badList index list) (eqb T 0) (ltb (length list) T))
+
+    of-symmetric : (index list table : List ℕ) (room : ℕ) → StretchBounds index list (symmetric index list table room)
+    of-symmetric index list table room = bounds index list (λ c. eqb (getD table c 0) 1) (not (eqb (length table) (suc (length list))) || badEntry table) room (symmetric index list table room) e
+      where
+        e : symmetric index list table room ≡ (check index then refuseIf (badList index list || (not (eqb (length table) (suc (length list))) || badEntry table)) 8 0 0 (write (rowCount index) (λ r. eqb (getD table (held (named index list) r) 0) 1) room))
+        e = unfold symmetric byTable in ap (λ (t : Bool). check index then refuseIf t 8 0 0 (write (rowCount index) (λ r. eqb (getD table (held (named index list) r) 0) 1) room)) (or-group (badList index list) (not (eqb (length table) (suc (length list)))) (badEntry table))
+
+-- ---- demand 2
+
+sound-alone : (R : ℕ) (b : List ℕ) → R ≤ mostRows → Sound R b → checkBody R b ≡ sound
+unfolding checkBody rowsFault
+sound-alone R b h s = then-sound (rowsFault R) (bodyFault 0 0 R b) (refuse-no (ltb mostRows R) 3 0 1 sound (le-ltb mostRows R h)) ∙ s
+
+expand-is : (R : ℕ) (b : List ℕ) (room : ℕ) → R ≤ mostRows → Sound R b → segmentCount 32 R ≤ room → expand R b room ≡ answer (fromRows 32 R (rowsOf b))
+unfolding expand askPlain
+expand-is R b room h s k =
+    then-sound (checkBody R b) _ (sound-alone R b h s)
+    ∙ fits-yes room (fromRows 32 R (rowsOf b)) (omega (arith, from-length 32 (omega arith) R (rowsOf b)))
+
+plain-good : (R : ℕ) (plain : List ℕ) → R ≤ mostRows → length plain ≡ segmentCount 32 R → lastOf plain < lastLimit 32 R → plainFault R plain ≡ sound
+unfolding plainFault rowsFault
+plain-good R plain h n l =
+    then-sound (rowsFault R) _ (refuse-no (ltb mostRows R) 3 0 1 sound (le-ltb mostRows R h))
+    ∙ refuse-no (not (eqb (length plain) (segmentCount 32 R))) 8 0 0 _ (ap not (eq-eqb (length plain) (segmentCount 32 R) n))
+    ∙ refuse-no (leb (lastLimit 32 R) (lastOf plain)) 7 0 _ _ (lt-leb (lastLimit 32 R) (lastOf plain) l)
+
+compress-is : (R : ℕ) (plain : List ℕ) (room : ℕ) → plainFault R plain ≡ sound → length (canonical R (hasRow 32 plain)) ≤ room → compress R plain room ≡ answer (canonical R (hasRow 32 plain))
+unfolding compress write
+compress-is R plain room f h = then-sound (plainFault R plain) _ f ∙ fits-yes room (canonical R (hasRow 32 plain)) h
+
+pub demand2 : Demand2
+demand2 = record { in-answer = in-answer; write-read = write-read; write-fits = write-fits; read-write = read-write }
+  where
+    in-answer : (index list : List ℕ) (T room : ℕ) (b : List ℕ) → threshold index list T room ≡ answer b
+        → (r : ℕ) → r < rowCount index → (rowsOf b r ≡ true) ↔ (T ≤ held (named index list) r)
+    in-answer index list T room b e r h =
+        let q : rowsOf b r ≡ rightRows index list T r = ap (λ (z : List ℕ). rowsOf z r) (answered-is index list T room b e) ∙ canonical-rows (rowCount index) (rightRows index list T) r h in
+        rw q (right-iff index list T r)
+
+    write-read : (R : ℕ) (plain : List ℕ) (room room′ : ℕ) → PlainRows R plain → segmentCount 32 R ≤ room′
+        → (b : List ℕ) → compress R plain room ≡ answer b → expand R b room′ ≡ answer plain
+    write-read R plain room room′ g k b e =
+        let q = then-answer (plainFault R plain) _ b (opened e) in
+        let is : b ≡ canonical R (hasRow 32 plain) = fits-answer room (canonical R (hasRow 32 plain)) b (q .1) in
+        rw is (expand-is R (canonical R (hasRow 32 plain)) room′ (g .few) (canonical-sound R (hasRow 32 plain)) k
+        ∙ ap answer (sym (rows-decide 32 (omega arith) R (rowsOf (canonical R (hasRow 32 plain))) plain (g .count) (g .words) (g .pads) (λ r h. sym (canonical-rows R (hasRow 32 plain) r h)))))
+      where
+        opened : compress R plain room ≡ answer b → (plainFault R plain then fits room (canonical R (hasRow 32 plain))) ≡ answer b
+        opened h = unfold compress write in h
+
+    write-fits : (R : ℕ) (plain : List ℕ) (room : ℕ) → PlainRows R plain → length (canonical R (hasRow 32 plain)) ≤ room
+        → compress R plain room ≡ answer (canonical R (hasRow 32 plain))
+    write-fits R plain room g h = compress-is R plain room (plain-good R plain (g .few) (g .count) (g .pads)) h
+
+    read-write : (R : ℕ) (b : List ℕ) (room room′ : ℕ) → R ≤ mostRows → Sound R b → segmentCount 32 R ≤ room → length (canonical R (rowsOf b)) ≤ room′
+        → (plain : List ℕ) × (expand R b room ≡ answer plain) × (compress R plain room′ ≡ answer (canonical R (rowsOf b)))
+    read-write R b room room′ few s k h =
+        let plain = fromRows 32 R (rowsOf b) in
+        let e : canonical R (hasRow 32 plain) ≡ canonical R (rowsOf b) = canonical-ext R (hasRow 32 plain) (rowsOf b) (λ r g. from-has 32 (omega arith) R (rowsOf b) r g) in
+        let fine : length (canonical R (hasRow 32 plain)) ≤ room′ = rw e h in (
+          plain,
+          expand-is R b room few s k,
+          compress-is R plain room′ (plain-good R plain few (from-length 32 (omega arith) R (rowsOf b)) (from-last 32 (omega arith) R (rowsOf b))) fine ∙ ap answer e,
+        )

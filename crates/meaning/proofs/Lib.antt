@@ -1,0 +1,17 @@
+pub mod Segments
+pub mod RowWords
+pub mod Decoded
+pub mod Encoded
+pub mod Least
+pub mod Runs
+pub mod ByRuns
+pub mod CanonicalBody
+pub mod Lawful
+pub mod Walk
+pub mod Stretches
+pub mod Enough
+pub mod Outcomes
+pub mod Demanded
+pub mod Counted
+pub mod Counting
+pub mod Cases

@@ -1,0 +1,39 @@
+-- What holds of the definitions, for a reader to find in one place; each is proved in `proofs/Lawful`.
+-- Assumes nothing.
+use Prim.Native.Nat.{ℕ, _+_, _≤_, _<_}
+use mathlib.Core.Bool.{Bool}
+use mathlib.Core.Path.{_≡_}
+use mathlib.Core.Logic.{_↔_}
+use mathlib.Core.List.{List, [], foldl}
+use lib.ListN.{length, replicate}
+use Rattle.meaning.specs.Limits.{mostClean}
+use Rattle.meaning.specs.Segment.{Segment, clean, segmentCount, lastLimit, lastOf}
+use Rattle.meaning.specs.Ewah.{Sound, segments, dueAfter}
+use Rattle.meaning.specs.Canonical.{Draft, body, put, canonicalOf, canonical, Canonical}
+use Rattle.meaning.specs.Demands.{BodyOf, Fewest}
+use Rattle.meaning.specs.Paragraph.{groups, groupsWords}
+
+-- the plain facts of a sound body of R rows: its last marker has all its dirty words, it stands for as many segments as
+-- R rows have, and no pad bit of the last one is set
+pub record SoundFacts (R : ℕ) (b : List ℕ) : Type 0 where
+  pub ended : dueAfter 0 b ≡ 0
+  pub count : length (segments b) ≡ segmentCount 32 R
+  pub pads : lastOf (segments b) < lastLimit 32 R
+
+pub record BodyLaws : Type 0 where
+  -- a body is sound exactly if these facts hold
+  pub sound-means : (R : ℕ) (b : List ℕ) → Sound R b ↔ SoundFacts R b
+  -- the canonical body of a set of rows is a sound body of 32-bit words with exactly these rows
+  pub is-body : (R : ℕ) (p : ℕ → Bool) → BodyOf R p (canonical R p)
+  -- it is in canonical form
+  pub is-canonical : (R : ℕ) (p : ℕ → Bool) → Canonical R (canonical R p)
+  -- no sound body of 32-bit words with exactly these rows has fewer words
+  pub least : (R : ℕ) (p : ℕ → Bool) → Fewest R p (length (canonical R p))
+  -- equal rows give equal words
+  pub same-rows : (R : ℕ) (p q : ℕ → Bool) → ((r : ℕ) → r < R → p r ≡ q r) → canonical R p ≡ canonical R q
+  -- the canonical form is the one that paper 01 tells by longest runs; of no segments it has no words
+  pub by-runs : (ss : List Segment) → canonicalOf ss ≡ groupsWords (groups ss)
+  pub no-rows : (p : ℕ → Bool) → canonical 0 p ≡ []
+  -- a clean run that one marker can hold adds at most one word, and one segment at most two
+  pub run-adds : (d : Draft) (v n : ℕ) → n ≤ mostClean → length (body (foldl put d (replicate n (clean v)))) ≤ length (body d) + 1
+  pub segment-adds : (d : Draft) (s : Segment) → length (body (put d s)) ≤ length (body d) + 2

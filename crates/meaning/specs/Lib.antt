@@ -1,0 +1,14 @@
+-- What a reader must believe, in paper 01's order. `docs/MEANING.md` says where each of its sentences is.
+pub mod Limits
+pub mod Rows
+pub mod Segment
+pub mod Refusal
+pub mod Ewah
+pub mod Canonical
+pub mod Index
+pub mod Question
+pub mod Answer
+pub mod Demands
+pub mod Paragraph
+pub mod Laws
+pub mod Readings

@@ -1,0 +1,43 @@
+-- Every limit and size that paper 01 names, once. Section names in these comments are paper 01's.
+-- Assumes nothing.
+use Prim.Native.Nat.{ℕ}
+
+-- The index: the greatest number of rows
+abbrev pub mostRows : ℕ
+mostRows = 16777216
+
+-- The index: the greatest number N of bitmaps
+abbrev pub mostBitmaps : ℕ
+mostBitmaps = 64
+
+-- Questions over a list: the greatest number of places in a list. A histogram counts from 0 to this
+abbrev pub mostNamed : ℕ
+mostNamed = 64
+
+-- The index: the greatest number of words
+abbrev pub mostIndexWords : ℕ
+mostIndexWords = 67108864
+
+-- The index: the kind that word 0 states
+abbrev pub indexKind : ℕ
+indexKind = 1
+
+-- The index: words before the first entry of the contents (kind, rows, N)
+abbrev pub headWords : ℕ
+headWords = 3
+
+-- The index: words of an entry of the contents (start, length)
+abbrev pub entryWords : ℕ
+entryWords = 2
+
+-- A body: the greatest clean count of a marker, all that 16 bits hold
+abbrev pub mostClean : ℕ
+mostClean = 65535
+
+-- A body: the greatest dirty count of a marker, all that 15 bits hold
+abbrev pub mostDirty : ℕ
+mostDirty = 32767
+
+-- bits of a word; an EWAH segment and a segment of plain words are one word each
+abbrev pub wordBits : ℕ
+wordBits = 32

@@ -1,0 +1,50 @@
+-- Section "Settled form" of paper 01 as it is told there: longest runs, and the dirty words that follow each.
+-- The law `ByRuns` of `Laws` says that this is the canonical form.
+-- Assumes nothing.
+use Prim.Native.Nat.{ℕ, zero, suc, _-_, _/_, _*_}
+use mathlib.Core.Bool.{cond}
+use mathlib.Core.List.{List, [], _∷_, _++_}
+use lib.Dec.{eqb}
+use lib.ListN.{length, take, drop, replicate}
+use Rattle.meaning.specs.Limits.{mostClean, mostDirty}
+use Rattle.meaning.specs.Segment.{Segment, clean, mixed}
+use Rattle.meaning.specs.Ewah.{marker}
+
+-- a longest run of n equal clean segments of value v, and the mixed segments up to the next clean one.
+-- n is 0 only in a first group that begins with mixed segments, and v is 0 there
+pub data Group : Type 0 where
+  group : (v n : ℕ) (xs : List ℕ) → Group
+
+-- one segment in front of groups
+unfoldable pub before : Segment → List Group → List Group
+before (clean v) [] = group v 1 [] ∷ []
+before (clean v) (group u zero xs ∷ gs) = group v 1 xs ∷ gs
+before (clean v) (group u (suc n) xs ∷ gs) =
+    cond (eqb v u) (group v (suc (suc n)) xs ∷ gs) (group v 1 [] ∷ group u (suc n) xs ∷ gs)
+before (mixed x) [] = group 0 0 (x ∷ []) ∷ []
+before (mixed x) (group u zero xs ∷ gs) = group 0 0 (x ∷ xs) ∷ gs
+before (mixed x) (group u (suc n) xs ∷ gs) = group 0 0 (x ∷ []) ∷ group u (suc n) xs ∷ gs
+
+unfoldable pub groups : List Segment → List Group
+unfolding before
+groups [] = []
+groups (s ∷ ss) = before s (groups ss)
+
+-- a marker of value v and clean count c with the dirty words xs, of which `more` further markers, of value 0 and clean
+-- count 0, have what passes the most: every marker is full but the last
+unfoldable pub withDirty : (more v c : ℕ) → List ℕ → List ℕ
+unfolding marker
+withDirty zero v c xs = marker v c (length xs) ∷ xs
+withDirty (suc more) v c xs = marker v c mostDirty ∷ take mostDirty xs ++ withDirty more 0 0 (drop mostDirty xs)
+
+-- a group's words: its run as full markers and then the remainder, the last of these with the dirty words
+unfoldable pub groupWords : Group → List ℕ
+unfolding marker withDirty
+groupWords (group v n xs) =
+    let full = (n - 1) / mostClean in
+    replicate full (marker v mostClean 0) ++ withDirty ((length xs - 1) / mostDirty) v (n - full * mostClean) xs
+
+unfoldable pub groupsWords : List Group → List ℕ
+unfolding groupWords
+groupsWords [] = []
+groupsWords (g ∷ gs) = groupWords g ++ groupsWords gs

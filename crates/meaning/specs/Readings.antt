@@ -1,0 +1,133 @@
+-- The starred readings of paper 01 ("Readings to test by") as one table over the definitions; `proofs/Cases` has the one claim.
+-- Assumes nothing.
+use Prim.Native.Nat.{ℕ}
+use mathlib.Core.Bool.{Bool, true, false, _&&_}
+use mathlib.Core.List.{List, [], _∷_}
+use lib.Dec.{eqb}
+use lib.ListN.{length, replicate}
+use Rattle.meaning.specs.Segment.{fromRows}
+use Rattle.meaning.specs.Refusal.{Outcome, refused, answer, Verdict}
+use Rattle.meaning.specs.Ewah.{rowsOf}
+use Rattle.meaning.specs.Canonical.{canonical}
+use Rattle.meaning.specs.Question.{isIn, stretches}
+use Rattle.meaning.specs.Answer.{bufferAfter, wordsReported, histogramReported, stretchesReported, checkBody, compress, check, and, or, xor, andNot, notOf, threshold, histogram}
+
+-- ---- tests
+
+unfoldable pub same : List ℕ → List ℕ → Bool
+same [] [] = true
+same [] (y ∷ ys) = false
+same (x ∷ xs) [] = false
+same (x ∷ xs) (y ∷ ys) = eqb x y && same xs ys
+
+unfoldable pub isSound : Verdict → Bool
+isSound (refused number bitmap word) = false
+isSound (answer u) = true
+
+unfoldable pub isRefused : {A : Type 0} → Outcome A → (number bitmap word : ℕ) → Bool
+isRefused (refused n b w) number bitmap word = eqb n number && eqb b bitmap && eqb w word
+isRefused (answer a) number bitmap word = false
+
+unfoldable pub isAnswer : Outcome (List ℕ) → List ℕ → Bool
+unfolding same
+isAnswer (refused n b w) words = false
+isAnswer (answer ws) words = same ws words
+
+-- ---- what a reading can say
+
+pub data Reading : Type 0 where
+  -- the canonical body of these rows; it is sound and has them, and their plain words give it
+  encodes : (R : ℕ) (p : ℕ → Bool) (body : List ℕ) → Reading
+  -- a sound body with these rows
+  holds : (R : ℕ) (p : ℕ → Bool) (body : List ℕ) → Reading
+  -- a body that is refused
+  faulty : (R : ℕ) (body : List ℕ) (number word : ℕ) → Reading
+  -- so many stretches of these bodies
+  meets : (R : ℕ) (bodies : List (List ℕ)) (n : ℕ) → Reading
+  -- a sound index
+  whole : (index : List ℕ) → Reading
+  -- a threshold question: the buffer before and after, and the words and stretches reported
+  asks : (index list : List ℕ) (T : ℕ) (buffer buffer′ : List ℕ) (words n : ℕ) → Reading
+  -- a threshold question that is refused
+  refuses : (index list : List ℕ) (T : ℕ) (buffer : List ℕ) (number bitmap word : ℕ) → Reading
+  -- a histogram
+  counts : (index list entries : List ℕ) → Reading
+  -- a call that writes this body
+  writes : Outcome (List ℕ) → List ℕ → Reading
+
+unfoldable pub passes : Reading → Bool
+unfolding same isSound isRefused isAnswer fromRows rowsOf canonical stretches checkBody compress check threshold histogram bufferAfter wordsReported histogramReported stretchesReported
+passes (encodes R p b) =
+    same (canonical R p) b && isSound (checkBody R b) && same (fromRows 32 R (rowsOf b)) (fromRows 32 R p) && isAnswer (compress R (fromRows 32 R p) (length b)) b
+passes (holds R p b) = isSound (checkBody R b) && same (fromRows 32 R (rowsOf b)) (fromRows 32 R p)
+passes (faulty R b number word) = isRefused (checkBody R b) number 0 word
+passes (meets R bodies n) = eqb (stretches R bodies) n
+passes (whole index) = isSound (check index)
+passes (asks index list T buffer buffer′ words n) =
+    let o = threshold index list T (length buffer) in
+    same (bufferAfter o buffer) buffer′ && eqb (wordsReported o) words && eqb (stretchesReported index list o) n
+passes (refuses index list T buffer number bitmap word) =
+    let o = threshold index list T (length buffer) in
+    isRefused o number bitmap word && same (bufferAfter o buffer) buffer && eqb (wordsReported o) 0 && eqb (stretchesReported index list o) 0
+passes (counts index list entries) = same (histogramReported (histogram index list)) entries
+passes (writes o body) = isAnswer o body
+
+unfoldable pub allPass : List Reading → Bool
+unfolding passes
+allPass [] = true
+allPass (c ∷ cs) = passes c && allPass cs
+
+-- ---- the table
+
+-- the LOOPED example of source document 003 as an index, and the list of all its bitmaps
+abbrev pub looped : List ℕ
+looped =
+    1 ∷ 4 ∷ 3 ∷ 9 ∷ 2 ∷ 11 ∷ 2 ∷ 13 ∷ 2
+    ∷ 0x00020000 ∷ 0x3 ∷ 0x00020000 ∷ 0xE ∷ 0x00020000 ∷ 0x8 ∷ []
+
+abbrev pub three : List ℕ
+three = 0 ∷ 1 ∷ 2 ∷ []
+
+-- the two bitmaps of 8 rows of source document 003
+abbrev pub eight : List ℕ
+eight = 1 ∷ 8 ∷ 2 ∷ 7 ∷ 2 ∷ 9 ∷ 2 ∷ 0x00020000 ∷ 0x32 ∷ 0x00020000 ∷ 0xB0 ∷ []
+
+-- rows 5 and 64 of 96: in canonical form, and with the clean segment as a dirty word
+abbrev pub ninetySix : List ℕ
+ninetySix = 0x00020000 ∷ 0x00000020 ∷ 0x00020002 ∷ 0x00000001 ∷ []
+
+abbrev pub wasteful : List ℕ
+wasteful = 0x00060000 ∷ 0x00000020 ∷ 0 ∷ 1 ∷ []
+
+unfoldable pub readings : List Reading
+unfolding isIn and or xor andNot notOf
+readings =
+    -- 0 rows
+    encodes 0 (λ r. true) []
+    -- 64 rows: none set, all set
+    ∷ encodes 64 (λ r. false) (0x00000004 ∷ [])
+    ∷ encodes 64 (λ r. true) (0x00000005 ∷ [])
+    -- 40 rows: all set, rows 0 and 39
+    ∷ encodes 40 (λ r. true) (0x00020003 ∷ 0x000000FF ∷ [])
+    ∷ encodes 40 (isIn (0 ∷ 39 ∷ [])) (0x00040000 ∷ 0x00000001 ∷ 0x00000080 ∷ [])
+    -- 40 rows, a run of ones over pad bits
+    ∷ faulty 40 (0x00000005 ∷ []) 7 0
+    -- 96 rows: rows 5 and 64, and the same wastefully
+    ∷ encodes 96 (isIn (5 ∷ 64 ∷ [])) ninetySix
+    ∷ holds 96 (isIn (5 ∷ 64 ∷ [])) wasteful
+    -- LOOPED: T = 2, the histogram, T = 4, a buffer of one word
+    ∷ whole looped
+    ∷ asks looped three 2 (7 ∷ 7 ∷ 7 ∷ []) (0x00020000 ∷ 0xA ∷ 7 ∷ []) 2 1
+    ∷ counts looped three (0 ∷ 2 ∷ 2 ∷ 0 ∷ replicate 61 0)
+    ∷ refuses looped three 4 (7 ∷ 7 ∷ 7 ∷ []) 8 0 0
+    ∷ refuses looped three 2 (7 ∷ []) 9 0 2
+    -- 8 rows: AND, OR, XOR, ANDNOT, and NOT of the first
+    ∷ writes (and eight 0 1 2) (0x00020000 ∷ 0x30 ∷ [])
+    ∷ writes (or eight 0 1 2) (0x00020000 ∷ 0xB2 ∷ [])
+    ∷ writes (xor eight 0 1 2) (0x00020000 ∷ 0x82 ∷ [])
+    ∷ writes (andNot eight 0 1 2) (0x00020000 ∷ 0x02 ∷ [])
+    ∷ writes (notOf eight 0 2) (0x00020000 ∷ 0xCD ∷ [])
+    -- stretches over 96 rows
+    ∷ meets 96 ((0x00000006 ∷ []) ∷ ninetySix ∷ []) 3
+    ∷ meets 96 ((0x00000006 ∷ []) ∷ wasteful ∷ []) 3
+    ∷ []

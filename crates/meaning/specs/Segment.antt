@@ -1,0 +1,96 @@
+-- Segments of w bits, for any width w: rows laid out in them, clean and mixed ones, pad bits. No format is known here.
+-- Section "A body" of paper 01, which has w = 32.
+-- Assumes nothing.
+use Prim.Native.Nat.{ℕ, zero, suc, _+_, _-_, _*_, _/_, _%_, _^_}
+use mathlib.Core.Bool.{Bool, true, false, cond, _&&_}
+use mathlib.Core.List.{List, [], _∷_}
+use lib.Dec.{eqb, leb, ltb}
+use lib.ListN.{getD}
+use Rattle.meaning.specs.Rows.{bit}
+
+-- ---- rows and segments
+
+-- how many segments R rows fill, the last perhaps in part: paper 01's S
+unfoldable pub segmentCount : (w R : ℕ) → ℕ
+segmentCount w R = (R + (w - 1)) / w
+
+-- how many rows lie in the last segment, where there are rows: w if it has no pad bits
+unfoldable pub lastRows : (w R : ℕ) → ℕ
+lastRows w R = (R - 1) % w + 1
+
+-- bit j of a word, the lowest being bit 0
+unfoldable pub bitAt : (x j : ℕ) → ℕ
+bitAt x j = x / 2 ^ j % 2
+
+-- bit j of a word is set
+unfoldable pub isSet : (x j : ℕ) → Bool
+unfolding bitAt
+isSet x j = eqb (bitAt x j) 1
+
+-- row r is set: it lies in segment r / w, at bit r % w
+unfoldable pub hasRow : (w : ℕ) → List ℕ → (r : ℕ) → Bool
+unfolding isSet
+hasRow w segs r = isSet (getD segs (r / w) 0) (r % w)
+
+-- the word whose n bits are q 0, q 1, .. , the lowest first
+unfoldable pub wordOf : ℕ → (ℕ → Bool) → ℕ
+unfolding bit
+wordOf zero q = 0
+wordOf (suc n) q = bit (q 0) + 2 * wordOf n (λ j. q (suc j))
+
+-- f 0, f 1, .. , f (n - 1)
+unfoldable pub tabulate : ℕ → (ℕ → ℕ) → List ℕ
+tabulate zero f = []
+tabulate (suc n) f = f 0 ∷ tabulate n (λ i. f (suc i))
+
+-- the segments of the R rows p; bits past the last row (pad bits) are zero. With w = 32, the plain words of the rows
+unfoldable pub fromRows : (w R : ℕ) → (ℕ → Bool) → List ℕ
+unfolding wordOf tabulate segmentCount
+fromRows w R p = tabulate (segmentCount w R) (λ i. wordOf w (λ j. ltb (i * w + j) R && p (i * w + j)))
+
+-- ---- clean and mixed
+
+-- a segment as a format sees it: clean, all its bits being v (0 or 1), or mixed, with its word
+pub data Segment : Type 0 where
+  clean : (v : ℕ) → Segment
+  mixed : (x : ℕ) → Segment
+
+-- THE TAIL RULE: the word of a clean segment of ones that has `real` rows. Here all w bits are set, pad bits among them,
+-- so a last segment with pad bits is never a clean one of ones
+unfoldable pub allSet : (w real : ℕ) → ℕ
+allSet w real = 2 ^ w - 1
+
+-- the word of a clean segment of value v
+unfoldable pub fill : (w real v : ℕ) → ℕ
+unfolding allSet
+fill w real v = v * allSet w real
+
+-- a word of all zeros or of all ones is clean, any other is mixed
+unfoldable pub kind : (w real x : ℕ) → Segment
+unfolding allSet
+kind w real x = cond (eqb x 0) (clean 0) (cond (eqb x (allSet w real)) (clean 1) (mixed x))
+
+-- of each segment of R rows; the last has `lastRows w R` of them, the others w
+unfoldable pub kinds : (w R : ℕ) → List ℕ → List Segment
+unfolding kind lastRows
+kinds w R [] = []
+kinds w R (x ∷ []) = kind w (lastRows w R) x ∷ []
+kinds w R (x ∷ y ∷ ys) = kind w w x ∷ kinds w R (y ∷ ys)
+
+-- ---- pad bits
+
+-- the least word that sets a pad bit in the last segment of R rows
+unfoldable pub lastLimit : (w R : ℕ) → ℕ
+unfolding lastRows
+lastLimit w R = 2 ^ lastRows w R
+
+-- of `left` segments still to come the next c are the word x, and the last of all is one of them and has a pad bit set
+unfoldable pub overPad : (w R left c x : ℕ) → Bool
+unfolding lastLimit
+overPad w R left c x = ltb 0 c && eqb c left && leb (lastLimit w R) x
+
+-- the last of a list, 0 if there is none
+unfoldable pub lastOf : List ℕ → ℕ
+lastOf [] = 0
+lastOf (x ∷ []) = x
+lastOf (x ∷ y ∷ ys) = lastOf (y ∷ ys)

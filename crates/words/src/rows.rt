@@ -1,0 +1,30 @@
+// Rows laid out in words of 32 bits: how many words, and what the last one holds.
+ghost use mathlib.Core.Path.{_≡_};
+ghost use Prim.Native.Nat.{_≤_};
+ghost use lib.Dec.{leb};
+ghost use Rattle.meaning.specs.Segment.{segmentCount, lastRows, lastLimit};
+use crate::bits;
+
+// How many segments that many rows have.
+pub fn segment_count(rows: u32) -> u32
+    requires { ⌜ rows ≤ 4294967264 ⌝ }
+    ensures { λ r. ⌜ r ≡ segmentCount 32 rows ⌝ }
+{
+    (rows + 31) >> 5
+}
+
+// How many rows the last segment has.
+pub fn last_rows(rows: u32) -> u32
+    requires { ⌜ 1 ≤ rows ⌝ }
+    ensures { λ r. ⌜ (r ≡ lastRows 32 rows) × (1 ≤ r) × (r ≤ 32) ⌝ }
+{
+    ((rows - 1) & 31) + 1
+}
+
+// Whether a word sets a pad bit as the last segment of that many rows.
+pub fn sets_pad(rows: u32, x: u32) -> bool
+    requires { ⌜ 1 ≤ rows ⌝ }
+    ensures { λ r. ⌜ r ≡ leb (lastLimit 32 rows) x ⌝ }
+{
+    bits::low_ones(last_rows(rows)) < x
+}
