@@ -1,0 +1,100 @@
+-- The next piece of a body, word by word.
+-- Assumes nothing.
+use Prim.Native.Nat.{ℕ, zero, suc, _+_, _-_, _≤_, _<_}
+use mathlib.Core.Path.{_≡_, refl, sym, ap, _∙_}
+use mathlib.Core.List.{List, [], _∷_}
+use native.Mathlib.Omega.{arith}
+use native.Mathlib.Numerals.{add-one}
+use lib.ListN.{length, drop, getD, drop-of-length-le}
+use lib.Seq.{drop-cons}
+use Rattle.meaning.specs.Limits.{mostDirty}
+use Rattle.meaning.specs.Ewah.{Piece, cleanRun, dirtyWord, runThen, pieces, valueOf, cleanOf, dirtyOf}
+use Rattle.ewah.specs.declared.marker.Marker.{Marker}
+use Rattle.ewah.specs.declared.cursor.Cursor.{Cursor}
+use Rattle.ewah.specs.declared.cursor.Piece as code
+use Rattle.ewah.specs.declared.cursor.Piece.the-variants.{Clean, Dirty}
+use Rattle.ewah.specs.Markers.{FieldsOf, InRange}
+use Rattle.ewah.specs.Cursors.{Stands, InOrder, leftOf, piecesFrom, pieceThen, advanced}
+
+cons-at : (b : List ℕ) (at : ℕ) → at < length b → drop at b ≡ getD b at 0 ∷ drop (at + 1) b
+cons-at b at h = drop-cons b at 0 h ∙ ap (λ (n : ℕ). getD b at 0 ∷ drop n b) (sym (add-one at))
+
+run-zero : (v n : ℕ) (ps : List Piece) → n ≡ 0 → runThen v n ps ≡ ps
+unfolding runThen
+run-zero v zero ps e = refl
+run-zero v (suc n) ps e = absurd (omega arith)
+
+pieces-dirty : (due x : ℕ) (ws : List ℕ) → (due ≡ 0 → ⊥) → pieces due (x ∷ ws) ≡ dirtyWord x ∷ pieces (due - 1) ws
+unfolding pieces
+pieces-dirty zero x ws h = absurd (h refl)
+pieces-dirty (suc due) x ws h = let e : suc due - 1 ≡ due = omega arith in rw e
+
+-- where the walk has met word `at`, with ps still to come
+module _ (b : List ℕ) (at due : ℕ) (ps : List Piece) (inv : pieces due (drop at b) ≡ ps) where
+  pub at-end : length b ≤ at → at ≤ length b → Stands b (record { piece = Clean 0 0; next = at; dirty = 0 }) ps
+  unfolding piecesFrom pieceThen runThen
+  at-end h i =
+      let none : ps ≡ [] = sym inv ∙ (unfold pieces in rw (drop-of-length-le b h)) in
+      record {
+        in-order = record { inside = i; value-low = omega arith; dirty-low = omega arith };
+        has = rw (drop-of-length-le b h) (unfold pieces in sym none);
+        at-end = λ z. none;
+      }
+
+  module _ (h : at < length b) where
+    pub on-dirty : (due ≡ 0 → ⊥) → due ≤ mostDirty → Stands b (record { piece = Dirty (getD b at 0); next = at + 1; dirty = due - 1 }) ps
+    unfolding piecesFrom pieceThen
+    on-dirty k l = record {
+      in-order = record { inside = omega arith; value-low = tt; dirty-low = omega arith };
+      has = sym (pieces-dirty due (getD b at 0) (drop (at + 1) b) k) ∙ ap (pieces due) (sym (cons-at b at h)) ∙ inv;
+      at-end = λ z. absurd (omega arith);
+    }
+
+    module _ (z : due ≡ 0) (m : Marker) (f : FieldsOf (getD b at 0) m) where
+      marked : runThen (m .value) (m .clean) (pieces (m .dirty) (drop (at + 1) b)) ≡ ps
+      unfolding pieces
+      marked = rw (f .value-is, f .clean-is, f .dirty-is) (rw (z, cons-at b at h) at inv)
+
+      pub on-run : (m .clean ≡ 0 → ⊥) → Stands b (record { piece = Clean (m .value) (m .clean); next = at + 1; dirty = m .dirty }) ps
+      unfolding piecesFrom pieceThen
+      on-run k = record {
+        in-order = record { inside = omega arith; value-low = f .in-range .value-low; dirty-low = f .in-range .dirty-low };
+        has = marked;
+        at-end = λ e. absurd (k e);
+      }
+
+      pub on-idle : m .clean ≡ 0 → pieces (m .dirty) (drop (at + 1) b) ≡ ps
+      on-idle e = sym (run-zero (m .value) (m .clean) (pieces (m .dirty) (drop (at + 1) b)) e) ∙ marked
+
+-- ---- n segments on
+
+module _ (b : List ℕ) (c : Cursor) (n : ℕ) (o : InOrder b c) (g : 1 ≤ n) (h : n ≤ leftOf (c .piece)) where
+  abbrev others : List Piece
+  others = pieces (c .dirty) (drop (c .next) b)
+
+  -- the run goes on
+  pub run-shorter : (v k : ℕ) → c .piece ≡ Clean v k → n < k
+      → Stands b (record { piece = Clean v (k - n); next = c .next; dirty = c .dirty }) (advanced n (piecesFrom b c))
+  unfolding piecesFrom pieceThen
+  run-shorter v k e l = record {
+    in-order = record { inside = o .inside; value-low = rw e at (o .value-low); dirty-low = o .dirty-low };
+    has = sym (ap (λ (q : code.Piece). advanced n (pieceThen q others)) e ∙ part k l);
+    at-end = λ z. absurd (omega arith);
+  }
+    where
+      part : (k : ℕ) → n < k → advanced n (runThen v k others) ≡ runThen v (k - n) others
+      part zero l = absurd (omega arith)
+      part (suc k) l = unfold advanced runThen in refl
+
+  -- it ends, and the next piece was loaded
+  pub run-over : (v k : ℕ) (r : Cursor) → c .piece ≡ Clean v k → k ≤ n → Stands b r (pieces (c .dirty) (drop (c .next) b)) → Stands b r (advanced n (piecesFrom b c))
+  unfolding piecesFrom pieceThen
+  run-over v k r e l s = rw e (rw (part k (omega (arith, ap leftOf e)) l) s)
+    where
+      part : (k : ℕ) → n ≤ k → k ≤ n → advanced n (runThen v k others) ≡ others
+      part zero i l = absurd (omega arith)
+      part (suc k) i l = unfold advanced runThen in run-zero v (suc k - n) others (omega arith)
+
+  pub dirty-over : (x : ℕ) (r : Cursor) → c .piece ≡ Dirty x → Stands b r (pieces (c .dirty) (drop (c .next) b)) → Stands b r (advanced n (piecesFrom b c))
+  unfolding piecesFrom pieceThen advanced
+  dirty-over x r e s = rw e s
