@@ -1,0 +1,48 @@
+-- Paper 01's outcome, number and values, for each case of an answer.
+-- Assumes nothing.
+use Prim.Native.Nat.{ℕ}
+use mathlib.Core.Bool.{Bool}
+use mathlib.Core.Path.{_≡_}
+use mathlib.Core.List.{List}
+use lib.ListN.{take}
+use Rattle.meaning.specs.Refusal.{Outcome, refused, answer}
+use Rattle.meaning.specs.Answer.{bufferAfter, wordsReported}
+use Rattle.ewah.specs.declared.refusal.Refusal.{Refusal}
+use Rattle.zvonurel.specs.declared.answer.Flag.{Flag}
+use Rattle.zvonurel.specs.declared.answer.Flag.the-variants as flag
+use Rattle.zvonurel.specs.declared.answer.Number.{Number}
+use Rattle.zvonurel.specs.declared.answer.Number.the-variants as number
+use Rattle.zvonurel.specs.declared.answer.Written.{Written}
+use Rattle.zvonurel.specs.declared.answer.Written.the-variants as written
+
+-- the refusal with that number and word, of bitmap 0
+abbrev pub refusal : (number word : ℕ) → Refusal
+refusal n w = record { number = n; bitmap = 0; word = w }
+
+-- a refusal's three numbers
+abbrev pub refusedBy : {A : Type 0} → Refusal → Outcome A
+refusedBy r = refused (r .number) (r .bitmap) (r .word)
+
+unfoldable pub flagOf : Flag → Outcome Bool
+flagOf (flag.Is b) = answer b
+flagOf (flag.Refused r) = refusedBy r
+
+unfoldable pub numberOf : Number → Outcome ℕ
+numberOf (number.Is n) = answer n
+numberOf (number.Refused r) = refusedBy r
+
+-- of a call that wrote: its words are those that the buffer begins with
+unfoldable pub writtenOf : Written → (buffer′ : List ℕ) → Outcome (List ℕ)
+writtenOf (written.Words n) buffer′ = answer (take n buffer′)
+writtenOf (written.Refused r) buffer′ = refusedBy r
+
+-- the words reported, none on a refusal
+unfoldable pub wordsOf : Written → ℕ
+wordsOf (written.Words n) = n
+wordsOf (written.Refused r) = 0
+
+-- a call with the outcome o: it tells that outcome and its words, and leaves the buffer as it should be
+pub record Wrote (o : Outcome (List ℕ)) (r : Written) (buffer buffer′ : List ℕ) : Type 0 where
+  pub told : writtenOf r buffer′ ≡ o
+  pub words : wordsOf r ≡ wordsReported o
+  pub left : buffer′ ≡ bufferAfter o buffer

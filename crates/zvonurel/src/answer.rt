@@ -1,0 +1,66 @@
+// What calls answer, and the refusals that have no place.
+ghost use mathlib.Core.Path.{_≡_};
+ghost use Rattle.zvonurel.specs.Told.{refusal};
+use ewah::refusal::Refusal;
+
+// Whether a row is set.
+pub enum Flag {
+    Is(bool),
+    Refused(Refusal),
+}
+
+// A count, or a row number.
+pub enum Number {
+    Is(u32),
+    Refused(Refusal),
+}
+
+// How many words were written, at the front of the buffer.
+pub enum Written {
+    Words(usize),
+    Refused(Refusal),
+}
+
+// 3, at word 1.
+pub fn too_many_rows() -> Refusal
+    ensures { λ r. ⌜ r ≡ refusal 3 1 ⌝ }
+{
+    Refusal {
+        number: 3,
+        bitmap: 0,
+        word: 1,
+    }
+}
+
+// 8.
+pub fn bad_argument() -> Refusal
+    ensures { λ r. ⌜ r ≡ refusal 8 0 ⌝ }
+{
+    Refusal {
+        number: 8,
+        bitmap: 0,
+        word: 0,
+    }
+}
+
+// 7, at a plain word.
+pub fn pad_bit(place: u64) -> Refusal
+    ensures { λ r. ⌜ r ≡ refusal 7 place ⌝ }
+{
+    Refusal {
+        number: 7,
+        bitmap: 0,
+        word: place,
+    }
+}
+
+// 9, with the words needed.
+pub fn no_room(need: u64) -> Refusal
+    ensures { λ r. ⌜ r ≡ refusal 9 need ⌝ }
+{
+    Refusal {
+        number: 9,
+        bitmap: 0,
+        word: need,
+    }
+}
