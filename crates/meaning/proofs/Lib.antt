@@ -15,3 +15,4 @@ pub mod Demanded
 pub mod Counted
 pub mod Counting
 pub mod Cases
+pub mod Corners

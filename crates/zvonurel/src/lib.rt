@@ -13,8 +13,11 @@ use meaning::MOST_ROWS;
 
 mod answer;
 
-pub use crate::answer::{Flag, Number, Written};
-pub use ewah::refusal::{Checked, Refusal};
+pub use crate::answer::Flag;
+pub use crate::answer::Number;
+pub use crate::answer::Written;
+pub use ewah::refusal::Checked;
+pub use ewah::refusal::Refusal;
 
 // ---- one body alone: bitmap 0, with places counted in the body. More rows than the limit are refused first
 

@@ -1,0 +1,108 @@
+-- Corner cases of the definitions, read by hand off paper 01: zero rows, empty bodies and indexes, the limits, faults that come together.
+-- Assumes nothing.
+use mathlib.Core.Bool.{Bool, true, _&&_}
+use mathlib.Core.Path.{_≡_, refl}
+use mathlib.Core.List.{List, [], _∷_}
+use Rattle.meaning.specs.Answer.{checkBody, bodyRow, bodyNth, expand, compress, check, bitmapRefusal, bitmap, partOf, threshold, symmetric}
+use Rattle.meaning.specs.Readings.{isSound, isRefused, isAnswer, same, looped, three}
+
+unfoldable every : List Bool → Bool
+every [] = true
+every (t ∷ ts) = t && every ts
+
+bodies : List Bool
+bodies =
+    -- zero rows: no words, idle markers, a marker with counts, one whose dirty word is not there
+    isSound (checkBody 0 [])
+    ∷ isSound (checkBody 0 (0 ∷ 1 ∷ []))
+    ∷ isRefused (checkBody 0 (2 ∷ [])) 6 0 0
+    ∷ isRefused (checkBody 0 (0 ∷ 0x00020000 ∷ 5 ∷ [])) 6 0 1
+    ∷ isRefused (checkBody 0 (0x00020000 ∷ [])) 5 0 0
+    -- an empty body with rows; idle markers with rows, of value 1 over a padded tail and behind the last segment
+    ∷ isRefused (checkBody 33 []) 6 0 0
+    ∷ isSound (checkBody 40 (1 ∷ 4 ∷ 1 ∷ []))
+    ∷ isSound (checkBody 64 (5 ∷ 0 ∷ 1 ∷ []))
+    -- the last word: a pad bit, a marker too many, segments missing
+    ∷ isRefused (checkBody 40 (0x00040000 ∷ 1 ∷ 0x180 ∷ [])) 7 0 2
+    ∷ isRefused (checkBody 64 (4 ∷ 2 ∷ [])) 6 0 1
+    ∷ isRefused (checkBody 96 (2 ∷ [])) 6 0 1
+    -- 5 before 6, 6 before 7, a marker before its dirty words
+    ∷ isRefused (checkBody 32 (0x00040006 ∷ [])) 5 0 0
+    ∷ isRefused (checkBody 40 (7 ∷ [])) 6 0 0
+    ∷ isRefused (checkBody 40 (0x00020005 ∷ 0xFFFFFFFF ∷ [])) 6 0 0
+    -- the most rows, and one more, tested before the body
+    ∷ isSound (checkBody 16777216 (0x0001FFFE ∷ 0x0001FFFE ∷ 0x0001FFFE ∷ 0x0001FFFE ∷ 0x0001FFFE ∷ 0x0001FFFE ∷ 0x0001FFFE ∷ 0x0001FFFE ∷ 0x00000010 ∷ []))
+    ∷ isRefused (checkBody 16777217 []) 3 0 1
+    ∷ isRefused (compress 16777217 [] 0) 3 0 1
+    -- rows and set rows past the last; 3 and the body's faults come before 8
+    ∷ isRefused (bodyRow 64 (5 ∷ []) 64) 8 0 0
+    ∷ isRefused (bodyRow 64 (3 ∷ []) 64) 6 0 1
+    ∷ isRefused (bodyNth 64 (5 ∷ []) 64) 8 0 0
+    ∷ isRefused (bodyNth 0 [] 0) 8 0 0
+    ∷ isRefused (bodyRow 0 [] 0) 8 0 0
+    -- buffers: nothing needed, exactly enough, one less
+    ∷ isAnswer (expand 0 [] 0) []
+    ∷ isAnswer (expand 40 (3 ∷ 2 ∷ []) 2) (0xFFFFFFFF ∷ 0 ∷ [])
+    ∷ isRefused (expand 40 (3 ∷ 2 ∷ []) 1) 9 0 2
+    ∷ isAnswer (compress 0 [] 0) []
+    ∷ isAnswer (compress 40 (1 ∷ 0x80 ∷ []) 3) (0x00040000 ∷ 1 ∷ 0x80 ∷ [])
+    ∷ isRefused (compress 40 (1 ∷ 0x80 ∷ []) 2) 9 0 3
+    -- plain words: 8 before 7, 7 at the last word
+    ∷ isRefused (compress 40 (1 ∷ []) 9) 8 0 0
+    ∷ isRefused (compress 40 (1 ∷ 2 ∷ 0x100 ∷ []) 9) 8 0 0
+    ∷ isRefused (compress 40 (1 ∷ 0x100 ∷ []) 0) 7 0 1
+    ∷ []
+
+indexes : List Bool
+indexes =
+    -- too short, for the head and for the contents
+    isRefused (check []) 1 0 0
+    ∷ isRefused (check (1 ∷ [])) 1 0 1
+    ∷ isRefused (check (2 ∷ 4 ∷ [])) 1 0 2
+    ∷ isRefused (check (1 ∷ 4 ∷ 1 ∷ [])) 1 0 3
+    ∷ isRefused (check (1 ∷ 4 ∷ 1 ∷ 5 ∷ [])) 1 0 4
+    -- no bitmaps, and a word behind them
+    ∷ isSound (check (1 ∷ 4 ∷ 0 ∷ []))
+    ∷ isRefused (check (1 ∷ 4 ∷ 0 ∷ 9 ∷ [])) 4 0 3
+    -- kind, rows and N, each before the next
+    ∷ isRefused (check (2 ∷ 16777217 ∷ 65 ∷ [])) 2 0 0
+    ∷ isRefused (check (1 ∷ 16777217 ∷ 65 ∷ [])) 3 0 1
+    ∷ isRefused (check (1 ∷ 16777216 ∷ 65 ∷ [])) 3 0 2
+    ∷ isRefused (check (1 ∷ 16777216 ∷ 64 ∷ [])) 1 0 3
+    -- a start, before its length; a length that reaches past the end, also past 2^32; a final end before the index's
+    ∷ isSound (check (1 ∷ 4 ∷ 1 ∷ 5 ∷ 2 ∷ 0x00020000 ∷ 3 ∷ []))
+    ∷ isRefused (check (1 ∷ 4 ∷ 1 ∷ 6 ∷ 9 ∷ 0x00020000 ∷ 3 ∷ [])) 4 0 3
+    ∷ isRefused (check (1 ∷ 4 ∷ 1 ∷ 5 ∷ 3 ∷ 0x00020000 ∷ 3 ∷ [])) 4 0 4
+    ∷ isRefused (check (1 ∷ 4 ∷ 1 ∷ 5 ∷ 0xFFFFFFFF ∷ 0x00020000 ∷ 3 ∷ [])) 4 0 4
+    ∷ isRefused (check (1 ∷ 4 ∷ 1 ∷ 5 ∷ 1 ∷ 0x00020000 ∷ 3 ∷ [])) 4 0 6
+    -- a later entry before an earlier body; a body's place is counted from word 0
+    ∷ isRefused (check (1 ∷ 4 ∷ 2 ∷ 7 ∷ 2 ∷ 8 ∷ 1 ∷ 0x00020000 ∷ 0x13 ∷ 0 ∷ [])) 4 1 5
+    ∷ isRefused (check (1 ∷ 4 ∷ 2 ∷ 7 ∷ 2 ∷ 9 ∷ 1 ∷ 0x00020000 ∷ 0x13 ∷ 0 ∷ [])) 7 0 8
+    ∷ isRefused (check (1 ∷ 4 ∷ 2 ∷ 7 ∷ 2 ∷ 9 ∷ 1 ∷ 0x00020000 ∷ 3 ∷ 0 ∷ [])) 6 1 10
+    -- a bitmap of zero rows with an empty body, beside one that is not there
+    ∷ isSound (bitmapRefusal (1 ∷ 0 ∷ 1 ∷ 5 ∷ 0 ∷ []) 0)
+    ∷ isRefused (bitmapRefusal (1 ∷ 0 ∷ 1 ∷ 5 ∷ 0 ∷ []) 1) 8 0 0
+    ∷ isRefused (bitmapRefusal (1 ∷ 4 ∷ 0 ∷ 9 ∷ []) 0) 4 0 3
+    ∷ same (partOf (bitmap looped 1)) (0x00020000 ∷ 0xE ∷ [])
+    ∷ same (partOf (bitmap looped 3)) []
+    -- lists, T and tables
+    ∷ isRefused (threshold looped [] 1 9) 8 0 0
+    ∷ isRefused (threshold looped (3 ∷ []) 1 9) 8 0 0
+    ∷ isRefused (threshold looped three 0 9) 8 0 0
+    ∷ isAnswer (threshold looped (1 ∷ 1 ∷ []) 2 9) (0x00020000 ∷ 0xE ∷ [])
+    ∷ isAnswer (symmetric looped three (1 ∷ 0 ∷ 0 ∷ 1 ∷ []) 1) (2 ∷ [])
+    ∷ isRefused (symmetric looped three (0 ∷ 1 ∷ 0 ∷ []) 9) 8 0 0
+    ∷ isRefused (symmetric looped three (0 ∷ 1 ∷ 0 ∷ 2 ∷ []) 9) 8 0 0
+    -- zero rows: no words, whatever the table says of 0
+    ∷ isAnswer (symmetric (1 ∷ 0 ∷ 1 ∷ 5 ∷ 0 ∷ []) (0 ∷ []) (1 ∷ 1 ∷ []) 0) []
+    -- a table that says yes at 0 leaves the pad bits clear
+    ∷ isAnswer (symmetric looped (2 ∷ []) (1 ∷ 0 ∷ []) 2) (0x00020000 ∷ 0x7 ∷ [])
+    ∷ []
+
+bodies-hold : every bodies ≡ true
+unfolding every bodies isSound isRefused isAnswer checkBody bodyRow bodyNth expand compress
+bodies-hold = refl
+
+indexes-hold : every indexes ≡ true
+unfolding every indexes isSound isRefused isAnswer same check bitmapRefusal bitmap partOf threshold symmetric
+indexes-hold = refl
