@@ -8,12 +8,12 @@ use native.Mathlib.Numerals.{add-one}
 use lib.ListN.{length, drop, getD, drop-of-length-le}
 use lib.Seq.{drop-cons}
 use Rattle.meaning.specs.Limits.{mostDirty}
-use Rattle.meaning.specs.Ewah.{Piece, cleanRun, dirtyWord, runThen, pieces, valueOf, cleanOf, dirtyOf}
+use Rattle.meaning.specs.Ewah.{Piece, dirtyWord, runThen, pieces}
 use Rattle.ewah.specs.declared.marker.Marker.{Marker}
 use Rattle.ewah.specs.declared.cursor.Cursor.{Cursor}
 use Rattle.ewah.specs.declared.cursor.Piece as code
 use Rattle.ewah.specs.declared.cursor.Piece.the-variants.{Clean, Dirty}
-use Rattle.ewah.specs.Markers.{FieldsOf, InRange}
+use Rattle.ewah.specs.Markers.{FieldsOf}
 use Rattle.ewah.specs.Cursors.{Stands, InOrder, leftOf, piecesFrom, pieceThen, advanced}
 
 cons-at : (b : List ℕ) (at : ℕ) → at < length b → drop at b ≡ getD b at 0 ∷ drop (at + 1) b

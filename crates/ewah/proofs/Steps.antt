@@ -2,15 +2,15 @@
 -- Assumes nothing.
 use Prim.Native.Nat.{ℕ, zero, suc, _+_, _-_, _≤_, _<_}
 use mathlib.Core.Bool.{Bool, true, false, true≢false}
-use mathlib.Core.Path.{_≡_, refl, sym, ap, _∙_, subst}
-use mathlib.Core.List.{List, _∷_}
+use mathlib.Core.Path.{_≡_, refl, sym, _∙_, subst}
+use mathlib.Core.List.{List}
 use native.Mathlib.Omega.{arith}
 use lib.Dec.{leb, ltb}
 use borrow.Author.Tests.{lt-ltb, le-ltb}
 use lib.ListN.{length, drop, getD, length-drop, drop-of-length-le}
 use lib.Seq.{drop-cons, getD-drop, drop-drop}
 use Rattle.meaning.specs.Segment.{fill, lastRows, lastLimit, overPad, segmentCount}
-use Rattle.meaning.specs.Refusal.{Verdict, sound, refused, refuseIf}
+use Rattle.meaning.specs.Refusal.{sound, refuseIf}
 use Rattle.meaning.specs.Ewah.{valueOf, cleanOf, dirtyOf, faultFrom}
 use Rattle.meaning.proofs.Walk.{skip-dirty, over-none, over-last}
 use Rattle.ewah.specs.Checking.{Passed, Faulty, Stepped}

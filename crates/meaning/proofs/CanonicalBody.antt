@@ -1,21 +1,21 @@
 -- The canonical body of a set of rows is a body of 32-bit words, is sound, has these rows and no others, and has the fewest words of all sound bodies that do.
 -- Assumes nothing.
-use Prim.Native.Nat.{ℕ, zero, suc, _+_, _-_, _*_, _/_, _%_, _^_, _≤_, _<_}
+use Prim.Native.Nat.{ℕ, zero, suc, _^_, _≤_, _<_}
 use mathlib.Core.Bool.{Bool, true, false, cond, _&&_}
 use mathlib.Core.Path.{_≡_, refl, sym, ap, _∙_}
 use mathlib.Core.List.{List, [], _∷_, _++_, map, foldl}
-use lib.Dec.{eqb, leb, ltb}
+use lib.Dec.{eqb, ltb}
 use lib.ListN.{length, getD, replicate, length-append}
 use native.Mathlib.Omega.{arith}
 use borrow.Author.Tests.{ltb-true}
 use Rattle.meaning.specs.Limits.{mostClean, mostDirty}
-use Rattle.meaning.specs.Segment.{Segment, clean, mixed, kind, segmentCount, lastLimit, lastOf, hasRow, fromRows, fill, allSet, tabulate, wordOf}
+use Rattle.meaning.specs.Segment.{Segment, clean, mixed, kind, hasRow, fromRows, fill, allSet}
 use Rattle.meaning.specs.Ewah.{Sound, marker, decode, segments, rowsOf, valueOf, cleanOf, dirtyOf}
 use Rattle.meaning.specs.Canonical.{Canonical, Draft, blank, draft, body, opened, put, canonicalOf, canonical}
 use Rattle.meaning.specs.Demands.{Words, Exactly, BodyOf, Fewest}
 use Rattle.meaning.proofs.Segments.{canonical-is, encoded, fits-clean}
 use Rattle.meaning.proofs.RowWords.{rows-decide, from-length, from-has, from-last, from-below}
-use Rattle.meaning.proofs.Decoded.{Whole, sound-iff}
+use Rattle.meaning.proofs.Decoded.{sound-iff}
 use Rattle.meaning.proofs.Least.{least}
 use Rattle.meaning.proofs.Encoded.{encoded-decodes, encoded-sound}
 

@@ -1,7 +1,7 @@
 -- The nth row is the one row that is set with n set rows before it; the histogram adds up to R.
 -- Assumes nothing.
 use Prim.Native.Nat.{ℕ, zero, suc, _+_, _-_, _≤_, _<_}
-use mathlib.Core.Bool.{Bool, true, false, cond, _&&_, true≢false}
+use mathlib.Core.Bool.{Bool, true, false, cond, true≢false}
 use mathlib.Core.Path.{_≡_, refl, sym, ap, _∙_, subst}
 use mathlib.Core.List.{List, [], _∷_}
 use lib.Dec.{eqb, eqb·zero-suc, eqb·suc-zero, eqb·suc-suc}
@@ -13,7 +13,7 @@ use Rattle.meaning.specs.Limits.{mostNamed}
 use Rattle.meaning.specs.Rows.{bit, sumBelow, countBelow, lastBelow, isNth, nthBelow}
 use Rattle.meaning.specs.Segment.{tabulate}
 use Rattle.meaning.specs.Question.{held, histogramOf, sumOf}
-use Rattle.meaning.specs.Demands.{IsNth, NthRow, NthHolds, HistogramAdds, HistogramEnds}
+use Rattle.meaning.specs.Demands.{IsNth, NthHolds, HistogramAdds, HistogramEnds}
 use Rattle.meaning.proofs.Segments.{both}
 use Rattle.meaning.proofs.RowWords.{bit-le, getD-tabulate}
 

@@ -1,19 +1,19 @@
 -- What a body decodes to, and that it is sound exactly if it is whole, has as many segments as its rows, and leaves the pad bits zero.
 -- Assumes nothing.
-use Prim.Native.Nat.{ℕ, zero, suc, _+_, _-_, _*_, _/_, _%_, _^_, _≤_, _<_}
-use mathlib.Core.Bool.{Bool, true, false, cond, _&&_, false≢true}
-use mathlib.Core.Path.{_≡_, refl, sym, ap, _∙_, subst}
+use Prim.Native.Nat.{ℕ, zero, suc, _+_, _-_, _≤_, _<_}
+use mathlib.Core.Bool.{Bool, true, false, _&&_, false≢true}
+use mathlib.Core.Path.{_≡_, refl, sym, ap, _∙_}
 use mathlib.Core.List.{List, [], _∷_, _++_, append-assoc}
-use lib.Dec.{eqb, leb, ltb}
+use lib.Dec.{leb, ltb}
 use lib.ListN.{length, replicate, length-append, length-replicate}
 use lib.Pow.{pow-pos}
 use mathlib.Core.Logic.{_↔_}
 use native.Mathlib.Omega.{arith}
-use borrow.Author.Tests.{ltb-true, ltb-false, leb-false, lt-ltb, le-ltb, lt-leb, eq-eqb, eqb-true, eqb-false, ne-eqb}
+use borrow.Author.Tests.{ltb-false, leb-false, lt-ltb, le-ltb, lt-leb, eq-eqb, ne-eqb}
 use Rattle.meaning.specs.Limits.{mostClean, mostDirty}
 use Rattle.meaning.specs.Segment.{fill, allSet, lastLimit, lastRows, lastOf, segmentCount, overPad}
-use Rattle.meaning.specs.Refusal.{Verdict, sound, refused, refuseIf}
-use Rattle.meaning.specs.Ewah.{decode, segments, valueOf, cleanOf, dirtyOf, marker, dueAfter, faultFrom, bodyFault, Sound}
+use Rattle.meaning.specs.Refusal.{Verdict, sound, refuseIf}
+use Rattle.meaning.specs.Ewah.{decode, valueOf, cleanOf, dirtyOf, marker, dueAfter, faultFrom, bodyFault, Sound}
 
 pub decode-append : (due : ℕ) (a b : List ℕ) → decode due (a ++ b) ≡ decode due a ++ decode (dueAfter due a) b
 unfolding decode dueAfter
@@ -131,7 +131,7 @@ unfolding refuseIf
 not-refused true n b w r e = let z : _≡_ {A = ℕ} 0 1 = cc in absurd (omega arith)
 not-refused false n b w r e = (refl, e)
 
-let-through : (t : Bool) (n b w : ℕ) (r : Verdict) → t ≡ false → r ≡ sound → refuseIf t n b w r ≡ sound
+pub let-through : (t : Bool) (n b w : ℕ) (r : Verdict) → t ≡ false → r ≡ sound → refuseIf t n b w r ≡ sound
 unfolding refuseIf
 let-through true n b w r e f = absurd (false≢true (sym e))
 let-through false n b w r e f = f
@@ -158,7 +158,7 @@ module _ (bitmap rows : ℕ) where
       let f = sound-whole (suc place) due (left - 1) ws (omega arith) (omega arith) (p .1) in
       record { ended = f .ended; count = omega (arith, f .count); last = run-last 32 rows left 1 w (decode due ws) (omega (arith, f .count)) (p .0) (f .last) }
 
-  whole-sound : (place due left : ℕ) (ws : List ℕ) → Whole (lastLimit 32 rows) due left ws → faultFrom bitmap rows place due left ws ≡ sound
+  pub whole-sound : (place due left : ℕ) (ws : List ℕ) → Whole (lastLimit 32 rows) due left ws → faultFrom bitmap rows place due left ws ≡ sound
   unfolding faultFrom dueAfter decode fill allSet
   whole-sound place due left [] f = let-through _ _ _ _ _ (le-ltb 0 left (omega (arith, f .count))) refl
   whole-sound place zero left (m ∷ ws) f =

@@ -1,25 +1,25 @@
 -- Demands 2 and 3 hold.
 -- Assumes nothing.
-use Prim.Native.Nat.{ℕ, zero, suc, _+_, _*_, _^_, _≤_, _<_}
+use Prim.Native.Nat.{ℕ, zero, suc, _*_, _≤_, _<_}
 use mathlib.Core.Bool.{Bool, true, false, not, _||_, true≢false}
 use mathlib.Core.Path.{_≡_, refl, sym, ap, _∙_, subst}
 use mathlib.Core.Logic.{_↔_}
-use mathlib.Core.List.{List, [], _∷_, _++_, map}
+use mathlib.Core.List.{List, [], _∷_, map}
 use lib.Dec.{eqb, leb, ltb}
-use lib.ListN.{length, getD, drop}
+use lib.ListN.{length, getD}
 use native.Mathlib.Omega.{arith}
-use native.Mathlib.Decide.{decLe}
-use borrow.Author.Tests.{ltb-true, ltb-false, leb-true, leb-false, lt-ltb, le-ltb, le-leb, lt-leb, ne-eqb, eq-eqb, eqb-false}
-use Rattle.meaning.specs.Limits.{mostRows, mostNamed, mostBitmaps, mostIndexWords, headWords, indexKind}
+use borrow.Author.Tests.{leb-true, leb-false, le-ltb, le-leb, lt-leb, ne-eqb, eq-eqb, eqb-false}
+use Rattle.meaning.specs.Limits.{mostRows, mostNamed}
 use Rattle.meaning.specs.Segment.{hasRow, segmentCount, lastLimit, lastOf, fromRows}
-use Rattle.meaning.specs.Refusal.{Outcome, refused, answer, Verdict, sound, refuseIf, _then_}
+use Rattle.meaning.specs.Refusal.{Outcome, refused, answer, sound, refuseIf, _then_}
 use Rattle.meaning.specs.Ewah.{Sound, rowsOf, bodyFault}
-use Rattle.meaning.specs.Canonical.{Canonical, canonical}
-use Rattle.meaning.specs.Index.{SoundIndex, rowCount, bitmapCount, indexFault, entriesFault, bodiesFault, entryPlace, bodyAt, rowsAt, startOf}
+use Rattle.meaning.specs.Canonical.{canonical}
+use Rattle.meaning.specs.Index.{SoundIndex, rowCount, bitmapCount, indexFault, bodyAt, rowsAt}
 use Rattle.meaning.specs.Question.{held, atLeast, byTable, totalWords, stretches}
 use Rattle.meaning.specs.Answer.{fits, write, askPlain, rowsFault, plainFault, checkBody, bufferAfter, check, badBitmap, anyBad, badList, named, namedBodies, rightRows, threshold, symmetric, badEntry, expand, compress, wordsReported, stretchesReported}
-use Rattle.meaning.specs.Demands.{Words, Exactly, BodyOf, Fewest, Asked, NoRoom, Written, Demand3, Demand3Holds, PlainRows, Demand2, StretchBounds, StretchesHold}
-use Rattle.meaning.proofs.Decoded.{Whole, sound-whole}
+use Rattle.meaning.specs.Demands.{Asked, NoRoom, Written, Demand3, Demand3Holds, PlainRows, Demand2, StretchBounds, StretchesHold}
+use Rattle.meaning.proofs.Decoded.{Whole}
+use Rattle.meaning.proofs.IndexSound.{index-means}
 use Rattle.meaning.proofs.Stretches.{stretches-le}
 use Rattle.meaning.proofs.Enough.{AllWhole, words-le}
 use Rattle.meaning.proofs.RowWords.{rows-decide, from-length, from-has, from-last}
@@ -34,29 +34,8 @@ leb-iff m n = (leb-true m n, le-leb m n)
 abbrev WholeAt : List ℕ → ℕ → Type 0
 WholeAt index k = Whole (lastLimit 32 (rowCount index)) 0 (segmentCount 32 (rowCount index)) (bodyAt index k)
 
-bodies-whole : (index : List ℕ) (k more : ℕ) → bodiesFault index k more ≡ sound → (i : ℕ) → k ≤ i → i < k + more → WholeAt index i
-unfolding bodiesFault bodyFault
-bodies-whole index k zero e i h g = absurd (omega arith)
-bodies-whole index k (suc more) e i h g =
-    let p = then-answer (bodyFault k (startOf index k) (rowCount index) (bodyAt index k)) (bodiesFault index (suc k) more) tt e in
-    elim (decLe (suc k) i) [
-      | yes l ↦ bodies-whole index (suc k) more (p .1) i l (omega arith)
-      | no l ↦
-          let is : k ≡ i = omega arith in
-          subst (λ (z : ℕ). WholeAt index z) is (sound-whole k (rowCount index) (startOf index k) 0 (segmentCount 32 (rowCount index)) (bodyAt index k) (omega arith) (omega arith) (p .0))
-    ]
-
 index-whole : (index : List ℕ) → SoundIndex index → (k : ℕ) → k < bitmapCount index → WholeAt index k
-unfolding indexFault
-index-whole index e k h =
-    let a = refuse-answer (ltb mostIndexWords (length index)) 3 0 0 _ tt e in
-    let b = refuse-answer (ltb (length index) headWords) 1 0 (length index) _ tt (a .1) in
-    let c = refuse-answer (not (eqb (getD index 0 0) indexKind)) 2 0 0 _ tt (b .1) in
-    let d = refuse-answer (ltb mostRows (rowCount index)) 3 0 1 _ tt (c .1) in
-    let f = refuse-answer (ltb mostBitmaps (bitmapCount index)) 3 0 2 _ tt (d .1) in
-    let g = refuse-answer (ltb (length index) (entryPlace (bitmapCount index))) 1 0 (length index) _ tt (f .1) in
-    let i = then-answer (entriesFault index 0 (bitmapCount index) (entryPlace (bitmapCount index))) (bodiesFault index 0 (bitmapCount index)) tt (g .1) in
-    bodies-whole index 0 (bitmapCount index) (i .1) k (omega arith) (omega arith)
+index-whole index s k h = let f = index-means index .0 s .bodies k h in record { ended = f .ended; count = f .count; last = f .pads }
 
 all-whole : (index list : List ℕ) → SoundIndex index → ((i : ℕ) → i < length list → getD list i 0 < bitmapCount index) → AllWhole (rowCount index) (map (bodyAt index) list)
 all-whole index [] s h = tt

@@ -1,19 +1,19 @@
 -- The canonical form decodes to the segments that it was made from.
 -- Assumes nothing.
-use Prim.Native.Nat.{ℕ, zero, suc, _+_, _-_, _*_, _/_, _%_, _^_, _≤_, _<_}
-use mathlib.Core.Bool.{Bool, true, false, cond, _&&_, false≢true}
-use mathlib.Core.Path.{_≡_, refl, sym, ap, _∙_, subst}
+use Prim.Native.Nat.{ℕ, zero, suc, _+_, _≤_, _<_}
+use mathlib.Core.Bool.{Bool, true, false, cond, _&&_}
+use mathlib.Core.Path.{_≡_, refl, sym, ap, _∙_}
 use mathlib.Core.List.{List, [], _∷_, _++_, append-assoc, append-nil, map, foldl}
-use lib.Dec.{eqb, leb, ltb}
-use lib.ListN.{length, replicate, length-append, length-replicate, replicate-append-replicate}
+use lib.Dec.{eqb, ltb}
+use lib.ListN.{length, replicate, length-append}
 use native.Mathlib.Omega.{arith}
-use borrow.Author.Tests.{ltb-true, ltb-false, lt-ltb, le-ltb, eq-eqb, eqb-true, eqb-false, ne-eqb}
+use borrow.Author.Tests.{ltb-true}
 use Rattle.meaning.specs.Limits.{mostClean, mostDirty}
 use Rattle.meaning.specs.Segment.{Segment, clean, mixed, kind, fill, allSet, segmentCount, lastLimit, lastOf}
-use Rattle.meaning.specs.Ewah.{decode, segments, valueOf, cleanOf, dirtyOf, marker, Sound, dueAfter}
+use Rattle.meaning.specs.Ewah.{decode, segments, marker, Sound, dueAfter}
 use Rattle.meaning.specs.Canonical.{Draft, blank, draft, body, opened, put, canonicalOf}
 use Rattle.meaning.proofs.Segments.{fits-clean, word, word-kind, encoded}
-use Rattle.meaning.proofs.Decoded.{Busy, busy-append, busy-dirty, sound-iff, Whole, decode-append, due-append, decode-dirty, due-dirty, value-marker, clean-marker, dirty-marker}
+use Rattle.meaning.proofs.Decoded.{Busy, busy-append, busy-dirty, sound-iff, decode-append, due-append, decode-dirty, due-dirty, value-marker, clean-marker, dirty-marker}
 
 -- a draft as `put` makes it
 record Fit (done : List ℕ) (v c : ℕ) (ds : List ℕ) : Type 0 where

@@ -1,24 +1,23 @@
 -- A threshold or symmetric answer has at most two words for each stretch.
 -- Assumes nothing.
 use Prim.Native.Nat.{ℕ, zero, suc, _+_, _-_, _*_, _/_, _%_, _^_, _≤_, _<_}
-use mathlib.Core.Bool.{Bool, true, false, cond, _&&_, _||_, true≢false, false≢true}
+use mathlib.Core.Bool.{Bool, true, false, _&&_, _||_, true≢false}
 use mathlib.Core.Path.{_≡_, refl, sym, ap, _∙_, subst}
 use mathlib.Core.List.{List, [], _∷_, _++_, map, foldl, foldl-append}
-use lib.Dec.{eqb, leb, ltb}
+use lib.Dec.{eqb, ltb}
 use lib.ListN.{length, getD, replicate, length-append, length-replicate}
-use lib.Pow.{pow-mono}
 use native.Mathlib.Omega.{arith}
 use native.Mathlib.Decide.{decLe}
-use borrow.Author.Tests.{lt-ltb, le-ltb, eq-eqb, eqb-true, eqb-false, ne-eqb, leb-true}
-use Rattle.meaning.specs.Limits.{mostClean, mostDirty}
+use borrow.Author.Tests.{lt-ltb, eq-eqb, eqb-false}
+use Rattle.meaning.specs.Limits.{mostClean}
 use Rattle.meaning.specs.Rows.{bit, sumBelow, countBelow}
-use Rattle.meaning.specs.Segment.{Segment, clean, mixed, kind, wordOf, tabulate, bitAt, hasRow, fill, allSet, segmentCount, lastRows, lastLimit, lastOf, fromRows}
-use Rattle.meaning.specs.Ewah.{Piece, cleanRun, dirtyWord, pieces, pieceSize, runThen, decode, segments, rowsOf, valueOf, cleanOf, dirtyOf}
-use Rattle.meaning.specs.Canonical.{Draft, blank, draft, body, put, canonicalOf, canonical}
+use Rattle.meaning.specs.Segment.{Segment, clean, kind, wordOf, tabulate, bitAt, fill, allSet, segmentCount, lastLimit, fromRows}
+use Rattle.meaning.specs.Ewah.{Piece, cleanRun, dirtyWord, pieces, pieceSize, runThen, segments, rowsOf, valueOf, cleanOf, dirtyOf}
+use Rattle.meaning.specs.Canonical.{Draft, blank, body, put, canonicalOf, canonical}
 use Rattle.meaning.specs.Question.{isIn, endsFrom, endsAt, stretches, held}
 use Rattle.meaning.proofs.Segments.{canonical-is, encoded, map-append}
 use Rattle.meaning.proofs.Decoded.{Whole}
-use Rattle.meaning.proofs.RowWords.{word-at, word-ext, has-at, last-getD}
+use Rattle.meaning.proofs.RowWords.{word-at, word-ext, has-at}
 use Rattle.meaning.proofs.Least.{size, put-two, run-then-two}
 use Rattle.meaning.proofs.Stretches.{flat, flat-pieces}
 

@@ -1,18 +1,15 @@
 -- The laws of `specs/Laws` hold.
 -- Assumes nothing.
-use Prim.Native.Nat.{ℕ, zero, suc, _+_, _≤_}
+use Prim.Native.Nat.{ℕ}
 use mathlib.Core.Bool.{Bool}
 use mathlib.Core.Path.{_≡_, refl}
 use mathlib.Core.Logic.{_↔_}
-use mathlib.Core.List.{List, [], foldl}
-use lib.ListN.{length, replicate}
-use native.Mathlib.Omega.{arith}
-use Rattle.meaning.specs.Limits.{mostClean}
-use Rattle.meaning.specs.Segment.{Segment, clean, segmentCount, lastLimit, fromRows, tabulate, kinds}
+use mathlib.Core.List.{List, []}
+use Rattle.meaning.specs.Segment.{segmentCount, fromRows, tabulate, kinds}
 use Rattle.meaning.specs.Ewah.{Sound}
-use Rattle.meaning.specs.Canonical.{Draft, blank, body, put, canonicalOf, canonical}
+use Rattle.meaning.specs.Canonical.{body, canonicalOf, canonical}
 use Rattle.meaning.specs.Laws.{SoundFacts, BodyLaws}
-use Rattle.meaning.proofs.Decoded.{Whole, sound-iff}
+use Rattle.meaning.proofs.Decoded.{sound-iff}
 use Rattle.meaning.proofs.Least.{run-adds, segment-adds}
 use Rattle.meaning.proofs.CanonicalBody.{canonical-body, canonical-form, canonical-fewest, canonical-ext}
 use Rattle.meaning.proofs.ByRuns.{by-runs}

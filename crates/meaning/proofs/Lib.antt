@@ -4,13 +4,14 @@ pub mod Decoded
 pub mod Encoded
 pub mod Least
 pub mod Runs
+pub mod Outcomes
 pub mod ByRuns
 pub mod CanonicalBody
 pub mod Lawful
+pub mod IndexSound
 pub mod Walk
 pub mod Stretches
 pub mod Enough
-pub mod Outcomes
 pub mod Demanded
 pub mod Counted
 pub mod Counting

@@ -1,14 +1,14 @@
 -- Facts on segments of w bits.
 -- Assumes nothing.
-use Prim.Native.Nat.{ℕ, zero, suc, _+_, _-_, _*_, _/_, _%_, _^_, _≤_, _<_}
+use Prim.Native.Nat.{ℕ, zero, suc, _*_, _<_}
 use mathlib.Core.Bool.{Bool, true, false, cond, _&&_, false≢true}
-use mathlib.Core.Path.{_≡_, refl, sym, ap, _∙_, subst}
+use mathlib.Core.Path.{_≡_, refl, ap}
 use mathlib.Core.List.{List, [], _∷_, _++_, map}
-use lib.Dec.{eqb, leb, ltb}
-use lib.ListN.{length, replicate, length-append}
+use lib.Dec.{eqb, ltb}
+use lib.ListN.{replicate}
 use lib.Pow.{pow-pos}
 use native.Mathlib.Omega.{arith}
-use borrow.Author.Tests.{ltb-true, eq-eqb, eqb-true, eqb-false, ne-eqb}
+use borrow.Author.Tests.{ltb-true, eq-eqb, eqb-true, ne-eqb}
 use Rattle.meaning.specs.Limits.{mostClean}
 use Rattle.meaning.specs.Segment.{Segment, clean, mixed, kind, kinds, fill, allSet, fromRows}
 use Rattle.meaning.specs.Canonical.{canonicalOf, canonical}

@@ -1,6 +1,6 @@
 -- The stretches are at most the words of the bodies; pieces decode to what the body does.
 -- Assumes nothing.
-use Prim.Native.Nat.{ℕ, zero, suc, _+_, _*_, _≤_, _<_}
+use Prim.Native.Nat.{ℕ, zero, suc, _+_, _≤_, _<_}
 use mathlib.Core.Bool.{Bool, true, false, _||_}
 use mathlib.Core.Path.{_≡_, refl, ap, _∙_}
 use mathlib.Core.List.{List, [], _∷_, _++_}
@@ -8,7 +8,7 @@ use lib.Dec.{eqb}
 use lib.ListN.{length, replicate}
 use native.Mathlib.Omega.{arith}
 use native.Mathlib.Decide.{decLe}
-use borrow.Author.Tests.{eqb-true, ne-eqb}
+use borrow.Author.Tests.{ne-eqb}
 use Rattle.meaning.specs.Rows.{bit, sumBelow, countBelow}
 use Rattle.meaning.specs.Segment.{fill, segmentCount}
 use Rattle.meaning.specs.Ewah.{Piece, cleanRun, dirtyWord, runThen, pieces, pieceSize, decode, valueOf, cleanOf, dirtyOf}

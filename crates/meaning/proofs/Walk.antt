@@ -1,17 +1,17 @@
 -- A body is walked from marker to marker: what a marker's run and dirty words stand for, and the faults that can lie there.
 -- Assumes nothing.
 use Prim.Native.Nat.{ℕ, zero, suc, _+_, _-_, _≤_, _<_}
-use mathlib.Core.Bool.{Bool, true, false, _&&_}
+use mathlib.Core.Bool.{Bool, false}
 use mathlib.Core.Path.{_≡_, refl, sym, ap, _∙_}
 use mathlib.Core.List.{List, [], _∷_, _++_}
-use lib.Dec.{eqb, leb, ltb, eqb·suc-suc}
+use lib.Dec.{leb, ltb, eqb·suc-suc}
 use lib.ListN.{length, take, drop, getD, replicate, length-append, length-replicate, length-drop, drop-of-length-le}
 use lib.Seq.{drop-cons, take-at, drop-at, drop-drop, length-take-le}
 use native.Mathlib.Omega.{arith}
 use native.Mathlib.Numerals.{add-one}
 use borrow.Author.Tests.{lt-ltb, le-ltb, ne-eqb, eq-eqb}
-use Rattle.meaning.specs.Segment.{fill, lastRows, lastLimit, overPad}
-use Rattle.meaning.specs.Refusal.{Verdict, sound, refuseIf}
+use Rattle.meaning.specs.Segment.{fill, lastLimit, overPad}
+use Rattle.meaning.specs.Refusal.{refuseIf}
 use Rattle.meaning.specs.Ewah.{valueOf, cleanOf, dirtyOf, decode, segments, dueAfter, faultFrom}
 use Rattle.meaning.proofs.Decoded.{due-le, and-false}
 

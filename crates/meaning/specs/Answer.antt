@@ -2,7 +2,7 @@
 -- Sections "Numbers of refusal" and "Questions over a list" of paper 01. 8 is a bad argument, 9 an answer that does not fit.
 -- Assumes nothing.
 use Prim.Native.Nat.{ℕ, suc, _-_}
-use mathlib.Core.Bool.{Bool, true, false, not, _||_}
+use mathlib.Core.Bool.{Bool, false, not, _||_}
 use mathlib.Core.List.{List, [], _∷_, _++_, map}
 use lib.Dec.{eqb, leb, ltb}
 use lib.ListN.{length, drop, replicate}

@@ -32,6 +32,12 @@ unfoldable pub lengthOf : List ℕ → ℕ → ℕ
 unfolding entryPlace
 lengthOf index k = getD index (entryPlace k + 1) 0
 
+-- where body k has to start: behind the contents and the bodies before it. At k = N, the last end
+unfoldable pub bodyPlace : List ℕ → ℕ → ℕ
+unfolding entryPlace bitmapCount lengthOf
+bodyPlace index zero = entryPlace (bitmapCount index)
+bodyPlace index (suc k) = bodyPlace index k + lengthOf index k
+
 -- the body of bitmap k
 unfoldable pub bodyAt : List ℕ → ℕ → List ℕ
 unfolding startOf lengthOf
@@ -63,18 +69,22 @@ module _ (index : List ℕ) where
   bodiesFault k zero = sound
   bodiesFault k (suc more) = bodyFault k (startOf index k) (rowCount index) (bodyAt index k) then bodiesFault (suc k) more
 
-  -- of the whole index: 3 for its length, 1 for the head, 2, 3 for rows, 3 for N, 1 for the contents, then every entry
-  -- and the final end, then every body
-  unfoldable pub indexFault : Verdict
-  unfolding refuseIf _then_ rowCount bitmapCount entryPlace entriesFault bodiesFault
-  indexFault =
+  -- of the head: 3 for the index's length, 1 below three words, 2, 3 for rows, 3 for N, 1 below the end of the contents
+  unfoldable pub headFault : Verdict
+  unfolding refuseIf rowCount bitmapCount entryPlace
+  headFault =
       refuseIf (ltb mostIndexWords (length index)) 3 0 0
       (refuseIf (ltb (length index) headWords) 1 0 (length index)
       (refuseIf (not (eqb (getD index 0 0) indexKind)) 2 0 0
       (refuseIf (ltb mostRows (rowCount index)) 3 0 1
       (refuseIf (ltb mostBitmaps (bitmapCount index)) 3 0 2
       (refuseIf (ltb (length index) (entryPlace (bitmapCount index))) 1 0 (length index)
-      (entriesFault 0 (bitmapCount index) (entryPlace (bitmapCount index)) then bodiesFault 0 (bitmapCount index)))))))
+      sound)))))
+
+  -- of the whole index: the head, then every entry and the final end, then every body
+  unfoldable pub indexFault : Verdict
+  unfolding headFault _then_ bitmapCount entryPlace entriesFault bodiesFault
+  indexFault = headFault then entriesFault 0 (bitmapCount index) (entryPlace (bitmapCount index)) then bodiesFault 0 (bitmapCount index)
 
 -- an index has no fault
 abbrev pub SoundIndex : List ℕ → Type 0

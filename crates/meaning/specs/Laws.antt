@@ -5,11 +5,12 @@ use mathlib.Core.Bool.{Bool}
 use mathlib.Core.Path.{_≡_}
 use mathlib.Core.Logic.{_↔_}
 use mathlib.Core.List.{List, [], foldl}
-use lib.ListN.{length, replicate}
-use Rattle.meaning.specs.Limits.{mostClean}
+use lib.ListN.{length, getD, replicate}
+use Rattle.meaning.specs.Limits.{mostClean, mostRows, mostBitmaps, mostIndexWords, indexKind, headWords}
 use Rattle.meaning.specs.Segment.{Segment, clean, segmentCount, lastLimit, lastOf}
 use Rattle.meaning.specs.Ewah.{Sound, segments, dueAfter}
 use Rattle.meaning.specs.Canonical.{Draft, body, put, canonicalOf, canonical, Canonical}
+use Rattle.meaning.specs.Index.{rowCount, bitmapCount, entryPlace, startOf, bodyPlace, bodyAt, SoundIndex}
 use Rattle.meaning.specs.Demands.{BodyOf, Fewest}
 use Rattle.meaning.specs.Paragraph.{groups, groupsWords}
 
@@ -37,3 +38,24 @@ pub record BodyLaws : Type 0 where
   -- a clean run that one marker can hold adds at most one word, and one segment at most two
   pub run-adds : (d : Draft) (v n : ℕ) → n ≤ mostClean → length (body (foldl put d (replicate n (clean v)))) ≤ length (body d) + 1
   pub segment-adds : (d : Draft) (s : Segment) → length (body (put d s)) ≤ length (body d) + 2
+
+-- ---- an index
+
+-- the plain facts of a sound index
+pub record IndexFacts (index : List ℕ) : Type 0 where
+  pub few-words : length index ≤ mostIndexWords
+  pub head : headWords ≤ length index
+  pub kind : getD index 0 0 ≡ indexKind
+  pub few-rows : rowCount index ≤ mostRows
+  pub few-bitmaps : bitmapCount index ≤ mostBitmaps
+  pub contents : entryPlace (bitmapCount index) ≤ length index
+  -- every body starts where the one before ends, lies within the index, and the last end is the index's
+  pub starts : (k : ℕ) → k < bitmapCount index → startOf index k ≡ bodyPlace index k
+  pub ends : (k : ℕ) → k ≤ bitmapCount index → bodyPlace index k ≤ length index
+  pub last-end : bodyPlace index (bitmapCount index) ≡ length index
+  -- and is sound
+  pub bodies : (k : ℕ) → k < bitmapCount index → SoundFacts (rowCount index) (bodyAt index k)
+
+-- an index is sound exactly if these facts hold
+abbrev pub IndexMeans : Type 0
+IndexMeans = (index : List ℕ) → SoundIndex index ↔ IndexFacts index

@@ -3,17 +3,16 @@
 use mathlib.Core.Path.{_≡_, refl, sym, ap, ap₂, _∙_}
 use mathlib.Core.Bool.{Bool, true, false, not}
 use Prim.Native.Nat.{ℕ, zero, suc, _+_, _-_, _*_, _/_, _%_, _^_, _<_}
-use native.Mathlib.Nat.{mod-lt, mod-eq-of-lt, div-eq-of-lt, add-comm, one-mul, zero-mul}
+use native.Mathlib.Nat.{mod-lt, mod-eq-of-lt, add-comm, one-mul, zero-mul}
 use native.Mathlib.Numerals.{one-add, add-one}
 use native.Mathlib.Omega.{arith}
 use lib.Dec.{lit<, eqb}
-use lib.Pow.{pow-pos, ones-lt, shl-exact, mod-pow-add}
+use lib.Pow.{pow-pos, shl-exact, mod-pow-add}
 use lib.Bits.{bitAnd, and-high}
-use lib.Count.{ones, onesIn, ones-cat, ones-ones}
+use lib.Count.{ones, onesIn, ones-cat}
 use borrow.Author.Tests.{ne-eqb}
 use Rattle.meaning.specs.Rows.{bit, countBelow}
-use Rattle.meaning.specs.Segment.{bitAt, isSet, wordOf}
-use Rattle.meaning.proofs.RowWords.{word-at}
+use Rattle.meaning.specs.Segment.{bitAt, isSet}
 
 -- ---- a mask of one bit
 

@@ -1,13 +1,12 @@
 -- A body alone: its rows are tested first, and where it is sound the facts of a sound body hold.
 -- Assumes nothing.
 use Prim.Native.Nat.{ℕ, _≤_, _<_}
-use mathlib.Core.Path.{_≡_, refl, sym, ap, _∙_}
+use mathlib.Core.Path.{_≡_}
 use mathlib.Core.List.{List}
 use lib.Dec.{ltb}
-use native.Mathlib.Omega.{arith}
 use borrow.Author.Tests.{lt-ltb, le-ltb, ltb-false}
 use Rattle.meaning.specs.Limits.{mostRows}
-use Rattle.meaning.specs.Refusal.{Outcome, refused, answer, Verdict, sound, refuseIf, _then_}
+use Rattle.meaning.specs.Refusal.{refused, Verdict, sound, refuseIf, _then_}
 use Rattle.meaning.specs.Ewah.{bodyFault}
 use Rattle.meaning.specs.Laws.{SoundFacts}
 use Rattle.meaning.specs.Answer.{rowsFault, checkBody}

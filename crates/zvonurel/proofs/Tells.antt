@@ -4,9 +4,9 @@ use Prim.Native.Nat.{ℕ, _≤_, _<_}
 use mathlib.Core.Path.{_≡_, refl, sym, ap, _∙_}
 use mathlib.Core.List.{List, _++_}
 use native.Mathlib.Omega.{arith}
-use lib.ListN.{length, take, drop}
+use lib.ListN.{length, drop}
 use lib.Seq.{take-at}
-use Rattle.meaning.specs.Refusal.{Outcome, refused, answer, Verdict, sound, refuseIf, _then_}
+use Rattle.meaning.specs.Refusal.{Outcome, refused, answer, Verdict, sound, _then_}
 use Rattle.meaning.specs.Answer.{fits, bufferAfter, wordsReported}
 use Rattle.meaning.proofs.Outcomes.{fits-yes, fits-no, then-sound}
 use Rattle.ewah.specs.declared.refusal.Refusal.{Refusal}

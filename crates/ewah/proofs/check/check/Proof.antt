@@ -2,15 +2,14 @@
 use borrow.Author.Needs.{needs}
 use borrow.Author.Tests.{lt-ltb, le-ltb}
 use native.Mathlib.Omega.{arith}
-use Prim.Native.Nat.{ℕ, _+_, _-_, _≤_, _<_}
-use mathlib.Core.Path.{_≡_, refl, sym, ap, _∙_}
+use Prim.Native.Nat.{_+_, _-_, _≤_}
+use mathlib.Core.Path.{_≡_, sym, _∙_}
 use denote.Ref.{now}
 use lib.ListN.{length, drop}
 use Rattle.meaning.specs.Segment.{segmentCount}
-use Rattle.meaning.specs.Refusal.{refuseIf, sound}
+use Rattle.meaning.specs.Refusal.{refuseIf}
 use Rattle.meaning.specs.Ewah.{faultFrom, bodyFault}
 use Rattle.ewah.specs.Told.{verdictOf}
-use Rattle.ewah.specs.Checking.{Passed, Faulty}
 use Rattle.ewah.proofs.Steps.{passed-of, faulty-of, end-fault}
 use Rattle.ewah.proofs.check.check.Statement.{statement}
 use Rattle.ewah.proofs.check.check.Tie as tie

@@ -1,76 +1,54 @@
-use native.Mathlib.Omega.{arith}
 use denote.Ref.{now}
 use borrow.Author.Needs.{needs}
 use Rattle.ewah.proofs.Steps.{step-5, step-6, step-7, step-dirty, step-next}
 use Rattle.ewah.proofs.check.marker_step.Statement.{statement}
 use Rattle.ewah.proofs.check.marker_step.Tie as tie
-use Rattle.ewah.proofs.check.marker_step.Reads as reads
-use Rattle.ewah.proofs.check.marker_step.Lts as lts
-use Rattle.ewah.proofs.check.dirty_over_pad.Reads as dirty-over-pad-reads
-use Rattle.ewah.proofs.check.run_over_pad.Reads as run-over-pad-reads
-use Rattle.ewah.proofs.marker.read.Reads as read-reads
 
--- src/check.rt:56:26
 mul-read : tie.Need-mul-read
 mul-read c = search needs
 
--- src/check.rt:56:26
 shared-slice-read-read : tie.Need-shared-slice-read-read
 shared-slice-read-read c = search needs
 
--- src/check.rt:56:9
 read-requires : tie.Need-read-requires
 read-requires c κs = search needs
 
--- src/check.rt:60:17
 cast-words : tie.Need-cast-words
 cast-words c = search needs
 
--- src/check.rt:61:8
 sub-if1 : tie.Need-sub-if1
 sub-if1 c = search needs
 
--- src/check.rt:61:8
 sub-if1-2 : tie.Need-sub-if1-2
 sub-if1-2 c = search needs
 
--- src/check.rt:62:9
 returns : tie.Need-returns
 returns c = search step-5
 
--- src/check.rt:64:15
 add-if2 : tie.Need-add-if2
 add-if2 c = search needs
 
--- src/check.rt:65:9
 returns-2 : tie.Need-returns-2
 returns-2 c = search step-6
 
--- src/check.rt:67:8
 run-over-pad-requires : tie.Need-run-over-pad-requires
 run-over-pad-requires c κs = search needs
 
--- src/check.rt:68:9
 returns-3 : tie.Need-returns-3
 returns-3 c = search step-7
 
--- src/check.rt:70:29
 add-dirty-over-pad : tie.Need-add-dirty-over-pad
 add-dirty-over-pad c = search needs
 
--- src/check.rt:70:47
 sub-dirty-over-pad : tie.Need-sub-dirty-over-pad
 sub-dirty-over-pad c = search needs
 
--- src/check.rt:70:8
 dirty-over-pad-requires : tie.Need-dirty-over-pad-requires
 dirty-over-pad-requires c κs = search needs
 
--- src/check.rt:71:31
 add-t18 : tie.Need-add-t18
 add-t18 c = search needs
 
--- src/check.rt:71:9
 returns-4 : tie.Need-returns-4
 returns-4 c =
     let d = c .before in
@@ -82,23 +60,18 @@ returns-4 c =
     (u .before .before .if1 .left) (u .before .if2 .left) (u .run-over-pad .result) (d .dirty-over-pad .result)
     (u .run-over-pad .ensures) (d .before .if3 .left) (d .dirty-over-pad .ensures) (c .if4 .taken)
 
--- src/check.rt:73:16
 add-t10 : tie.Need-add-t10
 add-t10 c = search needs
 
--- src/check.rt:73:16
 add-t13 : tie.Need-add-t13
 add-t13 c = search needs
 
--- src/check.rt:73:32
 sub-t12 : tie.Need-sub-t12
 sub-t12 c = search needs
 
--- src/check.rt:73:32
 sub-t19 : tie.Need-sub-t19
 sub-t19 c = search needs
 
--- src/check.rt:51:1
 returns-5 : tie.Need-returns-5
 returns-5 c =
     let d = c .before in

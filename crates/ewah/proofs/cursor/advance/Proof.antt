@@ -1,46 +1,34 @@
-use native.Mathlib.Omega.{arith}
 use denote.Ref.{now}
 use Rattle.ewah.proofs.Pieces.{run-shorter, run-over, dirty-over}
 use borrow.Author.Needs.{needs}
 use Rattle.ewah.proofs.cursor.advance.Statement.{statement}
 use Rattle.ewah.proofs.cursor.advance.Tie as tie
-use Rattle.ewah.proofs.cursor.advance.Reads as reads
-use Rattle.ewah.proofs.cursor.advance.Lts as lts
-use Rattle.ewah.proofs.cursor.load.Reads as load-reads
 
--- src/cursor.rt:89:22
 enum-known-piece : tie.Need-enum-known-piece
 enum-known-piece c = search needs
 
--- src/cursor.rt:92:48
 sub-t11 : tie.Need-sub-t11
 sub-t11 c = search needs
 
--- src/cursor.rt:91:17
 returns : tie.Need-returns
 returns c =
     let s = c .before .before .before .before .before in
     run-shorter (now (s .args .body)) (s .args .c) (s .args .n) (s .pre .0) (s .pre .1 .0) (s .pre .1 .1) _ _ (c .before .before .piece .given .1) (c .if1 .taken)
 
--- src/cursor.rt:97:13
 load-requires : tie.Need-load-requires
 load-requires c κs = search needs
 
--- src/cursor.rt:99:28
 enum-told : tie.Need-enum-told
 enum-told c = search needs
 
--- src/cursor.rt:99:28
 load-requires-2 : tie.Need-load-requires-2
 load-requires-2 c κs = search needs
 
--- src/cursor.rt:79:1
 returns-2 : tie.Need-returns-2
 returns-2 c =
     let s = c .before .before .before .before .before .before in
     run-over (now (s .args .body)) (s .args .c) (s .args .n) (s .pre .0) (s .pre .1 .0) (s .pre .1 .1) _ _ (c .load .result) (c .before .before .before .piece .given .1) (c .before .if1 .left) (c .load .ensures)
 
--- src/cursor.rt:79:1
 returns-3 : tie.Need-returns-3
 returns-3 c =
     let s = c .before .before .before .before in

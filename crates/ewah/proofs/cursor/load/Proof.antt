@@ -1,6 +1,6 @@
 use borrow.Author.Needs.{needs}
 use native.Mathlib.Omega.{arith}
-use Prim.Native.Nat.{_+_, _-_, _≤_}
+use Prim.Native.Nat.{_-_, _≤_}
 use mathlib.Core.Path.{_≡_, refl}
 use lib.ListN.{length, drop}
 use Rattle.meaning.specs.Limits.{mostDirty}
@@ -8,9 +8,6 @@ use Rattle.meaning.specs.Ewah.{pieces}
 use Rattle.ewah.proofs.Pieces.{at-end, on-dirty, on-run, on-idle}
 use Rattle.ewah.proofs.cursor.load.Statement.{statement}
 use Rattle.ewah.proofs.cursor.load.Tie as tie
-use Rattle.ewah.proofs.cursor.load.Reads as reads
-use Rattle.ewah.proofs.cursor.load.Lts as lts
-use Rattle.ewah.proofs.marker.read.Reads as read-reads
 
 abbrev Inv-loop : tie.InvT-loop
 Inv-loop body next dirty at₀ due₀ at due =
@@ -19,47 +16,36 @@ Inv-loop body next dirty at₀ due₀ at due =
 abbrev μ-loop : tie.MeasureT-loop
 μ-loop body next dirty at₀ due₀ at due = length body - at
 
--- src/cursor.rt:31:5
 loop-holds : tie.Need-loop-holds Inv-loop μ-loop
 loop-holds c = (omega arith, omega arith, refl)
 
--- src/cursor.rt:32:17
 mul-x : tie.Need-mul-x Inv-loop μ-loop
 mul-x c = search needs
 
--- src/cursor.rt:32:17
 shared-slice-read-x : tie.Need-shared-slice-read-x Inv-loop μ-loop
 shared-slice-read-x c = search needs
 
--- src/cursor.rt:33:9
 add-at : tie.Need-add-at Inv-loop μ-loop
 add-at c = search needs
 
--- src/cursor.rt:38:24
 sub-t15 : tie.Need-sub-t15 Inv-loop μ-loop
 sub-t15 c = search needs
 
--- src/cursor.rt:35:13
 returns : tie.Need-returns Inv-loop μ-loop
 returns c = search on-dirty
 
--- src/cursor.rt:41:13
 read-requires : tie.Need-read-requires Inv-loop μ-loop
 read-requires c κs = search needs
 
--- src/cursor.rt:46:13
 returns-2 : tie.Need-returns-2 Inv-loop μ-loop
 returns-2 c = search on-run
 
--- src/cursor.rt:31:5
 loop-less : tie.Need-loop-less Inv-loop μ-loop
 loop-less c = search needs
 
--- src/cursor.rt:31:5
 loop-again : tie.Need-loop-again Inv-loop μ-loop
 loop-again c = (omega arith, omega arith, search on-idle)
 
--- src/cursor.rt:24:1
 returns-3 : tie.Need-returns-3 Inv-loop μ-loop
 returns-3 c = search at-end
 

@@ -1,6 +1,5 @@
 -- `ewah::marker::read` meets its contract: each mask is a remainder. Assumes nothing.
-use Prim.Native.Nat.{ℕ, _/_, _%_}
-use mathlib.Core.Path.{_≡_}
+use Prim.Native.Nat.{_/_}
 use lib.Bits.{and-mask}
 use native.Mathlib.Omega.{arith}
 use Rattle.meaning.specs.Ewah.{valueOf, cleanOf, dirtyOf}

@@ -1,5 +1,4 @@
 -- `ewah::marker::segment` meets its contract. Assumes nothing.
-use native.Mathlib.Omega.{arith}
 use borrow.Author.Needs.{needs}
 use Rattle.meaning.specs.Segment.{fill}
 use Rattle.ewah.proofs.marker.segment.Statement.{statement}

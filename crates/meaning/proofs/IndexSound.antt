@@ -1,0 +1,199 @@
+-- An index is sound exactly if the plain facts of `IndexFacts` hold.
+-- Assumes nothing.
+use Prim.Native.Nat.{ℕ, zero, suc, _+_, _≤_, _<_}
+use mathlib.Core.Bool.{false, not}
+use mathlib.Core.Path.{_≡_, refl, ap, _∙_, subst}
+use mathlib.Core.List.{List}
+use lib.Dec.{eqb, ltb}
+use lib.ListN.{length, getD}
+use native.Mathlib.Omega.{arith}
+use native.Mathlib.Decide.{decLe}
+use borrow.Author.Tests.{ltb-false, le-ltb, eqb-true, eq-eqb, not-false}
+use Rattle.meaning.specs.Limits.{mostRows, mostBitmaps, mostIndexWords, indexKind, headWords}
+use Rattle.meaning.specs.Segment.{segmentCount}
+use Rattle.meaning.specs.Refusal.{sound, _then_}
+use Rattle.meaning.specs.Ewah.{bodyFault}
+use Rattle.meaning.specs.Index.{rowCount, bitmapCount, entryPlace, startOf, lengthOf, bodyPlace, bodyAt, headFault, entriesFault, bodiesFault, indexFault, SoundIndex}
+use Rattle.meaning.specs.Laws.{SoundFacts, IndexFacts, IndexMeans}
+use Rattle.meaning.proofs.Decoded.{sound-whole, whole-sound, let-through}
+use Rattle.meaning.proofs.Outcomes.{refuse-answer, then-answer, then-sound}
+
+-- ---- a body, whatever its number and place
+
+pub body-facts : (k place R : ℕ) (b : List ℕ) → bodyFault k place R b ≡ sound → SoundFacts R b
+unfolding bodyFault
+body-facts k place R b e =
+    let f = sound-whole k R place 0 (segmentCount 32 R) b (omega arith) (omega arith) e in
+    record { ended = f .ended; count = f .count; pads = f .last }
+
+pub facts-body : (k place R : ℕ) (b : List ℕ) → SoundFacts R b → bodyFault k place R b ≡ sound
+unfolding bodyFault
+facts-body k place R b f = whole-sound k R place 0 (segmentCount 32 R) b (record { ended = f .ended; count = f .count; last = f .pads })
+
+not-equal : (m n : ℕ) → not (eqb m n) ≡ false → m ≡ n
+not-equal m n e = eqb-true m n (not-false (eqb m n) e)
+
+module _ (index : List ℕ) where
+  abbrev N : ℕ
+  N = bitmapCount index
+
+  abbrev n : ℕ
+  n = length index
+
+  -- ---- the head
+
+  record Head : Type 0 where
+    few-words : n ≤ mostIndexWords
+    head : headWords ≤ n
+    kind : getD index 0 0 ≡ indexKind
+    few-rows : rowCount index ≤ mostRows
+    few-bitmaps : N ≤ mostBitmaps
+    contents : entryPlace N ≤ n
+
+  head-sound : headFault index ≡ sound → Head
+  unfolding headFault
+  head-sound e =
+      let a = refuse-answer (ltb mostIndexWords n) 3 0 0 _ tt e in
+      let b = refuse-answer (ltb n headWords) 1 0 n _ tt (a .1) in
+      let c = refuse-answer (not (eqb (getD index 0 0) indexKind)) 2 0 0 _ tt (b .1) in
+      let d = refuse-answer (ltb mostRows (rowCount index)) 3 0 1 _ tt (c .1) in
+      let f = refuse-answer (ltb mostBitmaps N) 3 0 2 _ tt (d .1) in
+      let g = refuse-answer (ltb n (entryPlace N)) 1 0 n _ tt (f .1) in
+      record {
+        few-words = ltb-false mostIndexWords n (a .0);
+        head = ltb-false n headWords (b .0);
+        kind = not-equal (getD index 0 0) indexKind (c .0);
+        few-rows = ltb-false mostRows (rowCount index) (d .0);
+        few-bitmaps = ltb-false mostBitmaps N (f .0);
+        contents = ltb-false n (entryPlace N) (g .0);
+      }
+
+  sound-head : Head → headFault index ≡ sound
+  unfolding headFault
+  sound-head h =
+      let-through (ltb mostIndexWords n) 3 0 0 _ (le-ltb mostIndexWords n (h .few-words))
+      (let-through (ltb n headWords) 1 0 n _ (le-ltb n headWords (h .head))
+      (let-through (not (eqb (getD index 0 0) indexKind)) 2 0 0 _ (ap not (eq-eqb (getD index 0 0) indexKind (h .kind)))
+      (let-through (ltb mostRows (rowCount index)) 3 0 1 _ (le-ltb mostRows (rowCount index) (h .few-rows))
+      (let-through (ltb mostBitmaps N) 3 0 2 _ (le-ltb mostBitmaps N (h .few-bitmaps))
+      (let-through (ltb n (entryPlace N)) 1 0 n _ (le-ltb n (entryPlace N) (h .contents))
+      refl)))))
+
+  -- ---- the entries
+
+  -- from entry k on, `more` of them
+  pub record Entries (k more : ℕ) : Type 0 where
+    pub starts : (i : ℕ) → k ≤ i → i < k + more → startOf index i ≡ bodyPlace index i
+    pub ends : (i : ℕ) → k < i → i ≤ k + more → bodyPlace index i ≤ n
+    pub last : n ≤ bodyPlace index (k + more)
+
+  pub entries-sound : (more k : ℕ) → entriesFault index k more (bodyPlace index k) ≡ sound → Entries k more
+  unfolding entriesFault bodyPlace
+  entries-sound zero k e =
+      let p = refuse-answer (ltb (bodyPlace index k) n) 4 0 (bodyPlace index k) sound tt e in
+      let z : k + 0 ≡ k = omega arith in
+      record {
+        starts = λ i a b. absurd (omega arith);
+        ends = λ i a b. absurd (omega arith);
+        last = rw z (ltb-false (bodyPlace index k) n (p .0));
+      }
+  entries-sound (suc more) k e =
+      let p = refuse-answer (not (eqb (startOf index k) (bodyPlace index k))) 4 k (entryPlace k) _ tt e in
+      let q = refuse-answer (ltb n (bodyPlace index k + lengthOf index k)) 4 k (entryPlace k + 1) _ tt (p .1) in
+      let f = entries-sound more (suc k) (q .1) in
+      let here : startOf index k ≡ bodyPlace index k = not-equal (startOf index k) (bodyPlace index k) (p .0) in
+      let end : bodyPlace index (suc k) ≤ n = ltb-false n (bodyPlace index k + lengthOf index k) (q .0) in
+      let z : k + suc more ≡ suc k + more = omega arith in
+      record {
+        starts = λ i a b. first here (f .starts) i a (omega arith);
+        ends = λ i a b. later end (f .ends) i a (omega arith);
+        last = rw z (f .last);
+      }
+    where
+      first : startOf index k ≡ bodyPlace index k → ((i : ℕ) → suc k ≤ i → i < suc k + more → startOf index i ≡ bodyPlace index i) → (i : ℕ) → k ≤ i → i < suc k + more → startOf index i ≡ bodyPlace index i
+      first h g i a b = elim (decLe (suc k) i) [
+        | yes l ↦ g i l b
+        | no l ↦ let is : k ≡ i = omega arith in subst (λ (j : ℕ). startOf index j ≡ bodyPlace index j) is h
+      ]
+
+      later : bodyPlace index (suc k) ≤ n → ((i : ℕ) → suc k < i → i ≤ suc k + more → bodyPlace index i ≤ n) → (i : ℕ) → k < i → i ≤ suc k + more → bodyPlace index i ≤ n
+      later h g i a b = elim (decLe (suc (suc k)) i) [
+        | yes l ↦ g i l b
+        | no l ↦ let is : suc k ≡ i = omega arith in subst (λ (j : ℕ). bodyPlace index j ≤ n) is h
+      ]
+
+  sound-entries : (more k : ℕ) → Entries k more → entriesFault index k more (bodyPlace index k) ≡ sound
+  unfolding entriesFault bodyPlace
+  sound-entries zero k f =
+      let z : k + 0 ≡ k = omega arith in
+      let h : n ≤ bodyPlace index k = rw z at (f .last) in
+      let-through (ltb (bodyPlace index k) n) 4 0 (bodyPlace index k) sound (le-ltb (bodyPlace index k) n h) refl
+  sound-entries (suc more) k f =
+      let z : k + suc more ≡ suc k + more = omega arith in
+      let s : startOf index k ≡ bodyPlace index k = f .starts k (omega arith) (omega arith) in
+      let e : bodyPlace index (suc k) ≤ n = f .ends (suc k) (omega arith) (omega arith) in
+      let-through (not (eqb (startOf index k) (bodyPlace index k))) 4 k (entryPlace k) _ (ap not (eq-eqb (startOf index k) (bodyPlace index k) s))
+      (let-through (ltb n (bodyPlace index k + lengthOf index k)) 4 k (entryPlace k + 1) _ (le-ltb n (bodyPlace index k + lengthOf index k) e)
+      (sound-entries more (suc k) (record { starts = λ i a b. f .starts i (omega arith) (omega arith); ends = λ i a b. f .ends i (omega arith) (omega arith); last = rw z at (f .last) })))
+
+  -- ---- the bodies
+
+  pub bodies-sound : (more k : ℕ) → bodiesFault index k more ≡ sound → (i : ℕ) → k ≤ i → i < k + more → SoundFacts (rowCount index) (bodyAt index i)
+  unfolding bodiesFault
+  bodies-sound zero k e i a b = absurd (omega arith)
+  bodies-sound (suc more) k e i a b =
+      let p = then-answer (bodyFault k (startOf index k) (rowCount index) (bodyAt index k)) (bodiesFault index (suc k) more) tt e in
+      elim (decLe (suc k) i) [
+        | yes l ↦ bodies-sound more (suc k) (p .1) i l (omega arith)
+        | no l ↦ let is : k ≡ i = omega arith in subst (λ (j : ℕ). SoundFacts (rowCount index) (bodyAt index j)) is (body-facts k (startOf index k) (rowCount index) (bodyAt index k) (p .0))
+      ]
+
+  sound-bodies : (more k : ℕ) → ((i : ℕ) → k ≤ i → i < k + more → SoundFacts (rowCount index) (bodyAt index i)) → bodiesFault index k more ≡ sound
+  unfolding bodiesFault
+  sound-bodies zero k f = refl
+  sound-bodies (suc more) k f =
+      then-sound (bodyFault k (startOf index k) (rowCount index) (bodyAt index k)) (bodiesFault index (suc k) more) (facts-body k (startOf index k) (rowCount index) (bodyAt index k) (f k (omega arith) (omega arith)))
+      ∙ sound-bodies more (suc k) (λ i a b. f i (omega arith) (omega arith))
+
+  -- ---- the index
+
+  within : entryPlace N ≤ n → Entries 0 N → (k : ℕ) → k ≤ N → bodyPlace index k ≤ n
+  unfolding bodyPlace
+  within h e zero l = h
+  within h e (suc k) l = e .ends (suc k) (omega arith) (omega arith)
+
+  index-facts : SoundIndex index → IndexFacts index
+  unfolding indexFault bodyPlace
+  index-facts s =
+      let p = then-answer (headFault index) (entriesFault index 0 N (entryPlace N) then bodiesFault index 0 N) tt s in
+      let q = then-answer (entriesFault index 0 N (entryPlace N)) (bodiesFault index 0 N) tt (p .1) in
+      let h = head-sound (p .0) in
+      let e = entries-sound N 0 (q .0) in
+      let z : 0 + N ≡ N = omega arith in
+      let last : n ≤ bodyPlace index N = rw z at (e .last) in
+      let low : bodyPlace index N ≤ n = within (h .contents) e N (omega arith) in
+      record {
+        few-words = h .few-words;
+        head = h .head;
+        kind = h .kind;
+        few-rows = h .few-rows;
+        few-bitmaps = h .few-bitmaps;
+        contents = h .contents;
+        starts = λ k l. e .starts k (omega arith) (omega arith);
+        ends = within (h .contents) e;
+        last-end = omega arith;
+        bodies = λ k l. bodies-sound N 0 (q .1) k (omega arith) (omega arith);
+      }
+
+  facts-index : IndexFacts index → SoundIndex index
+  unfolding indexFault bodyPlace
+  facts-index f =
+      let z : 0 + N ≡ N = omega arith in
+      let h : Head = record { few-words = f .few-words; head = f .head; kind = f .kind; few-rows = f .few-rows; few-bitmaps = f .few-bitmaps; contents = f .contents } in
+      let e : Entries 0 N = record { starts = λ i a b. f .starts i (omega arith); ends = λ i a b. f .ends i (omega arith); last = rw z (omega (arith, f .last-end)) } in
+      then-sound (headFault index) (entriesFault index 0 N (entryPlace N) then bodiesFault index 0 N) (sound-head h)
+      ∙ then-sound (entriesFault index 0 N (entryPlace N)) (bodiesFault index 0 N) (sound-entries N 0 e)
+      ∙ sound-bodies N 0 (λ i a b. f .bodies i (omega arith))
+
+pub index-means : IndexMeans
+index-means index = (index-facts index, facts-index index)
