@@ -2,5 +2,7 @@
 // Calls here have a `requires`; the public ones of `zvonurel` test their input first.
 pub mod check;
 pub mod cursor;
+pub mod expand;
 pub mod marker;
+pub mod query;
 pub mod refusal;

@@ -74,9 +74,13 @@ pub nth-holds : NthHolds
 unfolding nthBelow
 nth-holds R p n h = record { is = nth-is R p n h; only = λ r a. nth-only R p n r (lastBelow R (isNth p n)) a (nth-is R p n h) }
 
+-- fewer rows are set before a set row than in all
+pub nth-below : (R : ℕ) (p : ℕ → Bool) (n r : ℕ) → IsNth R p n r → n < countBelow R p
+nth-below R p n r a = omega (arith, count-later p r R (a .set) (a .below), a .before)
+
 -- a set row is the one that is asked for by the number of set rows before it
 pub nth-eq : (R : ℕ) (p : ℕ → Bool) (n r : ℕ) → IsNth R p n r → nthBelow R p n ≡ r
-nth-eq R p n r a = sym (nth-holds R p n (omega (arith, count-later p r R (a .set) (a .below), a .before)) .only r a)
+nth-eq R p n r a = sym (nth-holds R p n (nth-below R p n r a) .only r a)
 
 -- ---- the histogram
 

@@ -4,16 +4,18 @@ use Prim.Native.Nat.{ℕ, zero, suc, _+_, _-_, _*_, _/_, _%_, _^_, _≤_, _<_}
 use mathlib.Core.Bool.{Bool, true, false, true≢false}
 use mathlib.Core.Path.{_≡_, refl, sym, ap, _∙_}
 use mathlib.Core.List.{List, [], _∷_, _++_}
-use lib.ListN.{length, getD, take, replicate}
+use lib.ListN.{length, getD, take, drop, replicate, take-append-drop, length-append, length-replicate, getD-replicate, List·getD-append}
 use lib.Pow.{pow-pos, ones-split, high, ones-lt}
-use lib.Seq.{take-length}
-use native.Mathlib.Nat.{zero-div, div-add-mod', mod-lt, div-lt-iff-lt-mul, zero-mul, one-mul, suc-mul, add-mul}
+use lib.Seq.{take-length, getD-append-add}
+use native.Mathlib.Nat.{zero-div, div-add-mod', mod-lt, div-lt-iff-lt-mul, zero-mul, one-mul, suc-mul, add-mul, mul-le-mul-right}
 use native.Mathlib.Decide.{decLe}
+use native.Mathlib.Numerals.{add-one}
 use native.Mathlib.Omega.{arith}
-use Rattle.meaning.specs.Rows.{bit, sumBelow, countBelow, nthBelow}
-use Rattle.meaning.specs.Segment.{isSet, bitAt, hasRow, segmentCount, lastLimit, lastOf, fill, allSet}
+use Rattle.meaning.specs.Rows.{bit, sumBelow, countBelow}
+use Rattle.meaning.specs.Segment.{isSet, bitAt, hasRow, ones, segmentCount, lastLimit, lastOf, fill, allSet}
+use Rattle.meaning.specs.Demands.{IsNth}
 use Rattle.meaning.proofs.RowWords.{bit-le, rows-fit, pad-clear, has-at}
-use Rattle.meaning.proofs.Counted.{count-none, nth-holds, nth-eq}
+use Rattle.meaning.proofs.Counted.{count-none}
 
 -- ---- counts
 
@@ -67,11 +69,6 @@ fill-count w real (suc (suc v)) h = absurd (omega arith)
 
 -- ---- the set bits of a list of segments
 
--- how many bits of the segments are set
-unfoldable pub ones : (w : ℕ) → List ℕ → ℕ
-ones w [] = 0
-ones w (x ∷ xs) = countBelow w (isSet x) + ones w xs
-
 pub ones-nil : (w : ℕ) → ones w [] ≡ 0
 unfolding ones
 ones-nil w = refl
@@ -97,10 +94,19 @@ ones-take-suc w [] (suc i) = omega (arith, zero-count w)
 ones-take-suc w (x ∷ xs) zero = omega arith
 ones-take-suc w (x ∷ xs) (suc i) = omega (arith, ones-take-suc w xs i)
 
+-- one segment more, as code counts them
+pub ones-next : (w : ℕ) (xs : List ℕ) (i : ℕ) → ones w (take (i + 1) xs) ≡ ones w (take i xs) + countBelow w (isSet (getD xs i 0))
+ones-next w xs i = rw (add-one i) (ones-take-suc w xs i)
+
 pub ones-le : (w : ℕ) (xs : List ℕ) → ones w xs ≤ length xs * w
 unfolding ones
 ones-le w [] = omega arith
 ones-le w (x ∷ xs) = rw suc-mul (omega (arith, ones-le w xs, count-le w (isSet x)))
+
+pub ones-take-le : (w : ℕ) (xs : List ℕ) (i : ℕ) → ones w (take i xs) ≤ length xs * w
+ones-take-le w xs i =
+    let l : ones w (take i xs) + ones w (drop i xs) ≡ ones w xs = sym (ones-append w (take i xs) (drop i xs)) ∙ ap (ones w) (take-append-drop i xs) in
+    omega (arith, ones-le w xs)
 
 -- ---- rows counted segment by segment
 
@@ -124,6 +130,79 @@ module _ (w : ℕ) (pos : 0 < w) where
   pub ones-count : (xs : List ℕ) → countBelow (length xs * w) (hasRow w xs) ≡ ones w xs
   ones-count xs = whole-segments xs (length xs) ∙ ap (ones w) (take-length xs)
 
+  -- ---- segments behind others, and the nth set bit of them as a row
+
+  has-left : (xs ys : List ℕ) (r : ℕ) → r < length xs * w → hasRow w (xs ++ ys) r ≡ hasRow w xs r
+  unfolding hasRow
+  has-left xs ys r h = rw (List·getD-append xs ys 0 (r / w) (div-lt-iff-lt-mul pos .1 h))
+
+  has-right : (xs ys : List ℕ) (r : ℕ) → hasRow w (xs ++ ys) (length xs * w + r) ≡ hasRow w ys r
+  has-right xs ys r =
+      let l : r % w < w = mod-lt r pos in
+      let e : length xs * w + r ≡ (length xs + r / w) * w + r % w = rw (add-mul (length xs) (r / w) w) (omega (arith, div-add-mod' r w)) in
+      rw (e, has-at w pos (xs ++ ys) (length xs + r / w) (r % w) l, getD-append-add xs ys (r / w) 0)
+      (sym (has-at w pos ys (r / w) (r % w) l) ∙ ap (hasRow w ys) (div-add-mod' r w))
+
+  count-left : (xs ys : List ℕ) (r : ℕ) → r ≤ length xs * w → countBelow r (hasRow w (xs ++ ys)) ≡ countBelow r (hasRow w xs)
+  count-left xs ys r h = count-ext r (hasRow w (xs ++ ys)) (hasRow w xs) (λ k g. has-left xs ys k (omega arith))
+
+  pub nth-left : (xs ys : List ℕ) (n r : ℕ) → IsNth (length xs * w) (hasRow w xs) n r → IsNth (length (xs ++ ys) * w) (hasRow w (xs ++ ys)) n r
+  nth-left xs ys n r a =
+      let l : r < length xs * w = a .below in
+      record {
+        below = rw (length-append xs ys, add-mul (length xs) (length ys) w) (omega arith);
+        set = has-left xs ys r l ∙ a .set;
+        before = count-left xs ys r (omega arith) ∙ a .before;
+      }
+
+  pub nth-right : (xs ys : List ℕ) (n r : ℕ) → IsNth (length ys * w) (hasRow w ys) n r
+      → IsNth (length (xs ++ ys) * w) (hasRow w (xs ++ ys)) (ones w xs + n) (length xs * w + r)
+  nth-right xs ys n r a =
+      record {
+        below = rw (length-append xs ys, add-mul (length xs) (length ys) w) (omega (arith, a .below));
+        set = has-right xs ys r ∙ a .set;
+        before =
+            omega (
+              arith,
+              count-add (length xs * w) r (hasRow w (xs ++ ys)),
+              count-left xs ys (length xs * w) (omega arith),
+              ones-count xs,
+              count-ext r (λ k. hasRow w (xs ++ ys) (length xs * w + k)) (hasRow w ys) (λ k g. has-right xs ys k),
+              a .before,
+            );
+      }
+
+  -- in segment i
+  pub nth-word : (xs : List ℕ) (i n j : ℕ) → i < length xs → IsNth w (isSet (getD xs i 0)) n j → IsNth (length xs * w) (hasRow w xs) (ones w (take i xs) + n) (i * w + j)
+  unfolding isSet bitAt
+  nth-word xs i n j h a =
+      record {
+        below = omega (arith, mul-le-mul-right w h, suc-mul i w, a .below);
+        set = has-at w pos xs i j (a .below) ∙ a .set;
+        before = omega (arith, before-segment xs i j (omega (arith, a .below)), a .before);
+      }
+
+  -- in a run of ones
+  full-at : (c r : ℕ) → r < c * w → hasRow w (replicate c (2 ^ w - 1)) r ≡ true
+  unfolding hasRow
+  full-at c r h = rw (getD-replicate c (r / w) (2 ^ w - 1) 0 (div-lt-iff-lt-mul pos .1 h)) (full-set w (r % w) (mod-lt r pos))
+
+  nth-full : (c n : ℕ) → n < c * w → IsNth (length (replicate c (2 ^ w - 1)) * w) (hasRow w (replicate c (2 ^ w - 1))) n n
+  nth-full c n h =
+      record {
+        below = rw (length-replicate c (2 ^ w - 1)) h;
+        set = full-at c n h;
+        before = count-all n (hasRow w (replicate c (2 ^ w - 1))) (λ r g. full-at c r (omega arith));
+      }
+
+  -- in a clean run
+  pub nth-run : (c real v n : ℕ) → v < 2 → n < ones w (replicate c (fill w real v))
+      → IsNth (length (replicate c (fill w real v)) * w) (hasRow w (replicate c (fill w real v))) n n
+  unfolding fill allSet
+  nth-run c real zero n h g = absurd (omega (arith, rw (ones-replicate, fill-count) at g))
+  nth-run c real (suc zero) n h g = rw (one-mul (2 ^ w - 1)) (nth-full c n (rw (ones-replicate, fill-count, one-mul w) at g))
+  nth-run c real (suc (suc v)) n h g = absurd (omega arith)
+
   -- R rows in segments with no pad bit set
   module _ (R : ℕ) (xs : List ℕ) (count : length xs ≡ segmentCount w R) (pads : lastOf xs < lastLimit w R) where
     pub count-rows : countBelow R (hasRow w xs) ≡ ones w xs
@@ -139,26 +218,6 @@ module _ (w : ℕ) (pos : 0 < w) where
     pub set-below : (r : ℕ) → hasRow w xs r ≡ true → r < R
     set-below r h = elim (decLe R r) [ yes g ↦ absurd (true≢false (sym h ∙ pad-clear w pos R xs count pads r g)) | no g ↦ omega arith ]
 
-    nth-set : (n r : ℕ) → hasRow w xs r ≡ true → countBelow r (hasRow w xs) ≡ n → nthBelow R (hasRow w xs) n ≡ r
-    nth-set n r h e = nth-eq R (hasRow w xs) n r (record { below = set-below r h; set = h; before = e })
-
-    -- segment i, with k set bits before the one that is asked for
-    pub nth-in-segment : (n i k : ℕ) → ones w (take i xs) + k ≡ n → k < countBelow w (isSet (getD xs i 0))
-        → nthBelow R (hasRow w xs) n ≡ i * w + nthBelow w (isSet (getD xs i 0)) k
-    unfolding isSet bitAt
-    nth-in-segment n i k e h =
-        let a = nth-holds w (isSet (getD xs i 0)) k h .is in
-        nth-set n (i * w + nthBelow w (isSet (getD xs i 0)) k) (has-at w pos xs i (nthBelow w (isSet (getD xs i 0)) k) (a .below) ∙ a .set)
-        (omega (arith, before-segment xs i (nthBelow w (isSet (getD xs i 0)) k) (omega (arith, a .below)), a .before))
-
-    -- c segments from i on have all bits set
-    pub nth-in-run : (n i c k : ℕ) → ((d : ℕ) → d < c → getD xs (i + d) 0 ≡ 2 ^ w - 1) → ones w (take i xs) + k ≡ n → k < c * w
-        → nthBelow R (hasRow w xs) n ≡ i * w + k
-    unfolding isSet bitAt
-    nth-in-run n i c k run e h =
-        nth-set n (i * w + k) (set k h) (omega (arith, count-add (i * w) k (hasRow w xs), whole-segments xs i, count-all k (λ r. hasRow w xs (i * w + r)) (λ r g. set r (omega arith))))
-      where
-        set : (r : ℕ) → r < c * w → hasRow w xs (i * w + r) ≡ true
-        set r g =
-            let e : i * w + r ≡ (i + r / w) * w + r % w = rw (add-mul i (r / w) w) (omega (arith, div-add-mod' r w)) in
-            rw (e, has-at w pos xs (i + r / w) (r % w) (mod-lt r pos), run (r / w) (div-lt-iff-lt-mul pos .1 g)) (full-set w (r % w) (mod-lt r pos))
+    -- the nth set bit is the nth set row
+    pub nth-row : (n r : ℕ) → IsNth (length xs * w) (hasRow w xs) n r → IsNth R (hasRow w xs) n r
+    nth-row n r a = record { below = set-below r (a .set); set = a .set; before = a .before }

@@ -14,7 +14,7 @@ use Rattle.meaning.specs.Segment.{segmentCount}
 use Rattle.meaning.specs.Refusal.{sound, _then_}
 use Rattle.meaning.specs.Ewah.{bodyFault}
 use Rattle.meaning.specs.Index.{rowCount, bitmapCount, entryPlace, startOf, lengthOf, bodyPlace, bodyAt, headFault, entriesFault, bodiesFault, indexFault, SoundIndex}
-use Rattle.meaning.specs.Laws.{SoundFacts, IndexFacts, IndexMeans}
+use Rattle.meaning.specs.Laws.{SoundFacts, HeadFacts, EntryFacts, IndexFacts, IndexMeans}
 use Rattle.meaning.proofs.Decoded.{sound-whole, whole-sound, let-through}
 use Rattle.meaning.proofs.Outcomes.{refuse-answer, then-answer, then-sound}
 
@@ -42,17 +42,9 @@ module _ (index : List ℕ) where
 
   -- ---- the head
 
-  record Head : Type 0 where
-    few-words : n ≤ mostIndexWords
-    head : headWords ≤ n
-    kind : getD index 0 0 ≡ indexKind
-    few-rows : rowCount index ≤ mostRows
-    few-bitmaps : N ≤ mostBitmaps
-    contents : entryPlace N ≤ n
-
-  head-sound : headFault index ≡ sound → Head
+  pub head-facts : headFault index ≡ sound → HeadFacts index
   unfolding headFault
-  head-sound e =
+  head-facts e =
       let a = refuse-answer (ltb mostIndexWords n) 3 0 0 _ tt e in
       let b = refuse-answer (ltb n headWords) 1 0 n _ tt (a .1) in
       let c = refuse-answer (not (eqb (getD index 0 0) indexKind)) 2 0 0 _ tt (b .1) in
@@ -68,9 +60,9 @@ module _ (index : List ℕ) where
         contents = ltb-false n (entryPlace N) (g .0);
       }
 
-  sound-head : Head → headFault index ≡ sound
+  facts-head : HeadFacts index → headFault index ≡ sound
   unfolding headFault
-  sound-head h =
+  facts-head h =
       let-through (ltb mostIndexWords n) 3 0 0 _ (le-ltb mostIndexWords n (h .few-words))
       (let-through (ltb n headWords) 1 0 n _ (le-ltb n headWords (h .head))
       (let-through (not (eqb (getD index 0 0) indexKind)) 2 0 0 _ (ap not (eq-eqb (getD index 0 0) indexKind (h .kind)))
@@ -162,37 +154,38 @@ module _ (index : List ℕ) where
   within h e zero l = h
   within h e (suc k) l = e .ends (suc k) (omega arith) (omega arith)
 
-  index-facts : SoundIndex index → IndexFacts index
-  unfolding indexFault bodyPlace
-  index-facts s =
-      let p = then-answer (headFault index) (entriesFault index 0 N (entryPlace N) then bodiesFault index 0 N) tt s in
-      let q = then-answer (entriesFault index 0 N (entryPlace N)) (bodiesFault index 0 N) tt (p .1) in
-      let h = head-sound (p .0) in
-      let e = entries-sound N 0 (q .0) in
+  pub entry-facts : HeadFacts index → entriesFault index 0 N (entryPlace N) ≡ sound → EntryFacts index
+  unfolding bodyPlace
+  entry-facts h s =
+      let e = entries-sound N 0 s in
       let z : 0 + N ≡ N = omega arith in
       let last : n ≤ bodyPlace index N = rw z at (e .last) in
       let low : bodyPlace index N ≤ n = within (h .contents) e N (omega arith) in
       record {
-        few-words = h .few-words;
-        head = h .head;
-        kind = h .kind;
-        few-rows = h .few-rows;
-        few-bitmaps = h .few-bitmaps;
-        contents = h .contents;
         starts = λ k l. e .starts k (omega arith) (omega arith);
         ends = within (h .contents) e;
         last-end = omega arith;
-        bodies = λ k l. bodies-sound N 0 (q .1) k (omega arith) (omega arith);
       }
 
-  facts-index : IndexFacts index → SoundIndex index
-  unfolding indexFault bodyPlace
-  facts-index f =
+  facts-entry : EntryFacts index → entriesFault index 0 N (entryPlace N) ≡ sound
+  unfolding bodyPlace
+  facts-entry f =
       let z : 0 + N ≡ N = omega arith in
-      let h : Head = record { few-words = f .few-words; head = f .head; kind = f .kind; few-rows = f .few-rows; few-bitmaps = f .few-bitmaps; contents = f .contents } in
-      let e : Entries 0 N = record { starts = λ i a b. f .starts i (omega arith); ends = λ i a b. f .ends i (omega arith); last = rw z (omega (arith, f .last-end)) } in
-      then-sound (headFault index) (entriesFault index 0 N (entryPlace N) then bodiesFault index 0 N) (sound-head h)
-      ∙ then-sound (entriesFault index 0 N (entryPlace N)) (bodiesFault index 0 N) (sound-entries N 0 e)
+      sound-entries N 0 (record { starts = λ i a b. f .starts i (omega arith); ends = λ i a b. f .ends i (omega arith); last = rw z (omega (arith, f .last-end)) })
+
+  index-facts : SoundIndex index → IndexFacts index
+  unfolding indexFault
+  index-facts s =
+      let p = then-answer (headFault index) (entriesFault index 0 N (entryPlace N) then bodiesFault index 0 N) tt s in
+      let q = then-answer (entriesFault index 0 N (entryPlace N)) (bodiesFault index 0 N) tt (p .1) in
+      let h = head-facts (p .0) in
+      record { head = h; entries = entry-facts h (q .0); bodies = λ k l. bodies-sound N 0 (q .1) k (omega arith) (omega arith) }
+
+  facts-index : IndexFacts index → SoundIndex index
+  unfolding indexFault
+  facts-index f =
+      then-sound (headFault index) (entriesFault index 0 N (entryPlace N) then bodiesFault index 0 N) (facts-head (f .head))
+      ∙ then-sound (entriesFault index 0 N (entryPlace N)) (bodiesFault index 0 N) (facts-entry (f .entries))
       ∙ sound-bodies N 0 (λ i a b. f .bodies i (omega arith))
 
 pub index-means : IndexMeans

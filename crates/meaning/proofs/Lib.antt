@@ -15,5 +15,7 @@ pub mod Enough
 pub mod Demanded
 pub mod Counted
 pub mod Counting
+pub mod Asked
+pub mod Parts
 pub mod Cases
 pub mod Corners

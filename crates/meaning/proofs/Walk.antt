@@ -1,12 +1,12 @@
 -- A body is walked from marker to marker: what a marker's run and dirty words stand for, and the faults that can lie there.
 -- Assumes nothing.
 use Prim.Native.Nat.{ℕ, zero, suc, _+_, _-_, _≤_, _<_}
-use mathlib.Core.Bool.{Bool, false}
-use mathlib.Core.Path.{_≡_, refl, sym, ap, _∙_}
-use mathlib.Core.List.{List, [], _∷_, _++_}
-use lib.Dec.{leb, ltb, eqb·suc-suc}
-use lib.ListN.{length, take, drop, getD, replicate, length-append, length-replicate, length-drop, drop-of-length-le}
-use lib.Seq.{drop-cons, take-at, drop-at, drop-drop, length-take-le}
+use mathlib.Core.Bool.{Bool, true, false, _&&_}
+use mathlib.Core.Path.{_≡_, refl, sym, ap, ap₂, _∙_}
+use mathlib.Core.List.{List, [], _∷_, _++_, append-assoc}
+use lib.Dec.{eqb, leb, ltb, eqb·suc-suc}
+use lib.ListN.{length, take, drop, getD, replicate, length-append, length-replicate, length-drop, getD-replicate, drop-of-length-le}
+use lib.Seq.{drop-cons, take-at, drop-at, drop-drop, length-take-le, getD-take, getD-drop, take-add}
 use native.Mathlib.Omega.{arith}
 use native.Mathlib.Numerals.{add-one}
 use borrow.Author.Tests.{lt-ltb, le-ltb, ne-eqb, eq-eqb}
@@ -135,3 +135,43 @@ at-marker b i o a h =
       words = record { inside = omega arith; passed = p .0; ended = due; rest = p .2 };
       next = record { inside = omega arith; passed = q .0; ended = rw (← e) (sym (due-dirty-words d ws few) ∙ due); rest = rw (← e) (q .2) };
     }
+
+-- ---- a step of the walk, over a marker whose fields were read
+
+-- the marker at word i, with o segments behind, has the value v, c clean segments and d dirty words
+pub record Step (b : List ℕ) (i o v c d : ℕ) : Type 0 where
+  pub fits : i + 1 + d ≤ length b
+  pub counts : o + c + d ≤ length (segments b)
+  -- each segment of its run and of its dirty words
+  pub run-at : (k : ℕ) → k < c → getD (segments b) (o + k) 0 ≡ fill 32 32 v
+  pub dirty-at : (k : ℕ) → k < d → getD (segments b) (o + c + k) 0 ≡ getD b (i + 1 + k) 0
+  -- the segments up to the next marker
+  pub more : take (o + c + d) (segments b) ≡ take o (segments b) ++ (replicate c (fill 32 32 v) ++ take d (drop (i + 1) b))
+  pub next : At b (i + 1 + d) 0 (o + c + d)
+
+step-fields : (b : List ℕ) (i o : ℕ) → Marked b i o → Step b i o (valueOf (getD b i 0)) (cleanOf (getD b i 0)) (dirtyOf (getD b i 0))
+step-fields b i o m =
+    let s = segments b in
+    let c = cleanOf (getD b i 0) in
+    let d = dirtyOf (getD b i 0) in
+    let x = fill 32 32 (valueOf (getD b i 0)) in
+    record {
+      fits = m .fits;
+      counts = m .counts;
+      run-at = λ k h. sym (getD-drop o s k 0) ∙ sym (getD-take c (drop o s) k 0 h) ∙ ap (λ (l : List ℕ). getD l k 0) (m .run) ∙ getD-replicate c k x 0 h;
+      dirty-at = λ k h.
+          sym (getD-drop (o + c) s k 0)
+          ∙ sym (getD-take d (drop (o + c) s) k 0 h)
+          ∙ ap (λ (l : List ℕ). getD l k 0) (m .dirty)
+          ∙ getD-take d (drop (i + 1) b) k 0 h
+          ∙ getD-drop (i + 1) b k 0;
+      more =
+          take-add (o + c) d s
+          ∙ ap₂ (λ (k l : List ℕ). k ++ l) (take-add o c s ∙ ap (λ (l : List ℕ). take o s ++ l) (m .run)) (m .dirty)
+          ∙ append-assoc (take o s) (replicate c x) (take d (drop (i + 1) b));
+      next = m .next;
+    }
+
+pub step : (b : List ℕ) (i o v c d : ℕ) → At b i 0 o → i < length b
+    → v ≡ valueOf (getD b i 0) → c ≡ cleanOf (getD b i 0) → d ≡ dirtyOf (getD b i 0) → Step b i o v c d
+step b i o v c d a h ev ec ed = rw (ev, ec, ed) (step-fields b i o (at-marker b i o a h))

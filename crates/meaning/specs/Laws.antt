@@ -41,19 +41,25 @@ pub record BodyLaws : Type 0 where
 
 -- ---- an index
 
--- the plain facts of a sound index
-pub record IndexFacts (index : List ℕ) : Type 0 where
+-- the plain facts of a sound index: of its head and the room for its contents,
+pub record HeadFacts (index : List ℕ) : Type 0 where
   pub few-words : length index ≤ mostIndexWords
   pub head : headWords ≤ length index
   pub kind : getD index 0 0 ≡ indexKind
   pub few-rows : rowCount index ≤ mostRows
   pub few-bitmaps : bitmapCount index ≤ mostBitmaps
   pub contents : entryPlace (bitmapCount index) ≤ length index
-  -- every body starts where the one before ends, lies within the index, and the last end is the index's
+
+-- of its entries: every body starts where the one before ends and lies within the index, and the last end is the index's,
+pub record EntryFacts (index : List ℕ) : Type 0 where
   pub starts : (k : ℕ) → k < bitmapCount index → startOf index k ≡ bodyPlace index k
   pub ends : (k : ℕ) → k ≤ bitmapCount index → bodyPlace index k ≤ length index
   pub last-end : bodyPlace index (bitmapCount index) ≡ length index
-  -- and is sound
+
+-- and of its bodies: each is sound
+pub record IndexFacts (index : List ℕ) : Type 0 where
+  pub head : HeadFacts index
+  pub entries : EntryFacts index
   pub bodies : (k : ℕ) → k < bitmapCount index → SoundFacts (rowCount index) (bodyAt index k)
 
 -- an index is sound exactly if these facts hold

@@ -6,7 +6,7 @@ use mathlib.Core.Bool.{Bool, cond, _&&_}
 use mathlib.Core.List.{List, [], _∷_}
 use lib.Dec.{eqb, leb, ltb}
 use lib.ListN.{getD}
-use Rattle.meaning.specs.Rows.{bit}
+use Rattle.meaning.specs.Rows.{bit, countBelow}
 
 -- ---- rows and segments
 
@@ -31,6 +31,12 @@ isSet x j = eqb (bitAt x j) 1
 unfoldable pub hasRow : (w : ℕ) → List ℕ → (r : ℕ) → Bool
 unfolding isSet
 hasRow w segs r = isSet (getD segs (r / w) 0) (r % w)
+
+-- how many bits of the segments are set
+unfoldable pub ones : (w : ℕ) → List ℕ → ℕ
+unfolding isSet countBelow
+ones w [] = 0
+ones w (x ∷ xs) = countBelow w (isSet x) + ones w xs
 
 -- the word whose n bits are q 0, q 1, .. , the lowest first
 unfoldable pub wordOf : ℕ → (ℕ → Bool) → ℕ

@@ -1,0 +1,65 @@
+-- Questions on one sound body, answered from the set bits of its segments.
+-- Assumes nothing.
+use Prim.Native.Nat.{ℕ, _+_, _*_, _≤_}
+use mathlib.Core.Path.{_≡_, sym, ap, _∙_, subst}
+use mathlib.Core.List.{List, _++_, append-assoc}
+use lib.Dec.{lit<}
+use lib.ListN.{length, take, drop, replicate, take-append-drop}
+use lib.Seq.{length-take-le}
+use native.Mathlib.Omega.{arith}
+use borrow.Author.Tests.{le-leb, lt-leb}
+use Rattle.meaning.specs.Rows.{countBelow}
+use Rattle.meaning.specs.Segment.{hasRow, ones, fill}
+use Rattle.meaning.specs.Refusal.{refused, answer, refuseIf}
+use Rattle.meaning.specs.Ewah.{segments, rowsOf}
+use Rattle.meaning.specs.Answer.{askNth}
+use Rattle.meaning.specs.Demands.{IsNth}
+use Rattle.meaning.specs.Laws.{SoundFacts}
+use Rattle.meaning.proofs.Counted.{nth-eq, nth-below}
+use Rattle.meaning.proofs.Counting.{ones-append, count-rows, nth-row, nth-left, nth-right}
+use Rattle.meaning.proofs.Walk.{Step}
+
+-- ---- the set bits of the segments behind a walk
+
+pub ones-step : (b : List ℕ) (i o v c d : ℕ) → Step b i o v c d
+    → ones 32 (take (o + c + d) (segments b)) ≡ ones 32 (take o (segments b)) + ones 32 (replicate c (fill 32 32 v) ++ take d (drop (i + 1) b))
+ones-step b i o v c d s = rw (s .more) (ones-append 32 (take o (segments b)) (replicate c (fill 32 32 v) ++ take d (drop (i + 1) b)))
+
+-- the marker's segments, between those behind and those ahead
+between : (b : List ℕ) (i o v c d : ℕ) → Step b i o v c d
+    → segments b ≡ take o (segments b) ++ (replicate c (fill 32 32 v) ++ take d (drop (i + 1) b) ++ drop (o + c + d) (segments b))
+between b i o v c d s =
+    let run = replicate c (fill 32 32 v) ++ take d (drop (i + 1) b) in
+    let ahead = drop (o + c + d) (segments b) in
+    sym (take-append-drop (o + c + d) (segments b)) ∙ ap (λ (l : List ℕ). l ++ ahead) (s .more) ∙ append-assoc (take o (segments b)) run ahead
+
+pub nth-step : (b : List ℕ) (i o v c d : ℕ) → Step b i o v c d → (k r : ℕ)
+    → let xs = replicate c (fill 32 32 v) ++ take d (drop (i + 1) b) in
+    IsNth (length xs * 32) (hasRow 32 xs) k r
+    → IsNth (length (segments b) * 32) (hasRow 32 (segments b)) (ones 32 (take o (segments b)) + k) (o * 32 + r)
+nth-step b i o v c d s k r a =
+    let t = take o (segments b) in
+    let xs = replicate c (fill 32 32 v) ++ take d (drop (i + 1) b) in
+    let ahead = drop (o + c + d) (segments b) in
+    let n : length t ≡ o = length-take-le o (segments b) (omega (arith, s .counts)) in
+    let all : IsNth (length (t ++ (xs ++ ahead)) * 32) (hasRow 32 (t ++ (xs ++ ahead))) (ones 32 t + k) (length t * 32 + r) =
+    nth-right 32 (lit< tt) t (xs ++ ahead) k r (nth-left 32 (lit< tt) xs ahead k r a) in
+    subst (λ (l : List ℕ). IsNth (length l * 32) (hasRow 32 l) (ones 32 t + k) (o * 32 + r)) (sym (between b i o v c d s)) (rw n at all)
+
+-- ---- a sound body of R rows
+
+module _ (R : ℕ) (b : List ℕ) (s : SoundFacts R b) where
+  -- the set rows are the set bits
+  pub rows-count : countBelow R (rowsOf b) ≡ ones 32 (segments b)
+  unfolding rowsOf
+  rows-count = count-rows 32 (lit< tt) R (segments b) (s .count) (s .pads)
+
+  pub nth-found : (n r : ℕ) → IsNth (length (segments b) * 32) (hasRow 32 (segments b)) n r → askNth R (rowsOf b) n ≡ answer r
+  unfolding rowsOf askNth refuseIf
+  nth-found n r a =
+      let i : IsNth R (hasRow 32 (segments b)) n r = nth-row 32 (lit< tt) R (segments b) (s .count) (s .pads) n r a in
+      rw (lt-leb (countBelow R (hasRow 32 (segments b))) n (nth-below R (hasRow 32 (segments b)) n r i), nth-eq R (hasRow 32 (segments b)) n r i)
+
+  pub nth-past : (n : ℕ) → ones 32 (segments b) ≤ n → askNth R (rowsOf b) n ≡ refused 8 0 0
+  unfolding askNth refuseIf
+  nth-past n h = rw (rows-count, le-leb (ones 32 (segments b)) n h)
