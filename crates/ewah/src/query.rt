@@ -3,6 +3,7 @@ ghost use mathlib.Core.Path.{_≡_};
 ghost use mathlib.Core.List.{_++_};
 ghost use Prim.Native.Nat.{ℕ, _*_, _≤_, _<_};
 ghost use lib.ListN.{length, getD, replicate};
+ghost use Rattle.meaning.specs.Limits.{mostSegments};
 ghost use Rattle.meaning.specs.Rows.{countBelow};
 ghost use Rattle.meaning.specs.Segment.{hasRow, ones, fill};
 ghost use Rattle.meaning.specs.Ewah.{segments, rowsOf, dueAfter};
@@ -47,7 +48,7 @@ pub fn row(body: &[u32], r: u32) -> bool
 
 // How many bits of the words are set.
 fn count_words(ws: &[u32]) -> u32
-    requires { ⌜ length (now ws) ≤ 524288 ⌝ }
+    requires { ⌜ length (now ws) ≤ mostSegments ⌝ }
     ensures { λ r. ⌜ r ≡ ones 32 (now (ws .entry)) ⌝ }
 {
     let mut n = 0;
@@ -69,7 +70,7 @@ fn count_run(value: u32, clean: u32) -> u32
 
 // How many rows are set.
 pub fn count(body: &[u32]) -> u32
-    requires { ⌜ (dueAfter 0 (now body) ≡ 0) × (length (segments (now body)) ≤ 524288) ⌝ }
+    requires { ⌜ (dueAfter 0 (now body) ≡ 0) × (length (segments (now body)) ≤ mostSegments) ⌝ }
     ensures { λ r. ⌜ ((R : ℕ) → SoundFacts R (now (body .entry)) → r ≡ countBelow R (rowsOf (now (body .entry)))) ⌝ }
 {
     let mut n = 0;
@@ -86,7 +87,7 @@ pub fn count(body: &[u32]) -> u32
 
 // The set bit of the words that has k set bits before it, as a row of theirs.
 fn find(ws: &[u32], k: u32) -> u32
-    requires { ⌜ (length (now ws) ≤ 524288) × (k < ones 32 (now ws)) ⌝ }
+    requires { ⌜ (length (now ws) ≤ mostSegments) × (k < ones 32 (now ws)) ⌝ }
     ensures { λ r. ⌜ IsNth (length (now (ws .entry)) * 32) (hasRow 32 (now (ws .entry))) k r ⌝ }
 {
     let mut ahead = k;
@@ -133,7 +134,7 @@ pub enum Found {
 
 // The nth set row, from 0.
 pub fn nth(body: &[u32], n: u32) -> Found
-    requires { ⌜ (dueAfter 0 (now body) ≡ 0) × (length (segments (now body)) ≤ 524288) ⌝ }
+    requires { ⌜ (dueAfter 0 (now body) ≡ 0) × (length (segments (now body)) ≤ mostSegments) ⌝ }
     ensures { λ r. ⌜ ((R : ℕ) → SoundFacts R (now (body .entry)) → foundOf r ≡ askNth R (rowsOf (now (body .entry))) n) ⌝ }
 {
     let mut at = 0;

@@ -1,10 +1,10 @@
 -- A body is walked from marker to marker: what a marker's run and dirty words stand for, and the faults that can lie there.
 -- Assumes nothing.
 use Prim.Native.Nat.{ℕ, zero, suc, _+_, _-_, _≤_, _<_}
-use mathlib.Core.Bool.{Bool, true, false, _&&_}
+use mathlib.Core.Bool.{Bool, false}
 use mathlib.Core.Path.{_≡_, refl, sym, ap, ap₂, _∙_}
 use mathlib.Core.List.{List, [], _∷_, _++_, append-assoc}
-use lib.Dec.{eqb, leb, ltb, eqb·suc-suc}
+use lib.Dec.{leb, ltb, eqb·suc-suc}
 use lib.ListN.{length, take, drop, getD, replicate, length-append, length-replicate, length-drop, getD-replicate, drop-of-length-le}
 use lib.Seq.{drop-cons, take-at, drop-at, drop-drop, length-take-le, getD-take, getD-drop, take-add}
 use native.Mathlib.Omega.{arith}

@@ -6,6 +6,10 @@ use Prim.Native.Nat.{ℕ}
 abbrev pub mostRows : ℕ
 mostRows = 16777216
 
+-- the segments of the most rows
+abbrev pub mostSegments : ℕ
+mostSegments = 524288
+
 -- The index: the greatest number N of bitmaps
 abbrev pub mostBitmaps : ℕ
 mostBitmaps = 64

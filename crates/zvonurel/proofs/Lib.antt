@@ -1,2 +1,3 @@
 pub mod Tells
 pub mod Alone
+pub mod Asks

@@ -9,9 +9,11 @@ ghost use Rattle.meaning.specs.Answer as meaning;
 ghost use Rattle.ewah.specs.Told.{verdictOf};
 ghost use Rattle.zvonurel.specs.Told.{flagOf, numberOf, Wrote};
 use ewah::check::check;
+use ewah::query;
 use meaning::MOST_ROWS;
 
 mod answer;
+mod ask;
 
 pub use crate::answer::Flag;
 pub use crate::answer::Number;
@@ -29,4 +31,48 @@ pub fn check_body(body: &[u32], rows: u32) -> Checked
         return Checked::Refused(answer::too_many_rows());
     }
     check(body, rows, 0, 0)
+}
+
+// Whether a row is set.
+pub fn body_row(body: &[u32], rows: u32, row: u32) -> Flag
+    ensures { λ r. ⌜ flagOf r ≡ meaning.bodyRow rows (now (body .entry)) row ⌝ }
+{
+    let checked = check_body(body, rows);
+    match checked {
+        Checked::Refused(refusal) => Flag::Refused(refusal),
+        Checked::Sound => ask::row(body, rows, row),
+    }
+}
+
+// How many rows are set.
+pub fn body_count(body: &[u32], rows: u32) -> Number
+    ensures { λ r. ⌜ numberOf r ≡ meaning.bodyCount rows (now (body .entry)) ⌝ }
+{
+    let checked = check_body(body, rows);
+    match checked {
+        Checked::Refused(refusal) => Number::Refused(refusal),
+        Checked::Sound => Number::Is(query::count(body)),
+    }
+}
+
+// The nth set row, counted from 0.
+pub fn body_nth(body: &[u32], rows: u32, n: u32) -> Number
+    ensures { λ r. ⌜ numberOf r ≡ meaning.bodyNth rows (now (body .entry)) n ⌝ }
+{
+    let checked = check_body(body, rows);
+    match checked {
+        Checked::Refused(refusal) => Number::Refused(refusal),
+        Checked::Sound => ask::nth(body, n),
+    }
+}
+
+// The body's rows as plain words, 32 rows to a word, the lowest bit first.
+pub fn expand(body: &[u32], rows: u32, out: &mut [u32]) -> Written
+    ensures { λ r. ⌜ Wrote (meaning.expand rows (now (body .entry)) (length (now (out .entry)))) r (now (out .entry)) (now (out .exit)) ⌝ }
+{
+    let checked = check_body(body, rows);
+    match checked {
+        Checked::Refused(refusal) => Written::Refused(refusal),
+        Checked::Sound => ask::plain(body, rows, out),
+    }
 }
