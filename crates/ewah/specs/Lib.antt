@@ -3,3 +3,4 @@ pub mod Told
 pub mod Checking
 pub mod Cursors
 pub mod Found
+pub mod Drafts

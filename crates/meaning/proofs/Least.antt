@@ -1,6 +1,6 @@
 -- The canonical form has the fewest words of any body that decodes to the same segments.
 -- Assumes nothing.
-use Prim.Native.Nat.{ℕ, zero, suc, _+_, _%_, _≤_, _<_}
+use Prim.Native.Nat.{ℕ, zero, suc, _+_, _%_, _≤_, _<_, _*_}
 use mathlib.Core.Bool.{Bool, true, false, cond, _&&_}
 use mathlib.Core.Path.{_≡_, refl, sym, ap, _∙_, subst}
 use mathlib.Core.List.{List, [], _∷_, _++_, map, foldl, foldl-append}
@@ -25,7 +25,7 @@ unfoldable pub taken : Draft → ℕ
 taken blank = mostDirty
 taken (draft done v c ds) = length ds
 
-size-draft : (done : List ℕ) (v c : ℕ) (ds : List ℕ) → size (draft done v c ds) ≡ length done + 1 + length ds
+pub size-draft : (done : List ℕ) (v c : ℕ) (ds : List ℕ) → size (draft done v c ds) ≡ length done + 1 + length ds
 unfolding size
 size-draft done v c ds = omega (arith, length-append done (marker v c (length ds) ∷ ds))
 
@@ -52,9 +52,9 @@ put-room (draft done v c ds) x h =
     rw (lt-ltb (length ds) mostDirty h)
     (omega (arith, size-draft done v c ds, size-draft done v c (ds ++ x ∷ []), length-append ds (x ∷ [])), omega (arith, length-append ds (x ∷ [])))
 
-put-full : (d : Draft) (x : ℕ) → mostDirty ≤ taken d → (size (put d (mixed x)) ≤ size d + 2) × (taken (put d (mixed x)) ≡ 1)
+put-full : (d : Draft) (x : ℕ) → mostDirty ≤ taken d → (size (put d (mixed x)) ≡ size d + 2) × (taken (put d (mixed x)) ≡ 1)
 unfolding put taken opened
-put-full blank x h = (omega (arith, size-draft [] 0 0 (x ∷ [])), refl)
+put-full blank x h = (unfold size in omega (arith, size-draft [] 0 0 (x ∷ [])), refl)
 put-full (draft done v c ds) x h =
     rw (le-ltb (length ds) mostDirty h)
     (unfold size in omega (arith, size-draft (body (draft done v c ds)) 0 0 (x ∷ [])), refl)
@@ -184,10 +184,30 @@ least b = least-reads b (map (kind 32 32) (segments b)) (decode-reads 0 b)
 
 pub put-two : (d : Draft) (s : Segment) → size (put d s) ≤ size d + 2
 put-two d (clean b) = omega (arith, put-clean d b .0)
-put-two d (mixed x) = elim (decLe mostDirty (taken d)) [ yes g ↦ put-full d x g .0 | no g ↦ omega (arith, put-room d x (omega arith) .0) ]
+put-two d (mixed x) = elim (decLe mostDirty (taken d)) [ yes g ↦ omega (arith, put-full d x g .0) | no g ↦ omega (arith, put-room d x (omega arith) .0) ]
 
 pub segment-adds : (d : Draft) (s : Segment) → length (body (put d s)) ≤ length (body d) + 2
 segment-adds d s = unfold size in put-two d s
+
+put-grows : (d : Draft) (s : Segment) → size d ≤ size (put d s)
+put-grows d (clean b) = go (put-either d b)
+  where
+    go : (size (put d (clean b)) ≡ size d) ⊎ (put d (clean b) ≡ draft (body d) b 1 []) → size d ≤ size (put d (clean b))
+    go (inl e) = omega arith
+    go (inr e) = rw e (unfold size in omega (arith, size-draft (body d) b 1 []))
+put-grows d (mixed x) = elim (decLe mostDirty (taken d)) [ yes g ↦ omega (arith, put-full d x g .0) | no g ↦ omega (arith, put-room d x (omega arith) .0) ]
+
+segment-grows : (d : Draft) (s : Segment) → length (body d) ≤ length (body (put d s))
+segment-grows d s = unfold size in put-grows d s
+
+-- no draft grows shorter
+pub puts-grow : (d : Draft) (ss : List Segment) → length (body d) ≤ length (body (foldl put d ss))
+puts-grow d [] = omega arith
+puts-grow d (s ∷ ss) = omega (arith, segment-grows d s, puts-grow (put d s) ss)
+
+pub puts-add : (d : Draft) (ss : List Segment) → length (body (foldl put d ss)) ≤ length (body d) + 2 * length ss
+puts-add d [] = omega arith
+puts-add d (s ∷ ss) = omega (arith, segment-adds d s, puts-add (put d s) ss)
 
 pub run-adds : (d : Draft) (v n : ℕ) → n ≤ mostClean → length (body (foldl put d (replicate n (clean v)))) ≤ length (body d) + 1
 run-adds d v zero h = omega arith

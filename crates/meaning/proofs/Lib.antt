@@ -4,6 +4,7 @@ pub mod Decoded
 pub mod Encoded
 pub mod Least
 pub mod Runs
+pub mod Prefixes
 pub mod Outcomes
 pub mod ByRuns
 pub mod CanonicalBody

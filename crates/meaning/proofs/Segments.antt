@@ -41,6 +41,10 @@ kind-fill w real zero h g = rw (eq-eqb (0 * allSet w real) 0 (omega arith))
 kind-fill w real (suc zero) h g = let p = ones-pos w real h in rw (ne-eqb (1 * allSet w real) 0 (omega arith), eq-eqb (1 * allSet w real) (allSet w real) (omega arith))
 kind-fill w real (suc (suc v)) h g = absurd (omega arith)
 
+pub kind-mixed : (w real x : ℕ) → (x ≡ 0 → ⊥) → (x ≡ allSet w real → ⊥) → kind w real x ≡ mixed x
+unfolding kind
+kind-mixed w real x h g = rw (ne-eqb x 0 h, ne-eqb x (allSet w real) g)
+
 pub word-kind : (w real x : ℕ) → word w real (kind w real x) ≡ x
 unfolding word kind fill
 word-kind w real x = go (eqb x 0) (eqb x (allSet w real)) refl refl

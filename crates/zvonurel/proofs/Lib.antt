@@ -1,3 +1,4 @@
 pub mod Tells
 pub mod Alone
 pub mod Asks
+pub mod Plain

@@ -4,16 +4,22 @@ ghost use Prim.Native.Nat.{ℕ, _≤_};
 ghost use lib.ListN.{length};
 ghost use Rattle.meaning.specs.Limits.{mostRows, mostSegments};
 ghost use Rattle.meaning.specs.Ewah.{rowsOf, segments, dueAfter};
+ghost use Rattle.meaning.specs.Segment.{hasRow};
 ghost use Rattle.meaning.specs.Laws.{SoundFacts};
+ghost use Rattle.meaning.specs.Demands.{PlainRows};
 ghost use Rattle.meaning.specs.Answer as meaning;
+ghost use Rattle.ewah.specs.Told.{verdictOf};
 ghost use Rattle.zvonurel.specs.Told.{flagOf, numberOf, Wrote};
 use crate::answer;
 use crate::answer::Flag;
 use crate::answer::Number;
 use crate::answer::Written;
+use ewah::compress;
 use ewah::expand;
 use ewah::query;
 use ewah::query::Found;
+use ewah::refusal::Checked;
+use meaning::MOST_ROWS;
 use words::rows;
 
 // Whether row r is set; 8 where there is none.
@@ -51,4 +57,35 @@ pub fn plain(body: &[u32], rows: u32, out: &mut [u32]) -> Written
     }
     expand::expand(body, out);
     Written::Words(need)
+}
+
+// The first fault of plain words.
+pub fn check_plain(plain: &[u32], rows: u32) -> Checked
+    ensures { λ r. ⌜ verdictOf r ≡ meaning.plainFault rows (now (plain .entry)) ⌝ }
+{
+    if MOST_ROWS < rows {
+        return Checked::Refused(answer::too_many_rows());
+    }
+    let words = rows::segment_count(rows) as usize;
+    if plain.len() != words {
+        return Checked::Refused(answer::bad_argument());
+    }
+    if words == 0 {
+        return Checked::Sound;
+    }
+    if rows::sets_pad(rows, plain[words - 1]) {
+        return Checked::Refused(answer::pad_bit(words as u64 - 1));
+    }
+    Checked::Sound
+}
+
+// Plain words written in canonical form; 9 where they do not fit.
+pub fn write_plain(plain: &[u32], out: &mut [u32]) -> Written
+    ensures { λ r. ⌜ ((R : ℕ) → PlainRows R (now (plain .entry)) → Wrote (meaning.write R (hasRow 32 (now (plain .entry))) (length (now (out .entry)))) r (now (out .entry)) (now (out .exit))) ⌝ }
+{
+    let need = compress::measure(plain);
+    if out.len() < need {
+        return Written::Refused(answer::no_room(need as u64));
+    }
+    Written::Words(compress::write(plain, out))
 }

@@ -76,3 +76,14 @@ pub fn expand(body: &[u32], rows: u32, out: &mut [u32]) -> Written
         Checked::Sound => ask::plain(body, rows, out),
     }
 }
+
+// Plain words as a body in canonical form.
+pub fn compress(rows: u32, plain: &[u32], out: &mut [u32]) -> Written
+    ensures { λ r. ⌜ Wrote (meaning.compress rows (now (plain .entry)) (length (now (out .entry)))) r (now (out .entry)) (now (out .exit)) ⌝ }
+{
+    let checked = ask::check_plain(plain, rows);
+    match checked {
+        Checked::Refused(refusal) => Written::Refused(refusal),
+        Checked::Sound => ask::write_plain(plain, out),
+    }
+}
