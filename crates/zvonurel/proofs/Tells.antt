@@ -1,4 +1,4 @@
--- What an answer tells, where a check comes first and where a buffer may be too short.
+-- What a call that writes tells, where a check comes first and where the buffer may be too short.
 -- Assumes nothing.
 use Prim.Native.Nat.{ℕ, _≤_, _<_}
 use mathlib.Core.Path.{_≡_, refl, sym, ap, _∙_}
@@ -6,35 +6,17 @@ use mathlib.Core.List.{List, _++_}
 use native.Mathlib.Omega.{arith}
 use lib.ListN.{length, drop}
 use lib.Seq.{take-at}
-use Rattle.meaning.specs.Refusal.{Outcome, refused, answer, Verdict, sound, _then_}
+use Rattle.meaning.specs.Refusal.{Outcome, refused, answer, Verdict, _then_}
 use Rattle.meaning.specs.Answer.{fits, bufferAfter, wordsReported}
 use Rattle.meaning.proofs.Outcomes.{fits-yes, fits-no, then-sound}
 use Rattle.ewah.specs.declared.refusal.Refusal.{Refusal}
 use Rattle.ewah.specs.declared.refusal.Checked.{Checked}
 use Rattle.ewah.specs.declared.refusal.Checked.the-variants as checked
-use Rattle.ewah.specs.Told.{verdictOf}
+use Rattle.ewah.specs.Told.{refusedBy, verdictOf}
+use Rattle.ewah.proofs.Checks.{sound-is}
 use Rattle.zvonurel.specs.declared.answer.Written.{Written}
 use Rattle.zvonurel.specs.declared.answer.Written.the-variants as written
-use Rattle.zvonurel.specs.Told.{refusal, refusedBy, writtenOf, wordsOf, Wrote}
-
--- ---- a check k first, whose verdict is v
-
-module _ (k : Checked) (v : Verdict) (e : verdictOf k ≡ v) where
-  refused-is : (r : Refusal) → k ≡ checked.Refused r → v ≡ refusedBy r
-  unfolding verdictOf
-  refused-is r h = sym e ∙ ap verdictOf h
-
-  pub sound-is : k ≡ checked.Sound → v ≡ sound
-  unfolding verdictOf
-  sound-is h = sym e ∙ ap verdictOf h
-
-  module _ {A : Type 0} (o : Outcome A) where
-    pub refuses : (r : Refusal) → k ≡ checked.Refused r → refusedBy r ≡ (v then o)
-    unfolding _then_
-    refuses r h = rw (refused-is r h)
-
-    pub answers : (x : Outcome A) → k ≡ checked.Sound → x ≡ o → x ≡ (v then o)
-    answers x h f = f ∙ sym (then-sound v o (sound-is h))
+use Rattle.zvonurel.specs.Told.{refusal, writtenOf, wordsOf, Wrote}
 
 -- ---- a buffer
 

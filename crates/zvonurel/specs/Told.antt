@@ -5,9 +5,10 @@ use mathlib.Core.Bool.{Bool}
 use mathlib.Core.Path.{_≡_}
 use mathlib.Core.List.{List}
 use lib.ListN.{take}
-use Rattle.meaning.specs.Refusal.{Outcome, refused, answer}
+use Rattle.meaning.specs.Refusal.{Outcome, answer}
 use Rattle.meaning.specs.Answer.{bufferAfter, wordsReported}
 use Rattle.ewah.specs.declared.refusal.Refusal.{Refusal}
+use Rattle.ewah.specs.Told.{refusedBy}
 use Rattle.zvonurel.specs.declared.answer.Flag.{Flag}
 use Rattle.zvonurel.specs.declared.answer.Flag.the-variants as flag
 use Rattle.zvonurel.specs.declared.answer.Number.{Number}
@@ -18,10 +19,6 @@ use Rattle.zvonurel.specs.declared.answer.Written.the-variants as writte
 -- the refusal with that number and word, of bitmap 0
 abbrev pub refusal : (number word : ℕ) → Refusal
 refusal n w = record { number = n; bitmap = 0; word = w }
-
--- a refusal's three numbers
-abbrev pub refusedBy : {A : Type 0} → Refusal → Outcome A
-refusedBy r = refused (r .number) (r .bitmap) (r .word)
 
 unfoldable pub flagOf : Flag → Outcome Bool
 flagOf (flag.Is b) = answer b

@@ -8,7 +8,7 @@ use mathlib.Core.Path.{ap}
 use Rattle.meaning.specs.Refusal.{answer}
 use Rattle.meaning.specs.Answer.{checkBody, askCount, bodyCount}
 use Rattle.zvonurel.specs.Told.{numberOf}
-use Rattle.zvonurel.proofs.Tells.{sound-is, refuses, answers}
+use Rattle.ewah.proofs.Checks.{sound-is, refuses, answers}
 use Rattle.zvonurel.proofs.Alone.{few-rows, facts}
 use Rattle.zvonurel.proofs.Asks.{few-segments}
 use Rattle.zvonurel.proofs.body_count.Statement.{statement}

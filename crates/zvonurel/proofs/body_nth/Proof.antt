@@ -6,7 +6,7 @@ use Rattle.meaning.specs.Refusal.{sound}
 use Rattle.meaning.specs.Ewah.{rowsOf}
 use Rattle.meaning.specs.Answer.{checkBody, askNth, bodyNth}
 use Rattle.zvonurel.specs.Told.{numberOf}
-use Rattle.zvonurel.proofs.Tells.{sound-is, refuses, answers}
+use Rattle.ewah.proofs.Checks.{sound-is, refuses, answers}
 use Rattle.zvonurel.proofs.Alone.{few-rows, facts}
 use Rattle.zvonurel.proofs.Asks.{few-segments}
 use Rattle.zvonurel.proofs.body_nth.Statement.{statement}

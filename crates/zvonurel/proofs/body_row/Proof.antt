@@ -6,7 +6,7 @@ use Rattle.meaning.specs.Refusal.{sound}
 use Rattle.meaning.specs.Ewah.{rowsOf}
 use Rattle.meaning.specs.Answer.{checkBody, askRow, bodyRow}
 use Rattle.zvonurel.specs.Told.{flagOf}
-use Rattle.zvonurel.proofs.Tells.{sound-is, refuses, answers}
+use Rattle.ewah.proofs.Checks.{sound-is, refuses, answers}
 use Rattle.zvonurel.proofs.Alone.{facts}
 use Rattle.zvonurel.proofs.body_row.Statement.{statement}
 use Rattle.zvonurel.proofs.body_row.Tie as tie

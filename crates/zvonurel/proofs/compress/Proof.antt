@@ -4,7 +4,8 @@ use denote.Ref.{now}
 use lib.ListN.{length}
 use Rattle.meaning.specs.Segment.{hasRow}
 use Rattle.meaning.specs.Answer.{plainFault, write, compress}
-use Rattle.zvonurel.proofs.Tells.{sound-is, refuses, wrote-refused, wrote-then}
+use Rattle.ewah.proofs.Checks.{sound-is, refuses}
+use Rattle.zvonurel.proofs.Tells.{wrote-refused, wrote-then}
 use Rattle.zvonurel.proofs.Plain.{plain-rows}
 use Rattle.zvonurel.proofs.compress.Statement.{statement}
 use Rattle.zvonurel.proofs.compress.Tie as tie

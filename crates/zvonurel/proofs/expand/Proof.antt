@@ -6,7 +6,8 @@ use Rattle.meaning.specs.Refusal.{sound}
 use Rattle.meaning.specs.Ewah.{rowsOf}
 use lib.ListN.{length}
 use Rattle.meaning.specs.Answer.{checkBody, askPlain, expand}
-use Rattle.zvonurel.proofs.Tells.{sound-is, refuses, wrote-refused, wrote-then}
+use Rattle.ewah.proofs.Checks.{sound-is, refuses}
+use Rattle.zvonurel.proofs.Tells.{wrote-refused, wrote-then}
 use Rattle.zvonurel.proofs.Alone.{few-rows, facts}
 use Rattle.zvonurel.proofs.expand.Statement.{statement}
 use Rattle.zvonurel.proofs.expand.Tie as tie

@@ -4,8 +4,7 @@ use mathlib.Core.Path.{ap, _∙_}
 use native.Mathlib.Omega.{arith}
 use denote.Ref.{now}
 use Rattle.meaning.specs.Segment.{segmentCount}
-use Rattle.ewah.specs.Told.{verdictOf}
-use Rattle.zvonurel.specs.Told.{refusedBy}
+use Rattle.ewah.specs.Told.{refusedBy, verdictOf}
 use Rattle.zvonurel.proofs.Plain.{plain-over, plain-count, plain-none-left, plain-pad, plain-fine}
 use Rattle.zvonurel.proofs.ask.check_plain.Statement.{statement}
 use Rattle.zvonurel.proofs.ask.check_plain.Tie as tie

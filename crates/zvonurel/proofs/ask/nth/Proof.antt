@@ -2,7 +2,8 @@
 use borrow.Author.Needs.{needs}
 use mathlib.Core.Path.{sym, ap, _∙_}
 use Rattle.ewah.specs.Found.{foundOf}
-use Rattle.zvonurel.specs.Told.{refusedBy, numberOf}
+use Rattle.ewah.specs.Told.{refusedBy}
+use Rattle.zvonurel.specs.Told.{numberOf}
 use Rattle.zvonurel.proofs.ask.nth.Statement.{statement}
 use Rattle.zvonurel.proofs.ask.nth.Tie as tie
 

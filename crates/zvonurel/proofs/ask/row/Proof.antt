@@ -3,7 +3,8 @@ use borrow.Author.Needs.{needs}
 use mathlib.Core.Path.{ap, _∙_}
 use denote.Ref.{now}
 use Rattle.meaning.specs.Ewah.{rowsOf}
-use Rattle.zvonurel.specs.Told.{refusedBy, flagOf}
+use Rattle.ewah.specs.Told.{refusedBy}
+use Rattle.zvonurel.specs.Told.{flagOf}
 use Rattle.zvonurel.proofs.Asks.{row-past, row-here, row-within}
 use Rattle.zvonurel.proofs.ask.row.Statement.{statement}
 use Rattle.zvonurel.proofs.ask.row.Tie as tie

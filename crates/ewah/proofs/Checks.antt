@@ -1,0 +1,26 @@
+-- A check k comes first, whose verdict is v: what it refuses is refused, and where it finds no fault the rest is answered.
+-- Assumes nothing.
+use mathlib.Core.Path.{_≡_, sym, ap, _∙_}
+use Rattle.meaning.specs.Refusal.{Outcome, Verdict, sound, _then_}
+use Rattle.meaning.proofs.Outcomes.{then-sound}
+use Rattle.ewah.specs.declared.refusal.Refusal.{Refusal}
+use Rattle.ewah.specs.declared.refusal.Checked.{Checked}
+use Rattle.ewah.specs.declared.refusal.Checked.the-variants.{Sound, Refused}
+use Rattle.ewah.specs.Told.{refusedBy, verdictOf}
+
+module _ (k : Checked) (v : Verdict) (e : verdictOf k ≡ v) where
+  pub refused-is : (r : Refusal) → k ≡ Refused r → v ≡ refusedBy r
+  unfolding verdictOf
+  refused-is r h = sym e ∙ ap verdictOf h
+
+  pub sound-is : k ≡ Sound → v ≡ sound
+  unfolding verdictOf
+  sound-is h = sym e ∙ ap verdictOf h
+
+  module _ {A : Type 0} (o : Outcome A) where
+    pub refuses : (r : Refusal) → k ≡ Refused r → refusedBy r ≡ (v then o)
+    unfolding _then_
+    refuses r h = rw (refused-is r h)
+
+    pub answers : (x : Outcome A) → k ≡ Sound → x ≡ o → x ≡ (v then o)
+    answers x h f = f ∙ sym (then-sound v o (sound-is h))

@@ -1,0 +1,14 @@
+use borrow.Author.Needs.{needs}
+use Rattle.meaning.specs.Index.{bitmapCount}
+use Rattle.index.proofs.contents.bitmaps.Statement.{statement}
+use Rattle.index.proofs.contents.bitmaps.Tie as tie
+
+shared-slice-read-result : tie.Need-shared-slice-read-result
+shared-slice-read-result c = search needs
+
+returns : tie.Need-returns
+unfolding bitmapCount
+returns c = search needs
+
+pub bitmaps-spec : {M : Type 1} → statement M
+bitmaps-spec = tie.close (tie.spec shared-slice-read-result returns)
