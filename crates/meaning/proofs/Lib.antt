@@ -10,6 +10,7 @@ pub mod ByRuns
 pub mod CanonicalBody
 pub mod Lawful
 pub mod IndexSound
+pub mod BitmapPart
 pub mod Walk
 pub mod Stretches
 pub mod Enough

@@ -8,9 +8,11 @@ use mathlib.Core.List.{List, [], foldl}
 use lib.ListN.{length, getD, replicate}
 use Rattle.meaning.specs.Limits.{mostClean, mostRows, mostBitmaps, mostIndexWords, indexKind, headWords}
 use Rattle.meaning.specs.Segment.{Segment, clean, segmentCount, lastLimit, lastOf}
-use Rattle.meaning.specs.Ewah.{Sound, segments, dueAfter}
+use Rattle.meaning.specs.Refusal.{refused, sound}
+use Rattle.meaning.specs.Ewah.{Sound, segments, rowsOf, dueAfter}
 use Rattle.meaning.specs.Canonical.{Draft, body, put, canonicalOf, canonical, Canonical}
-use Rattle.meaning.specs.Index.{rowCount, bitmapCount, entryPlace, startOf, bodyPlace, bodyAt, SoundIndex}
+use Rattle.meaning.specs.Index.{rowCount, bitmapCount, entryPlace, startOf, bodyPlace, bodyAt, rowsAt, SoundIndex}
+use Rattle.meaning.specs.Answer.{bitmap, bitmapRefusal, partOf}
 use Rattle.meaning.specs.Demands.{BodyOf, Fewest}
 use Rattle.meaning.specs.Paragraph.{groups, groupsWords}
 
@@ -65,3 +67,16 @@ pub record IndexFacts (index : List ℕ) : Type 0 where
 -- an index is sound exactly if these facts hold
 abbrev pub IndexMeans : Type 0
 IndexMeans = (index : List ℕ) → SoundIndex index ↔ IndexFacts index
+
+-- where bitmap k is not refused: the index is sound and has it, and its part is the sound body that every question on it is about
+pub record Known (index : List ℕ) (k : ℕ) : Type 0 where
+  pub facts : IndexFacts index
+  pub below : k < bitmapCount index
+  pub part : partOf (bitmap index k) ≡ bodyAt index k
+  pub is-sound : SoundFacts (rowCount index) (partOf (bitmap index k))
+  pub rows : (r : ℕ) → rowsAt index k r ≡ rowsOf (partOf (bitmap index k)) r
+
+pub record PartLaws : Type 0 where
+  pub known : (index : List ℕ) (k : ℕ) → bitmapRefusal index k ≡ sound → Known index k
+  -- where it is refused the part is empty
+  pub none : (index : List ℕ) (k number place word : ℕ) → bitmapRefusal index k ≡ refused number place word → partOf (bitmap index k) ≡ []

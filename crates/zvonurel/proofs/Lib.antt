@@ -2,3 +2,4 @@ pub mod Tells
 pub mod Alone
 pub mod Asks
 pub mod Plain
+pub mod Numbers

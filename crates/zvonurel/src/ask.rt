@@ -2,9 +2,10 @@
 ghost use mathlib.Core.Path.{_≡_};
 ghost use Prim.Native.Nat.{ℕ, _≤_};
 ghost use lib.ListN.{length};
-ghost use Rattle.meaning.specs.Limits.{mostRows, mostSegments};
+ghost use Rattle.meaning.specs.Limits.{mostRows, mostSegments, headWords};
 ghost use Rattle.meaning.specs.Ewah.{rowsOf, segments, dueAfter};
 ghost use Rattle.meaning.specs.Segment.{hasRow};
+ghost use Rattle.meaning.specs.Refusal.{sound, refuseIf};
 ghost use Rattle.meaning.specs.Laws.{SoundFacts};
 ghost use Rattle.meaning.specs.Demands.{PlainRows};
 ghost use Rattle.meaning.specs.Answer as meaning;
@@ -19,6 +20,7 @@ use ewah::expand;
 use ewah::query;
 use ewah::query::Found;
 use ewah::refusal::Checked;
+use index::contents;
 use meaning::MOST_ROWS;
 use words::rows;
 
@@ -88,4 +90,15 @@ pub fn write_plain(plain: &[u32], out: &mut [u32]) -> Written
         return Written::Refused(answer::no_room(need as u64));
     }
     Written::Words(compress::write(plain, out))
+}
+
+// Whether an index has a bitmap k; 8 where it has not.
+pub fn check_number(index: &[u32], k: u32) -> Checked
+    requires { ⌜ headWords ≤ length (now index) ⌝ }
+    ensures { λ r. ⌜ verdictOf r ≡ refuseIf (meaning.badBitmap (now (index .entry)) k) 8 0 0 sound ⌝ }
+{
+    if contents::bitmaps(index) <= k {
+        return Checked::Refused(answer::bad_argument());
+    }
+    Checked::Sound
 }

@@ -8,8 +8,8 @@ ghost use lib.ListN.{length};
 ghost use Rattle.meaning.specs.Answer as meaning;
 ghost use Rattle.ewah.specs.Told.{verdictOf};
 ghost use Rattle.zvonurel.specs.Told.{flagOf, numberOf, Wrote};
-use ewah::check::check;
 use ewah::query;
+use index::contents;
 use meaning::MOST_ROWS;
 
 mod answer;
@@ -30,7 +30,7 @@ pub fn check_body(body: &[u32], rows: u32) -> Checked
     if MOST_ROWS < rows {
         return Checked::Refused(answer::too_many_rows());
     }
-    check(body, rows, 0, 0)
+    ewah::check::check(body, rows, 0, 0)
 }
 
 // Whether a row is set.
@@ -85,5 +85,80 @@ pub fn compress(rows: u32, plain: &[u32], out: &mut [u32]) -> Written
     match checked {
         Checked::Refused(refusal) => Written::Refused(refusal),
         Checked::Sound => ask::write_plain(plain, out),
+    }
+}
+
+// ---- an index: the whole of it is checked, whatever is asked
+
+// The first fault of an index.
+pub fn check(index: &[u32]) -> Checked
+    ensures { λ r. ⌜ verdictOf r ≡ meaning.check (now (index .entry)) ⌝ }
+{
+    index::check::check(index)
+}
+
+// Why `bitmap` returns an empty part; `Sound` where it was not refused.
+pub fn bitmap_refusal(index: &[u32], k: u32) -> Checked
+    ensures { λ r. ⌜ verdictOf r ≡ meaning.bitmapRefusal (now (index .entry)) k ⌝ }
+{
+    let checked = check(index);
+    match checked {
+        Checked::Refused(refusal) => Checked::Refused(refusal),
+        Checked::Sound => ask::check_number(index, k),
+    }
+}
+
+// The part of the index that is bitmap k's body: empty where the index or the number is refused.
+pub fn bitmap(index: &[u32], k: u32) -> &[u32]
+    ensures { λ r. ⌜ now r ≡ meaning.partOf (meaning.bitmap (now (index .entry)) k) ⌝ }
+{
+    let checked = bitmap_refusal(index, k);
+    match checked {
+        Checked::Refused(_) => &index[0..0],
+        Checked::Sound => contents::body(index, k),
+    }
+}
+
+// Whether a row of bitmap k is set.
+pub fn row(index: &[u32], k: u32, row: u32) -> Flag
+    ensures { λ r. ⌜ flagOf r ≡ meaning.row (now (index .entry)) k row ⌝ }
+{
+    let checked = bitmap_refusal(index, k);
+    match checked {
+        Checked::Refused(refusal) => Flag::Refused(refusal),
+        Checked::Sound => ask::row(contents::body(index, k), contents::rows(index), row),
+    }
+}
+
+// How many rows of bitmap k are set.
+pub fn count(index: &[u32], k: u32) -> Number
+    ensures { λ r. ⌜ numberOf r ≡ meaning.count (now (index .entry)) k ⌝ }
+{
+    let checked = bitmap_refusal(index, k);
+    match checked {
+        Checked::Refused(refusal) => Number::Refused(refusal),
+        Checked::Sound => Number::Is(query::count(contents::body(index, k))),
+    }
+}
+
+// The nth set row of bitmap k, counted from 0.
+pub fn nth(index: &[u32], k: u32, n: u32) -> Number
+    ensures { λ r. ⌜ numberOf r ≡ meaning.nth (now (index .entry)) k n ⌝ }
+{
+    let checked = bitmap_refusal(index, k);
+    match checked {
+        Checked::Refused(refusal) => Number::Refused(refusal),
+        Checked::Sound => ask::nth(contents::body(index, k), n),
+    }
+}
+
+// The rows of bitmap k as plain words.
+pub fn expand_bitmap(index: &[u32], k: u32, out: &mut [u32]) -> Written
+    ensures { λ r. ⌜ Wrote (meaning.expandBitmap (now (index .entry)) k (length (now (out .entry)))) r (now (out .entry)) (now (out .exit)) ⌝ }
+{
+    let checked = bitmap_refusal(index, k);
+    match checked {
+        Checked::Refused(refusal) => Written::Refused(refusal),
+        Checked::Sound => ask::plain(contents::body(index, k), contents::rows(index), out),
     }
 }
