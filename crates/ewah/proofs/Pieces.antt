@@ -14,7 +14,8 @@ use Rattle.ewah.specs.declared.cursor.Cursor.{Cursor}
 use Rattle.ewah.specs.declared.cursor.Piece as code
 use Rattle.ewah.specs.declared.cursor.Piece.the-variants.{Clean, Dirty}
 use Rattle.ewah.specs.Markers.{FieldsOf}
-use Rattle.ewah.specs.Cursors.{Stands, InOrder, leftOf, piecesFrom, pieceThen, advanced}
+use Rattle.ewah.specs.Cursors.{Stands, InOrder, leftOf, piecesFrom, pieceThen}
+use Rattle.meaning.specs.Ahead.{advanced}
 
 cons-at : (b : List ℕ) (at : ℕ) → at < length b → drop at b ≡ getD b at 0 ∷ drop (at + 1) b
 cons-at b at h = drop-cons b at 0 h ∙ ap (λ (n : ℕ). getD b at 0 ∷ drop n b) (sym (add-one at))

@@ -1,11 +1,11 @@
 -- Which pieces of a body a cursor has still to give.
 -- Assumes nothing.
-use Prim.Native.Nat.{ℕ, _-_, _≤_, _<_}
+use Prim.Native.Nat.{ℕ, _≤_, _<_}
 use mathlib.Core.Path.{_≡_}
 use mathlib.Core.List.{List, [], _∷_}
 use lib.ListN.{length, drop}
 use Rattle.meaning.specs.Limits.{mostDirty}
-use Rattle.meaning.specs.Ewah.{Piece, cleanRun, dirtyWord, runThen, pieces}
+use Rattle.meaning.specs.Ewah.{Piece, dirtyWord, runThen, pieces}
 use Rattle.ewah.specs.declared.cursor.Piece as code
 use Rattle.ewah.specs.declared.cursor.Piece.the-variants.{Clean, Dirty}
 use Rattle.ewah.specs.declared.cursor.Cursor.{Cursor}
@@ -29,13 +29,6 @@ pieceThen (Dirty x) ps = dirtyWord x ∷ ps
 unfoldable pub piecesFrom : List ℕ → Cursor → List Piece
 unfolding pieceThen pieces
 piecesFrom b c = pieceThen (c .piece) (pieces (c .dirty) (drop (c .next) b))
-
--- the pieces without the first n segments of the first one
-unfoldable pub advanced : ℕ → List Piece → List Piece
-unfolding runThen
-advanced n [] = []
-advanced n (cleanRun v k ∷ ps) = runThen v (k - n) ps
-advanced n (dirtyWord x ∷ ps) = ps
 
 -- its numbers are in range
 pub record InOrder (b : List ℕ) (c : Cursor) : Type 0 where

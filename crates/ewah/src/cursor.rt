@@ -4,7 +4,8 @@ ghost use Prim.Native.Nat.{_≤_, _<_};
 ghost use lib.ListN.{length, drop};
 ghost use Rattle.meaning.specs.Limits.{mostDirty};
 ghost use Rattle.meaning.specs.Ewah.{pieces};
-ghost use Rattle.ewah.specs.Cursors.{Stands, InOrder, leftOf, piecesFrom, advanced};
+ghost use Rattle.ewah.specs.Cursors.{Stands, InOrder, leftOf, piecesFrom};
+ghost use Rattle.meaning.specs.Ahead.{advanced};
 use crate::marker;
 
 // What is left of a clean run, with its value, 0 or 1; or a dirty word. A clean run of no segments is the end.

@@ -19,7 +19,8 @@ use Rattle.meaning.proofs.Segments.{canonical-is, encoded, map-append}
 use Rattle.meaning.proofs.Decoded.{Whole}
 use Rattle.meaning.proofs.RowWords.{word-at, word-ext, has-at}
 use Rattle.meaning.proofs.Least.{size, put-two, run-then-two}
-use Rattle.meaning.proofs.Stretches.{flat, flat-pieces}
+use Rattle.meaning.specs.Ahead.{flat}
+use Rattle.meaning.proofs.Stretches.{flat-pieces}
 
 or-false : (a b : Bool) → a || b ≡ false → (a ≡ false) × (b ≡ false)
 or-false true b e = absurd (true≢false e)

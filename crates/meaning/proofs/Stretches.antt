@@ -11,14 +11,9 @@ use native.Mathlib.Decide.{decLe}
 use borrow.Author.Tests.{ne-eqb}
 use Rattle.meaning.specs.Rows.{bit, sumBelow, countBelow}
 use Rattle.meaning.specs.Segment.{fill, segmentCount}
-use Rattle.meaning.specs.Ewah.{Piece, cleanRun, dirtyWord, runThen, pieces, pieceSize, decode, valueOf, cleanOf, dirtyOf}
+use Rattle.meaning.specs.Ewah.{Piece, runThen, pieces, pieceSize, decode, valueOf, cleanOf, dirtyOf}
+use Rattle.meaning.specs.Ahead.{flat}
 use Rattle.meaning.specs.Question.{isIn, endsFrom, endsAt, stretches, totalWords}
-
--- the segments of a list of pieces
-unfoldable pub flat : List Piece → List ℕ
-flat [] = []
-flat (cleanRun v n ∷ ps) = replicate n (fill 32 32 v) ++ flat ps
-flat (dirtyWord w ∷ ps) = w ∷ flat ps
 
 pub flat-pieces : (due : ℕ) (b : List ℕ) → flat (pieces due b) ≡ decode due b
 unfolding pieces decode flat

@@ -12,3 +12,5 @@ pub mod Demands
 pub mod Paragraph
 pub mod Laws
 pub mod Readings
+-- for contracts between the crates
+pub mod Ahead

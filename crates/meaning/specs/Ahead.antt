@@ -1,0 +1,50 @@
+-- Where a walk over the pieces of a body stands, for contracts of the code that merges bodies. No rule of paper 01 is here.
+-- Assumes nothing.
+use Prim.Native.Nat.{ℕ, _+_, _-_, _*_, _≤_, _<_}
+use mathlib.Core.Path.{_≡_}
+use mathlib.Core.List.{List, [], _∷_, _++_, map}
+use lib.ListN.{drop, replicate}
+use Rattle.meaning.specs.Rows.{countBelow}
+use Rattle.meaning.specs.Segment.{fill, segmentCount}
+use Rattle.meaning.specs.Ewah.{Piece, cleanRun, dirtyWord, runThen, pieces, pieceSize, segments, rowsOf}
+use Rattle.meaning.specs.Question.{held, isIn, endsFrom, endsAt}
+
+-- the segments of a list of pieces
+unfoldable pub flat : List Piece → List ℕ
+unfolding fill
+flat [] = []
+flat (cleanRun v n ∷ ps) = replicate n (fill 32 32 v) ++ flat ps
+flat (dirtyWord x ∷ ps) = x ∷ flat ps
+
+-- the pieces without the first n segments of the first one
+unfoldable pub advanced : ℕ → List Piece → List Piece
+unfolding runThen
+advanced n [] = []
+advanced n (cleanRun v k ∷ ps) = runThen v (k - n) ps
+advanced n (dirtyWord x ∷ ps) = ps
+
+-- no piece is empty
+abbrev pub NoneEmpty : List Piece → Type 0
+NoneEmpty [] = Unit {0}
+NoneEmpty (p ∷ ps) = (1 ≤ pieceSize p) × NoneEmpty ps
+
+-- ps are the pieces of the body b from segment o on, of the first perhaps only the end
+pub record Ahead (b : List ℕ) (o : ℕ) (ps : List Piece) : Type 0 where
+  pub some : NoneEmpty ps
+  pub rest : flat ps ≡ drop o (segments b)
+  pub ends : (e : ℕ) → o < e → isIn (endsFrom 0 (pieces 0 b)) e ≡ isIn (endsFrom o ps) e
+
+-- how many of the bodies have row j of segment i
+unfoldable pub heldAt : List (List ℕ) → (i j : ℕ) → ℕ
+unfolding held rowsOf
+heldAt bodies i j = held (map rowsOf bodies) (i * 32 + j)
+
+-- one stretch of n segments from segment o on, over bodies of R rows: `ones` of them are in a run of ones there and `dirty` on a
+-- dirty word, and `extra j` of these words have bit j set. It ends at the first segment at which some piece ends
+pub record StretchAt (R : ℕ) (bodies : List (List ℕ)) (o n ones dirty : ℕ) (extra : ℕ → ℕ) : Type 0 where
+  pub some : 1 ≤ n
+  pub within : o + n ≤ segmentCount 32 R
+  pub clean : dirty ≡ 0 → (i : ℕ) → o ≤ i → i < o + n → (j : ℕ) → j < 32 → heldAt bodies i j ≡ ones
+  pub single : (dirty ≡ 0 → ⊥) → n ≡ 1
+  pub mixed : (dirty ≡ 0 → ⊥) → (j : ℕ) → j < 32 → heldAt bodies o j ≡ ones + extra j
+  pub next : countBelow (o + n) (endsAt bodies) ≡ countBelow o (endsAt bodies) + 1
