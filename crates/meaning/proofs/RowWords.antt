@@ -25,7 +25,7 @@ unfolding bit
 bit-le true = omega arith
 bit-le false = omega arith
 
-eqb-bit : (b : Bool) → eqb (bit b) 1 ≡ b
+pub eqb-bit : (b : Bool) → eqb (bit b) 1 ≡ b
 unfolding bit
 eqb-bit true = refl
 eqb-bit false = refl
@@ -63,7 +63,7 @@ unfolding wordOf
 word-lt zero q = omega arith
 word-lt (suc n) q = omega (arith, bit-le (q 0), word-lt n (λ j. q (suc j)))
 
-bit-eqb : (r : ℕ) → r < 2 → bit (eqb r 1) ≡ r
+pub bit-eqb : (r : ℕ) → r < 2 → bit (eqb r 1) ≡ r
 unfolding bit
 bit-eqb zero h = refl
 bit-eqb (suc zero) h = refl

@@ -1,1 +1,4 @@
 pub mod BitLaws
+pub mod Tests
+pub mod CounterLaws
+pub mod Entries
