@@ -16,11 +16,11 @@ use Rattle.meaning.specs.Question.{held, histogramOf, sumOf}
 use Rattle.meaning.specs.Demands.{IsNth, NthHolds, HistogramAdds, HistogramEnds}
 use Rattle.meaning.proofs.Segments.{both}
 use Rattle.meaning.proofs.RowWords.{bit-le, getD-tabulate}
+use Rattle.meaning.proofs.Sums.{sum-zero}
 
 pub count-none : (n : ℕ) (p : ℕ → Bool) → ((r : ℕ) → r < n → p r ≡ false) → countBelow n p ≡ 0
-unfolding countBelow sumBelow bit
-count-none zero p h = refl
-count-none (suc n) p h = rw (h n (omega arith)) (omega (arith, count-none n p (λ r g. h r (omega arith))))
+unfolding countBelow bit
+count-none n p h = sum-zero n (λ r. bit (p r)) (λ r g. ap bit (h r g))
 
 -- ---- the nth row
 
@@ -99,24 +99,24 @@ unfolding sumOf tabulate
 tabulate-ext zero f g h = refl
 tabulate-ext (suc n) f g h = omega (arith, h 0, tabulate-ext n (λ c. f (suc c)) (λ c. g (suc c)) (λ c. h (suc c)))
 
-sum-zero : (n : ℕ) → sumOf (tabulate n (λ c. 0)) ≡ 0
+tabulate-zero : (n : ℕ) → sumOf (tabulate n (λ c. 0)) ≡ 0
 unfolding sumOf tabulate
-sum-zero zero = refl
-sum-zero (suc n) = omega (arith, sum-zero n)
+tabulate-zero zero = refl
+tabulate-zero (suc n) = omega (arith, tabulate-zero n)
 
 -- exactly one count is x
 one-hot : (n x : ℕ) → x < n → sumOf (tabulate n (λ c. bit (eqb x c))) ≡ 1
 unfolding sumOf tabulate bit
 one-hot zero x h = absurd (omega arith)
 one-hot (suc n) zero h =
-    omega (arith, tabulate-ext n (λ c. bit (eqb 0 (suc c))) (λ c. 0) (λ c. ap bit (eqb·zero-suc c)), sum-zero n)
+    omega (arith, tabulate-ext n (λ c. bit (eqb 0 (suc c))) (λ c. 0) (λ c. ap bit (eqb·zero-suc c)), tabulate-zero n)
 one-hot (suc n) (suc x) h =
     let z : bit (eqb (suc x) 0) ≡ 0 = ap bit (eqb·suc-zero x) in
     omega (arith, tabulate-ext n (λ c. bit (eqb (suc x) (suc c))) (λ c. bit (eqb x c)) (λ c. ap bit (eqb·suc-suc x c)), one-hot n x (omega arith))
 
 pub histogram-adds : HistogramAdds
 unfolding histogramOf countBelow sumBelow
-histogram-adds zero ps h = sum-zero (suc mostNamed)
+histogram-adds zero ps h = tabulate-zero (suc mostNamed)
 histogram-adds (suc R) ps h =
     let e : sumOf (tabulate (suc mostNamed) (λ c. sumBelow R (λ r. bit (eqb (held ps r) c)))) ≡ R = histogram-adds R ps h in
     let g : sumOf (tabulate (suc mostNamed) (λ c. bit (eqb (held ps R) c))) ≡ 1 = one-hot (suc mostNamed) (held ps R) (omega (arith, held-le ps R)) in

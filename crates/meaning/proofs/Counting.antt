@@ -16,18 +16,17 @@ use Rattle.meaning.specs.Segment.{isSet, bitAt, hasRow, ones, segmentCou
 use Rattle.meaning.specs.Demands.{IsNth}
 use Rattle.meaning.proofs.RowWords.{bit-le, rows-fit, pad-clear, has-at}
 use Rattle.meaning.proofs.Counted.{count-none}
+use Rattle.meaning.proofs.Sums.{sum-ext, sum-join}
 
 -- ---- counts
 
 pub count-ext : (n : ℕ) (p q : ℕ → Bool) → ((r : ℕ) → r < n → p r ≡ q r) → countBelow n p ≡ countBelow n q
-unfolding countBelow sumBelow
-count-ext zero p q h = refl
-count-ext (suc n) p q h = omega (arith, count-ext n p q (λ r g. h r (omega arith)), ap bit (h n (omega arith)))
+unfolding countBelow
+count-ext n p q h = sum-ext n (λ r. bit (p r)) (λ r. bit (q r)) (λ r g. ap bit (h r g))
 
 pub count-add : (m n : ℕ) (p : ℕ → Bool) → countBelow (m + n) p ≡ countBelow m p + countBelow n (λ r. p (m + r))
-unfolding countBelow sumBelow
-count-add m zero p = let e : m + 0 ≡ m = omega arith in rw e (omega arith)
-count-add m (suc n) p = let e : m + suc n ≡ suc (m + n) = omega arith in rw e (omega (arith, count-add m n p))
+unfolding countBelow
+count-add m n p = sum-join m n (λ r. bit (p r))
 
 pub count-le : (n : ℕ) (p : ℕ → Bool) → countBelow n p ≤ n
 unfolding countBelow sumBelow

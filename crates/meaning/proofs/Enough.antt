@@ -17,7 +17,7 @@ use Rattle.meaning.specs.Canonical.{Draft, blank, body, put, canonicalOf
 use Rattle.meaning.specs.Question.{isIn, endsFrom, endsAt, stretches, held}
 use Rattle.meaning.proofs.Segments.{canonical-is, encoded, map-append}
 use Rattle.meaning.proofs.Decoded.{Whole}
-use Rattle.meaning.proofs.RowWords.{word-at, word-ext, has-at}
+use Rattle.meaning.proofs.RowWords.{word-at, word-ext, has-at, before-last}
 use Rattle.meaning.proofs.Least.{size, put-two, run-then-two}
 use Rattle.meaning.specs.Ahead.{flat}
 use Rattle.meaning.proofs.Stretches.{flat-pieces}
@@ -26,17 +26,17 @@ or-false : (a b : Bool) → a || b ≡ false → (a ≡ false) × (b ≡ false)
 or-false true b e = absurd (true≢false e)
 or-false false b e = (refl, e)
 
-or-true : (a b : Bool) → b ≡ true → a || b ≡ true
+pub or-true : (a b : Bool) → b ≡ true → a || b ≡ true
 or-true true b e = refl
 or-true false b e = e
 
 -- ---- the pieces of one body
 
-abbrev Fine : Piece → Type 0
+abbrev pub Fine : Piece → Type 0
 Fine (cleanRun v n) = (v < 2) × (0 < n) × (n ≤ mostClean)
 Fine (dirtyWord w) = Unit {0}
 
-abbrev AllFine : List Piece → Type 0
+abbrev pub AllFine : List Piece → Type 0
 AllFine [] = Unit {0}
 AllFine (p ∷ ps) = Fine p × AllFine ps
 
@@ -45,18 +45,18 @@ unfolding runThen
 run-fine v zero ps hv hn f = f
 run-fine v (suc n) ps hv hn f = ((hv, omega arith, hn), f)
 
-pieces-fine : (due : ℕ) (b : List ℕ) → AllFine (pieces due b)
+pub pieces-fine : (due : ℕ) (b : List ℕ) → AllFine (pieces due b)
 unfolding pieces
 pieces-fine due [] = tt
 pieces-fine zero (m ∷ ws) = run-fine (valueOf m) (cleanOf m) (pieces (dirtyOf m) ws) (unfold valueOf in omega arith) (unfold cleanOf in omega arith) (pieces-fine (dirtyOf m) ws)
 pieces-fine (suc due) (w ∷ ws) = (tt, pieces-fine due ws)
 
-size-fine : (p : Piece) → Fine p → (0 < pieceSize p) × (pieceSize p ≤ mostClean)
+pub size-fine : (p : Piece) → Fine p → (0 < pieceSize p) × (pieceSize p ≤ mostClean)
 unfolding pieceSize
 size-fine (cleanRun v n) f = (f .1, f .2)
 size-fine (dirtyWord w) f = (omega arith, omega arith)
 
-flat-length : (p : Piece) (ps : List Piece) → length (flat (p ∷ ps)) ≡ pieceSize p + length (flat ps)
+pub flat-length : (p : Piece) (ps : List Piece) → length (flat (p ∷ ps)) ≡ pieceSize p + length (flat ps)
 unfolding flat pieceSize
 flat-length (cleanRun v n) ps = rw (length-append (replicate n (fill 32 32 v)) (flat ps), length-replicate n (fill 32 32 v))
 flat-length (dirtyWord w) ps = omega arith
@@ -97,7 +97,7 @@ record Steady (xs : List ℕ) (n : ℕ) : Type 0 where
   next : getD xs (suc n) 0 ≡ fill 32 32 v
   more : suc n < length xs
 
-run-at : (c x : ℕ) (ys : List ℕ) (i : ℕ) → i < c → getD (replicate c x ++ ys) i 0 ≡ x
+pub run-at : (c x : ℕ) (ys : List ℕ) (i : ℕ) → i < c → getD (replicate c x ++ ys) i 0 ≡ x
 run-at zero x ys i h = absurd (omega arith)
 run-at (suc c) x ys zero h = refl
 run-at (suc c) x ys (suc i) h = run-at c x ys i (omega arith)
@@ -339,11 +339,6 @@ D-is f E S (suc n) =
     ∙ sym (ap (λ (l : List Segment). foldl put blank l) (map-append (kind 32 32) (tabulate n f) (f n ∷ [])))
     ∙ sym (ap (λ (l : List ℕ). foldl put blank (map (kind 32 32) l)) (tabulate-snoc n f))
 
--- a segment before the last has no pad bits
-inner : (R i : ℕ) → suc i < segmentCount 32 R → i * 32 + 32 ≤ R
-unfolding segmentCount
-inner R i h = omega arith
-
 module _ (R : ℕ) (f : ℕ → Bool) (b : List ℕ) (bs : List (List ℕ)) (w : AllWhole R (b ∷ bs)) where
   abbrev ps : List (ℕ → Bool)
   ps = map rowsOf (b ∷ bs)
@@ -359,8 +354,8 @@ module _ (R : ℕ) (f : ℕ → Bool) (b : List ℕ) (bs : List (List ℕ)) (w :
       let more : suc i < segmentCount 32 R = omega (arith, s .more, w .0 .count) in
       record {
         v = bit (f (l .c));
-        here = cell-clean R f ps (l .c) i (l .here) (inner R i more);
-        next = λ y. cell-clean R f ps (l .c) (suc i) (l .next) (inner R (suc i) y);
+        here = cell-clean R f ps (l .c) i (l .here) (omega (arith, before-last 32 (omega arith) R (suc i) more));
+        next = λ y. cell-clean R f ps (l .c) (suc i) (l .next) (omega (arith, before-last 32 (omega arith) R (suc (suc i)) y));
         more = more;
       }
 

@@ -1,6 +1,6 @@
 -- The canonical form has the fewest words of any body that decodes to the same segments.
 -- Assumes nothing.
-use Prim.Native.Nat.{ℕ, zero, suc, _+_, _%_, _≤_, _<_, _*_}
+use Prim.Native.Nat.{ℕ, zero, suc, _+_, _/_, _%_, _≤_, _<_, _*_}
 use mathlib.Core.Bool.{Bool, true, false, cond, _&&_}
 use mathlib.Core.Path.{_≡_, refl, sym, ap, _∙_, subst}
 use mathlib.Core.List.{List, [], _∷_, _++_, map, foldl, foldl-append}
@@ -208,6 +208,28 @@ puts-grow d (s ∷ ss) = omega (arith, segment-grows d s, puts-grow (put d s) ss
 pub puts-add : (d : Draft) (ss : List Segment) → length (body (foldl put d ss)) ≤ length (body d) + 2 * length ss
 puts-add d [] = omega arith
 puts-add d (s ∷ ss) = omega (arith, segment-adds d s, puts-add (put d s) ss)
+
+-- a new marker is paid for by the most dirty words of the one before it, or by a clean segment
+step-pays : (d : Draft) (s : Segment) → mostDirty * size (put d s) + taken (put d s) ≤ mostDirty * size d + taken d + (mostDirty + 1)
+step-pays d (clean b) = let p = put-clean d b in omega arith
+step-pays d (mixed x) = elim (decLe mostDirty (taken d)) [
+  | yes g ↦ let p = put-full d x g in omega arith
+  | no g ↦ let p = put-room d x (omega arith) in omega arith
+]
+
+steps-pay : (d : Draft) (ss : List Segment)
+    → mostDirty * size (foldl put d ss) + taken (foldl put d ss) ≤ mostDirty * size d + taken d + (mostDirty + 1) * length ss
+steps-pay d [] = omega arith
+steps-pay d (s ∷ ss) = omega (arith, step-pays d s, steps-pay (put d s) ss)
+
+-- no more words than segments, and one for each whole 32,767 of them, and one
+pub most-words : (ss : List Segment) → mostDirty * length (body (foldl put blank ss)) ≤ (mostDirty + 1) * length ss + mostDirty
+unfolding size taken body
+most-words ss = omega (arith, steps-pay blank ss)
+
+pub most-words-div : (ss : List Segment) → length (canonicalOf ss) ≤ length ss + length ss / mostDirty + 1
+unfolding canonicalOf
+most-words-div ss = omega (arith, most-words ss)
 
 pub run-adds : (d : Draft) (v n : ℕ) → n ≤ mostClean → length (body (foldl put d (replicate n (clean v)))) ≤ length (body d) + 1
 run-adds d v zero h = omega arith

@@ -16,8 +16,11 @@ pub mod Stretches
 pub mod Enough
 pub mod Demanded
 pub mod Counted
+pub mod Sums
 pub mod Counting
 pub mod Asked
 pub mod Parts
+pub mod Walked
+pub mod Evaluated
 pub mod Cases
 pub mod Corners

@@ -16,7 +16,7 @@ use native.Mathlib.Decide.{decLe}
 use native.Mathlib.Omega.{arith}
 use borrow.Author.Tests.{lt-ltb, le-ltb}
 use Rattle.meaning.specs.Rows.{bit}
-use Rattle.meaning.specs.Segment.{segmentCount, lastRows, lastLimit, lastOf, hasRow, wordOf, tabulate, fromRows}
+use Rattle.meaning.specs.Segment.{segmentCount, lastRows, lastLimit, lastOf, isSet, bitAt, hasRow, wordOf, tabulate, fromRows}
 
 -- ---- bits of a number
 
@@ -78,6 +78,11 @@ word-self (suc n) x h =
     word-ext n (λ j. eqb (x / 2 ^ suc j % 2) 1) (λ j. eqb (x / 2 / 2 ^ j % 2) 1) (λ j g. ap (λ (k : ℕ). eqb (k % 2) 1) (half-pow x j))
     ∙ word-self n (x / 2) (omega arith) in
     omega (arith, e, bit-eqb (x / 1 % 2) (omega arith))
+
+-- numbers of n bits are equal by their bits
+pub word-by-bits : (n x y : ℕ) → x < 2 ^ n → y < 2 ^ n → ((j : ℕ) → j < n → isSet x j ≡ isSet y j) → x ≡ y
+unfolding isSet bitAt
+word-by-bits n x y hx hy h = sym (word-self n x hx) ∙ word-ext n (isSet x) (isSet y) h ∙ word-self n y hy
 
 -- ---- lists
 
@@ -142,6 +147,11 @@ module _ (w : ℕ) (pos : 0 < w) where
   rows-fit zero = omega arith
   rows-fit (suc r) = rw (count-suc r, suc-mul (r / w) w) (omega (arith, div-add-mod' r w, mod-lt r pos))
 
+  -- segments before the last have no pad bits
+  pub before-last : (R i : ℕ) → i < segmentCount w R → i * w ≤ R
+  before-last zero i h = absurd (omega (arith, count-zero))
+  before-last (suc r) i h = let l : i * w ≤ r = le-div-iff-mul-le pos .0 (omega (arith, count-suc r)) in omega arith
+
   -- segments with no pad bit set have no bit past the last row
   pub pad-clear : (rows : ℕ) (xs : List ℕ) → length xs ≡ segmentCount w rows → lastOf xs < lastLimit w rows → (r : ℕ) → rows ≤ r → hasRow w xs r ≡ false
   unfolding hasRow
@@ -178,16 +188,19 @@ module _ (w : ℕ) (pos : 0 < w) where
   unfolding fromRows
   from-length rows p = length-tabulate (segmentCount w rows) (cell rows p)
 
+  pub from-bit : (rows : ℕ) (p : ℕ → Bool) (i j : ℕ) → i < segmentCount w rows → j < w
+      → isSet (getD (fromRows w rows p) i 0) j ≡ ltb (i * w + j) rows && p (i * w + j)
+  unfolding fromRows isSet bitAt
+  from-bit rows p i j h k =
+      rw (getD-tabulate (segmentCount w rows) (cell rows p) i h, word-at w (λ j. ltb (i * w + j) rows && p (i * w + j)) j k)
+      (eqb-bit (ltb (i * w + j) rows && p (i * w + j)))
+
   pub from-has : (rows : ℕ) (p : ℕ → Bool) (r : ℕ) → r < rows → hasRow w (fromRows w rows p) r ≡ p r
-  unfolding fromRows hasRow
+  unfolding hasRow
   from-has zero p r h = absurd (omega arith)
   from-has (suc n) p r h =
-      rw (
-        getD-tabulate (segmentCount w (suc n)) (cell (suc n) p) (r / w) (omega (arith, count-suc n, div-mono)),
-        word-at w (λ j. ltb (r / w * w + j) (suc n) && p (r / w * w + j)) (r % w) (mod-lt r pos),
-        div-add-mod' r w,
-        lt-ltb r (suc n) h,
-      ) (eqb-bit (p r))
+      from-bit (suc n) p (r / w) (r % w) (omega (arith, count-suc n, div-mono)) (mod-lt r pos)
+      ∙ rw (div-add-mod' r w, lt-ltb r (suc n) h)
     where
       div-mono : r / w ≤ n / w
       div-mono = le-div-iff-mul-le pos .1 (omega (arith, div-add-mod' r w))

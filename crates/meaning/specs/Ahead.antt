@@ -1,11 +1,12 @@
 -- Where a walk over the pieces of a body stands, for contracts of the code that merges bodies. No rule of paper 01 is here.
 -- Assumes nothing.
 use Prim.Native.Nat.{ℕ, _+_, _-_, _*_, _≤_, _<_}
+use mathlib.Core.Bool.{Bool}
 use mathlib.Core.Path.{_≡_}
 use mathlib.Core.List.{List, [], _∷_, _++_, map}
 use lib.ListN.{drop, replicate}
 use Rattle.meaning.specs.Rows.{countBelow}
-use Rattle.meaning.specs.Segment.{fill, segmentCount}
+use Rattle.meaning.specs.Segment.{Segment, kind, fill, fromRows, segmentCount}
 use Rattle.meaning.specs.Ewah.{Piece, cleanRun, dirtyWord, runThen, pieces, pieceSize, segments, rowsOf}
 use Rattle.meaning.specs.Question.{held, isIn, endsFrom, endsAt}
 
@@ -23,6 +24,12 @@ advanced n [] = []
 advanced n (cleanRun v k ∷ ps) = runThen v (k - n) ps
 advanced n (dirtyWord x ∷ ps) = ps
 
+-- how many segments the first piece covers, 0 where there is none
+unfoldable pub firstSize : List Piece → ℕ
+unfolding pieceSize
+firstSize [] = 0
+firstSize (p ∷ ps) = pieceSize p
+
 -- no piece is empty
 abbrev pub NoneEmpty : List Piece → Type 0
 NoneEmpty [] = Unit {0}
@@ -38,6 +45,16 @@ pub record Ahead (b : List ℕ) (o : ℕ) (ps : List Piece) : Type 0 where
 unfoldable pub heldAt : List (List ℕ) → (i j : ℕ) → ℕ
 unfolding held rowsOf
 heldAt bodies i j = held (map rowsOf bodies) (i * 32 + j)
+
+-- the rows of an answer: a row that c of the bodies have is in it as `f c` says
+unfoldable pub answerRows : (ℕ → Bool) → List (List ℕ) → ℕ → Bool
+unfolding held rowsOf
+answerRows f bodies r = f (held (map rowsOf bodies) r)
+
+-- and its segments, over R rows
+unfoldable pub answerSegments : (R : ℕ) → (ℕ → Bool) → List (List ℕ) → List Segment
+unfolding fromRows answerRows
+answerSegments R f bodies = map (kind 32 32) (fromRows 32 R (answerRows f bodies))
 
 -- one stretch of n segments from segment o on, over bodies of R rows: `ones` of them are in a run of ones there and `dirty` on a
 -- dirty word, and `extra j` of these words have bit j set. It ends at the first segment at which some piece ends

@@ -13,7 +13,7 @@ use lib.Count.{ones, onesIn, ones-cat}
 use borrow.Author.Tests.{ne-eqb}
 use Rattle.meaning.specs.Rows.{bit, countBelow}
 use Rattle.meaning.specs.Segment.{bitAt, isSet}
-use Rattle.meaning.proofs.RowWords.{bit-le, eqb-bit, bit-eqb, word-ext, word-self}
+use Rattle.meaning.proofs.RowWords.{bit-le, eqb-bit, bit-eqb}
 use Rattle.meaning.proofs.Counting.{full-set}
 
 -- ---- the bits of a word
@@ -26,11 +26,6 @@ bit-lt x j = mod-lt (x / 2 ^ j) (lit< tt)
 pub bit-set : (x j : ℕ) → bitAt x j ≡ bit (isSet x j)
 unfolding bitAt isSet
 bit-set x j = sym (bit-eqb (bitAt x j) (bit-lt x j))
-
--- a word of w bits is determined by them
-pub word-by-bits : (w x y : ℕ) → x < 2 ^ w → y < 2 ^ w → ((j : ℕ) → j < w → isSet x j ≡ isSet y j) → x ≡ y
-unfolding isSet
-word-by-bits w x y hx hy h = sym (word-self w x hx) ∙ word-ext w (isSet x) (isSet y) h ∙ word-self w y hy
 
 -- ---- the bits of `&`, `|`, `^` and `!`
 

@@ -1,0 +1,244 @@
+-- Which segments of an answer a stretch gives, and how many rows, where the number of bodies that have a row decides whether the
+-- answer has it.
+-- Assumes nothing.
+use Prim.Native.Nat.{ℕ, zero, suc, _+_, _-_, _*_, _/_, _%_, _^_, _≤_, _<_, min}
+use mathlib.Core.Bool.{Bool, true, false, _&&_}
+use mathlib.Core.Path.{_≡_, refl, sym, ap, _∙_}
+use mathlib.Core.List.{List, [], _∷_, _++_}
+use lib.Dec.{ltb}
+use lib.ListN.{length, getD, take, drop, replicate, length-drop, length-replicate, length-map, length-append, getD-replicate, List·getD-map, List·getD-append}
+use lib.Pow.{pow-mono, ones-lt}
+use lib.Seq.{ext-getD, getD-at, getD-take, getD-drop, length-take-le, take-all}
+use native.Mathlib.Nat.{div-eq-of-lt, div-add-mod', mod-lt, suc-mul}
+use native.Mathlib.Decide.{decLe}
+use native.Mathlib.Omega.{arith}
+use borrow.Author.Tests.{lt-ltb, le-ltb}
+use Rattle.meaning.specs.Rows.{countBelow}
+use Rattle.meaning.specs.Segment.{Segment, clean, kind, isSet, bitAt, segmentCount, lastRows, allSet, fromRows}
+use Rattle.meaning.specs.Canonical.{canonical, canonicalOf}
+use Rattle.meaning.specs.Ahead.{heldAt, answerRows, answerSegments, StretchAt}
+use Rattle.meaning.proofs.Segments.{canonical-is, encoded}
+use Rattle.meaning.proofs.Decoded.{and-false}
+use Rattle.meaning.proofs.RowWords.{word-by-bits, from-bit, from-below, from-length, count-zero, count-suc, before-last}
+use Rattle.meaning.proofs.Counting.{zero-clear, full-set, count-add, count-ext, count-all}
+use Rattle.meaning.proofs.Counted.{count-none}
+
+and-true : (a : Bool) → a && true ≡ a
+and-true true = refl
+and-true false = refl
+
+-- ---- the rows of a segment, as a mask
+
+-- k ones have no bit from k on
+ones-past : (k j : ℕ) → k ≤ j → isSet (2 ^ k - 1) j ≡ false
+unfolding isSet bitAt
+ones-past k j h = let z : (2 ^ k - 1) / 2 ^ j ≡ 0 = div-eq-of-lt (omega (arith, ones-lt k, pow-mono h)) in rw z
+
+ones-bit : (k j : ℕ) → isSet (2 ^ k - 1) j ≡ ltb j k
+ones-bit k j = elim (decLe (suc j) k) [
+  | yes h ↦ full-set k j h ∙ sym (lt-ltb j k h)
+  | no h ↦ ones-past k j (omega arith) ∙ sym (le-ltb j k (omega arith))
+]
+
+ltb-same : (a b c d : ℕ) → (a < b → c < d) → (b ≤ a → d ≤ c) → ltb a b ≡ ltb c d
+ltb-same a b c d h g = elim (decLe (suc a) b) [
+  | yes k ↦ lt-ltb a b k ∙ sym (lt-ltb c d (h k))
+  | no k ↦ let l : b ≤ a = omega arith in le-ltb a b l ∙ sym (le-ltb c d (g l))
+]
+
+module _ (w : ℕ) (pos : 0 < w) where
+  pub last-le : (R : ℕ) → lastRows w R ≤ w
+  unfolding lastRows
+  last-le R = omega (arith, mod-lt (R - 1) pos)
+
+  -- which bits of the last segment are rows
+  pub mask-last : (R i j : ℕ) → suc i ≡ segmentCount w R → isSet (2 ^ lastRows w R - 1) j ≡ ltb (i * w + j) R
+  unfolding lastRows
+  mask-last zero i j e = absurd (omega (arith, count-zero w pos))
+  mask-last (suc r) i j e =
+      let i-is : i ≡ r / w = omega (arith, count-suc w pos r) in
+      let k-is : suc r - 1 ≡ r = omega arith in
+      ones-bit ((suc r - 1) % w + 1) j
+      ∙ rw (k-is, i-is) (ltb-same j (r % w + 1) (r / w * w + j) (suc r) (λ h. omega (arith, div-add-mod' r w)) (λ h. omega (arith, div-add-mod' r w)))
+
+  -- of a segment without pad bits, all
+  pub mask-inside : (R i j : ℕ) → suc i * w ≤ R → j < w → ltb (i * w + j) R ≡ true
+  mask-inside R i j h l = lt-ltb (i * w + j) R (omega (arith, suc-mul i w))
+
+-- ---- the answer's segments
+
+-- a part of a list whose elements are known
+part-is : (l p : List Segment) (o n : ℕ) → length p ≡ n → o + n ≤ length l
+    → ((i : ℕ) → i < n → getD l (o + i) (clean 0) ≡ getD p i (clean 0)) → take n (drop o l) ≡ p
+part-is l p o n e h g =
+    let long : length (take n (drop o l)) ≡ n = length-take-le n (drop o l) (omega (arith, length-drop o l)) in
+    ext-getD (clean 0) (take n (drop o l)) p (long ∙ sym e)
+    (λ i k. let k′ : i < n = omega arith in getD-take n (drop o l) i (clean 0) k′ ∙ getD-drop o l i (clean 0) ∙ g i k′)
+
+-- of k bits from row a on, those that are rows below R
+count-cut : (a k R : ℕ) (q : ℕ → Bool) → a ≤ R → countBelow k (λ j. ltb (a + j) R && q j) ≡ countBelow (min R (a + k) - a) q
+count-cut a k R q h =
+    ap (λ (i : ℕ). countBelow i cut) e
+    ∙ count-add m (k - m) cut
+    ∙ omega (arith, count-ext m cut q (λ r g. rw (lt-ltb (a + r) R (omega arith))), count-none (k - m) (λ r. cut (m + r)) (λ r g. rw (le-ltb (a + (m + r)) R (omega arith))))
+  where
+    cut : ℕ → Bool
+    cut j = ltb (a + j) R && q j
+
+    m : ℕ
+    m = min R (a + k) - a
+
+    e : k ≡ m + (k - m)
+    e = omega arith
+
+module _ (R : ℕ) (f : ℕ → Bool) (bodies : List (List ℕ)) where
+  abbrev p : ℕ → Bool
+  p = answerRows f bodies
+
+  abbrev A : List ℕ
+  A = fromRows 32 R p
+
+  abbrev T : List Segment
+  T = answerSegments R f bodies
+
+  pub answer-bit : (i j : ℕ) → i < segmentCount 32 R → j < 32 → isSet (getD A i 0) j ≡ ltb (i * 32 + j) R && f (heldAt bodies i j)
+  unfolding answerRows heldAt
+  answer-bit i j h k = from-bit 32 (omega arith) R p i j h k
+
+  pub answer-below : (i : ℕ) → getD A i 0 < 2 ^ 32
+  answer-below i = from-below 32 (omega arith) R p i
+
+  pub answer-length : length T ≡ segmentCount 32 R
+  unfolding answerSegments
+  answer-length = length-map A (kind 32 32) ∙ from-length 32 (omega arith) R p
+
+  pub answer-canonical : canonical R p ≡ canonicalOf T
+  unfolding answerSegments encoded
+  answer-canonical = canonical-is R p
+
+  pub answer-whole : take (segmentCount 32 R) T ≡ T
+  answer-whole = take-all (segmentCount 32 R) T (omega (arith, answer-length))
+
+  -- the segment of a word whose bits are right
+  segment-is : (i x : ℕ) → i < segmentCount 32 R → x < 2 ^ 32
+      → ((j : ℕ) → j < 32 → isSet x j ≡ ltb (i * 32 + j) R && f (heldAt bodies i j)) → getD T i (clean 0) ≡ kind 32 32 x
+  unfolding answerSegments kind allSet
+  segment-is i x h l g =
+      List·getD-map (kind 32 32) A i 0
+      ∙ ap (kind 32 32) (word-by-bits 32 (getD A i 0) x (answer-below i) l (λ j k. answer-bit i j h k ∙ sym (g j k)))
+
+  module _ (o n ones dirty : ℕ) (extra : ℕ → ℕ) (s : StretchAt R bodies o n ones dirty extra) where
+    -- segment i of a clean stretch
+    clean-segment : dirty ≡ 0 → (i x : ℕ) → i < n → x < 2 ^ 32 → ((j : ℕ) → j < 32 → isSet x j ≡ ltb ((o + i) * 32 + j) R && f ones)
+        → getD T (o + i) (clean 0) ≡ kind 32 32 x
+    clean-segment z i x h l g =
+        segment-is (o + i) x (omega (arith, s .within)) l
+        (λ j k. g j k ∙ sym (ap (λ (c : ℕ). ltb ((o + i) * 32 + j) R && f c) (s .clean z (o + i) (omega arith) (omega arith) j k)))
+
+    -- a clean stretch whose rows are not in the answer
+    pub run-zeros : dirty ≡ 0 → f ones ≡ false → take n (drop o T) ≡ replicate n (clean 0)
+    unfolding kind
+    run-zeros z e =
+        part-is T (replicate n (clean 0)) o n (length-replicate n (clean 0)) (omega (arith, s .within, answer-length))
+        (λ i h. clean-segment z i 0 h (omega arith) (λ j k. zero-clear j ∙ sym (ap (λ (t : Bool). ltb ((o + i) * 32 + j) R && t) e ∙ and-false (ltb ((o + i) * 32 + j) R)))
+        ∙ sym (getD-replicate n i (clean 0) (clean 0) h))
+
+    -- segment i of a clean stretch whose rows are in the answer, by a mask of those below R
+    ones-segment : dirty ≡ 0 → f ones ≡ true → (i k : ℕ) → i < n → k ≤ 32 → ((j : ℕ) → j < 32 → isSet (2 ^ k - 1) j ≡ ltb ((o + i) * 32 + j) R)
+        → getD T (o + i) (clean 0) ≡ kind 32 32 (2 ^ k - 1)
+    ones-segment z e i k h l g =
+        clean-segment z i (2 ^ k - 1) h (omega (arith, ones-lt k, pow-mono l))
+        (λ j b. g j b ∙ sym (ap (λ (t : Bool). ltb ((o + i) * 32 + j) R && t) e ∙ and-true (ltb ((o + i) * 32 + j) R)))
+
+    ones-inside : dirty ≡ 0 → f ones ≡ true → (i : ℕ) → i < n → suc (o + i) * 32 ≤ R → getD T (o + i) (clean 0) ≡ clean 1
+    unfolding kind allSet
+    ones-inside z e i h l = ones-segment z e i 32 h (omega arith) (λ j b. full-set 32 j b ∙ sym (mask-inside 32 (omega arith) R (o + i) j l b))
+
+    ones-last : dirty ≡ 0 → f ones ≡ true → (i : ℕ) → i < n → suc (o + i) ≡ segmentCount 32 R → getD T (o + i) (clean 0) ≡ kind 32 32 (2 ^ lastRows 32 R - 1)
+    ones-last z e i h l = ones-segment z e i (lastRows 32 R) h (last-le 32 (omega arith) R) (λ j b. mask-last 32 (omega arith) R (o + i) j l)
+
+    -- a clean stretch whose rows are in the answer, without pad bits
+    pub run-ones : dirty ≡ 0 → f ones ≡ true → (o + n) * 32 ≤ R → take n (drop o T) ≡ replicate n (clean 1)
+    run-ones z e h =
+        part-is T (replicate n (clean 1)) o n (length-replicate n (clean 1)) (omega (arith, s .within, answer-length))
+        (λ i l. ones-inside z e i l (omega arith) ∙ sym (getD-replicate n i (clean 1) (clean 0) l))
+
+    -- and one that ends with the last segment, which may have pad bits
+    pub run-ones-last : dirty ≡ 0 → f ones ≡ true → o + n ≡ segmentCount 32 R
+        → take n (drop o T) ≡ replicate (n - 1) (clean 1) ++ kind 32 32 (2 ^ lastRows 32 R - 1) ∷ []
+    run-ones-last z e h = part-is T (run ++ last ∷ []) o n (length-append run (last ∷ []) ∙ omega (arith, m-is, s .some)) (omega (arith, s .within, answer-length)) each
+      where
+        run : List Segment
+        run = replicate (n - 1) (clean 1)
+
+        last : Segment
+        last = kind 32 32 (2 ^ lastRows 32 R - 1)
+
+        m-is : length run ≡ n - 1
+        m-is = length-replicate (n - 1) (clean 1)
+
+        each : (i : ℕ) → i < n → getD T (o + i) (clean 0) ≡ getD (run ++ last ∷ []) i (clean 0)
+        each i l = elim (decLe (suc i) (n - 1)) [
+          | yes k ↦
+              ones-inside z e i l (before-last 32 (omega arith) R (suc (o + i)) (omega arith))
+              ∙ sym (List·getD-append run (last ∷ []) (clean 0) i (omega (arith, m-is)) ∙ getD-replicate (n - 1) i (clean 1) (clean 0) k)
+          | no k ↦ ones-last z e i l (omega arith) ∙ sym (getD-at run last [] (clean 0) i (omega (arith, m-is)))
+        ]
+
+    -- a stretch with a dirty word
+    pub one-word : (dirty ≡ 0 → ⊥) → (x : ℕ) → x < 2 ^ 32 → ((j : ℕ) → j < 32 → isSet x j ≡ ltb (o * 32 + j) R && f (ones + extra j))
+        → take n (drop o T) ≡ kind 32 32 x ∷ []
+    one-word d x h g =
+        part-is T (kind 32 32 x ∷ []) o n (sym (s .single d)) (omega (arith, s .within, answer-length)) each
+      where
+        each : (i : ℕ) → i < n → getD T (o + i) (clean 0) ≡ getD (kind 32 32 x ∷ []) i (clean 0)
+        each zero l =
+            ap (λ (k : ℕ). getD T k (clean 0)) (omega arith)
+            ∙ segment-is o x (omega (arith, s .within)) h (λ j b. g j b ∙ sym (ap (λ (c : ℕ). ltb (o * 32 + j) R && f c) (s .mixed d j b)))
+        each (suc i) l = absurd (omega (arith, s .single d))
+
+    -- ---- its rows, counted
+
+    -- the segments before it have no pad bits
+    pub rows-before : o * 32 ≤ R
+    rows-before = before-last 32 (omega arith) R o (omega (arith, s .some, s .within))
+
+    -- how many rows it has
+    abbrev its : ℕ
+    its = min R ((o + n) * 32) - o * 32
+
+    count-stretch : countBelow (min R ((o + n) * 32)) p ≡ countBelow (min R (o * 32)) p + countBelow its (λ r. p (o * 32 + r))
+    count-stretch =
+        let e : min R (o * 32) ≡ o * 32 = omega (arith, rows-before) in
+        let e′ : min R ((o + n) * 32) ≡ o * 32 + its = omega (arith, rows-before) in
+        ap (λ (k : ℕ). countBelow k p) e′ ∙ count-add (o * 32) its p ∙ rw e
+
+    -- a row of a clean stretch
+    clean-row : dirty ≡ 0 → (r : ℕ) → r < its → p (o * 32 + r) ≡ f ones
+    unfolding answerRows heldAt
+    clean-row z r h =
+        let e : o * 32 + r ≡ (o + r / 32) * 32 + r % 32 = omega arith in
+        ap p e ∙ ap f (s .clean z (o + r / 32) (omega arith) (omega arith) (r % 32) (omega arith))
+
+    -- a clean stretch: all of its rows or none
+    pub count-in : dirty ≡ 0 → f ones ≡ true → countBelow (min R ((o + n) * 32)) p ≡ countBelow (min R (o * 32)) p + (min R ((o + n) * 32) - o * 32)
+    count-in z e = omega (arith, count-stretch, count-all its (λ r. p (o * 32 + r)) (λ r h. clean-row z r h ∙ e))
+
+    pub count-out : dirty ≡ 0 → f ones ≡ false → countBelow (min R ((o + n) * 32)) p ≡ countBelow (min R (o * 32)) p
+    count-out z e = omega (arith, count-stretch, count-none its (λ r. p (o * 32 + r)) (λ r h. clean-row z r h ∙ e))
+
+    -- one with a dirty word: bit by bit
+    pub count-mixed : (dirty ≡ 0 → ⊥) → countBelow (min R ((o + n) * 32)) p ≡ countBelow (min R (o * 32)) p + countBelow 32 (λ j. ltb (o * 32 + j) R && f (ones + extra j))
+    unfolding answerRows heldAt
+    count-mixed d =
+        let e : min R (o * 32 + 32) - o * 32 ≡ its = omega (arith, s .single d) in
+        omega (
+          arith,
+          count-stretch,
+          count-ext its (λ r. p (o * 32 + r)) bits (λ r h. ap f (s .mixed d r (omega (arith, s .single d)))),
+          count-cut (o * 32) 32 R bits rows-before,
+          ap (λ (k : ℕ). countBelow k bits) e,
+        )
+      where
+        bits : ℕ → Bool
+        bits j = f (ones + extra j)
