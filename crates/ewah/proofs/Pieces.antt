@@ -15,7 +15,7 @@ use Rattle.ewah.specs.declared.cursor.Piece as code
 use Rattle.ewah.specs.declared.cursor.Piece.the-variants.{Clean, Dirty}
 use Rattle.ewah.specs.Markers.{FieldsOf}
 use Rattle.ewah.specs.Cursors.{Stands, InOrder, leftOf, piecesFrom, pieceThen}
-use Rattle.meaning.specs.Ahead.{advanced}
+use Rattle.meaning.specs.Ahead.{advanced, firstSize}
 
 cons-at : (b : List ℕ) (at : ℕ) → at < length b → drop at b ≡ getD b at 0 ∷ drop (at + 1) b
 cons-at b at h = drop-cons b at 0 h ∙ ap (λ (n : ℕ). getD b at 0 ∷ drop n b) (sym (add-one at))
@@ -37,7 +37,7 @@ module _ (b : List ℕ) (at due : ℕ) (ps : List Piece) (inv : pieces due (drop
   at-end h i =
       let none : ps ≡ [] = sym inv ∙ (unfold pieces in rw (drop-of-length-le b h)) in
       record {
-        in-order = record { inside = i; value-low = omega arith; dirty-low = omega arith };
+        in-order = record { inside = i; value-low = omega arith; left-low = omega arith; dirty-low = omega arith };
         has = rw (drop-of-length-le b h) (unfold pieces in sym none);
         at-end = λ z. none;
       }
@@ -46,7 +46,7 @@ module _ (b : List ℕ) (at due : ℕ) (ps : List Piece) (inv : pieces due (drop
     pub on-dirty : (due ≡ 0 → ⊥) → due ≤ mostDirty → Stands b (record { piece = Dirty (getD b at 0); next = at + 1; dirty = due - 1 }) ps
     unfolding piecesFrom pieceThen
     on-dirty k l = record {
-      in-order = record { inside = omega arith; value-low = tt; dirty-low = omega arith };
+      in-order = record { inside = omega arith; value-low = tt; left-low = omega arith; dirty-low = omega arith };
       has = sym (pieces-dirty due (getD b at 0) (drop (at + 1) b) k) ∙ ap (pieces due) (sym (cons-at b at h)) ∙ inv;
       at-end = λ z. absurd (omega arith);
     }
@@ -59,13 +59,23 @@ module _ (b : List ℕ) (at due : ℕ) (ps : List Piece) (inv : pieces due (drop
       pub on-run : (m .clean ≡ 0 → ⊥) → Stands b (record { piece = Clean (m .value) (m .clean); next = at + 1; dirty = m .dirty }) ps
       unfolding piecesFrom pieceThen
       on-run k = record {
-        in-order = record { inside = omega arith; value-low = f .in-range .value-low; dirty-low = f .in-range .dirty-low };
+        in-order = record { inside = omega arith; value-low = f .in-range .value-low; left-low = f .in-range .clean-low; dirty-low = f .in-range .dirty-low };
         has = marked;
         at-end = λ e. absurd (k e);
       }
 
       pub on-idle : m .clean ≡ 0 → pieces (m .dirty) (drop (at + 1) b) ≡ ps
       on-idle e = sym (run-zero (m .value) (m .clean) (pieces (m .dirty) (drop (at + 1) b)) e) ∙ marked
+
+-- what is left of the cursor's piece is the first one's size
+pub first-left : (b : List ℕ) (c : Cursor) → 1 ≤ leftOf (c .piece) → firstSize (piecesFrom b c) ≡ leftOf (c .piece)
+unfolding piecesFrom pieceThen firstSize
+first-left b c h = go (c .piece) h
+  where
+    go : (p : code.Piece) → 1 ≤ leftOf p → firstSize (pieceThen p (pieces (c .dirty) (drop (c .next) b))) ≡ leftOf p
+    go (Clean v zero) h = absurd (omega arith)
+    go (Clean v (suc n)) h = refl
+    go (Dirty x) h = refl
 
 -- ---- n segments on
 
@@ -78,7 +88,7 @@ module _ (b : List ℕ) (c : Cursor) (n : ℕ) (o : InOrder b c) (g : 1 ≤ n) (
       → Stands b (record { piece = Clean v (k - n); next = c .next; dirty = c .dirty }) (advanced n (piecesFrom b c))
   unfolding piecesFrom pieceThen
   run-shorter v k e l = record {
-    in-order = record { inside = o .inside; value-low = rw e at (o .value-low); dirty-low = o .dirty-low };
+    in-order = record { inside = o .inside; value-low = rw e at (o .value-low); left-low = omega (arith, o .left-low, ap leftOf e); dirty-low = o .dirty-low };
     has = sym (ap (λ (q : code.Piece). advanced n (pieceThen q others)) e ∙ part k l);
     at-end = λ z. absurd (omega arith);
   }

@@ -4,7 +4,7 @@ use Prim.Native.Nat.{ℕ, _≤_, _<_}
 use mathlib.Core.Path.{_≡_}
 use mathlib.Core.List.{List, [], _∷_}
 use lib.ListN.{length, drop}
-use Rattle.meaning.specs.Limits.{mostDirty}
+use Rattle.meaning.specs.Limits.{mostClean, mostDirty}
 use Rattle.meaning.specs.Ewah.{Piece, dirtyWord, runThen, pieces}
 use Rattle.ewah.specs.declared.cursor.Piece as code
 use Rattle.ewah.specs.declared.cursor.Piece.the-variants.{Clean, Dirty}
@@ -34,6 +34,7 @@ piecesFrom b c = pieceThen (c .piece) (pieces (c .dirty) (drop (c .next) b))
 pub record InOrder (b : List ℕ) (c : Cursor) : Type 0 where
   pub inside : c .next ≤ length b
   pub value-low : ValueLow (c .piece)
+  pub left-low : leftOf (c .piece) ≤ mostClean
   pub dirty-low : c .dirty ≤ mostDirty
 
 -- it has the pieces ps still to give, and none only if its own is empty

@@ -16,7 +16,7 @@ use Rattle.meaning.specs.Segment.{isSet, bitAt, hasRow, ones, segmentCou
 use Rattle.meaning.specs.Demands.{IsNth}
 use Rattle.meaning.proofs.RowWords.{bit-le, rows-fit, pad-clear, has-at}
 use Rattle.meaning.proofs.Counted.{count-none}
-use Rattle.meaning.proofs.Sums.{sum-ext, sum-join}
+use Rattle.meaning.proofs.Sums.{sum-ext, sum-le, sum-join}
 
 -- ---- counts
 
@@ -29,9 +29,8 @@ unfolding countBelow
 count-add m n p = sum-join m n (λ r. bit (p r))
 
 pub count-le : (n : ℕ) (p : ℕ → Bool) → countBelow n p ≤ n
-unfolding countBelow sumBelow
-count-le zero p = omega arith
-count-le (suc n) p = omega (arith, count-le n p, bit-le (p n))
+unfolding countBelow
+count-le n p = sum-le n (λ r. bit (p r)) (λ r g. bit-le (p r))
 
 pub count-all : (n : ℕ) (p : ℕ → Bool) → ((r : ℕ) → r < n → p r ≡ true) → countBelow n p ≡ n
 unfolding countBelow sumBelow bit
