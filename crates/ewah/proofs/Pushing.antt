@@ -234,7 +234,7 @@ pub written-none : (old : List ℕ) (w : Writer) → Tracks w blank → Written 
 unfolding body
 written-none old w t = record { drawn = record { tracks = t; words = rw (t .same .0) }; kept = refl }
 
-drop-more : (m n : ℕ) (xs ys : List ℕ) → m ≤ n → drop m xs ≡ drop m ys → drop n xs ≡ drop n ys
+pub drop-more : (m n : ℕ) (xs ys : List ℕ) → m ≤ n → drop m xs ≡ drop m ys → drop n xs ≡ drop n ys
 drop-more m n xs ys h e =
     let k : m + (n - m) ≡ n = omega arith in
     rw (← k, ← drop-drop (n - m) m xs, ← drop-drop (n - m) m ys, e)

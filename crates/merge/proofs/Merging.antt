@@ -1,0 +1,163 @@
+-- The engine's loop: what holds where it has passed o segments, and at its end.
+-- Assumes nothing.
+use Prim.Native.Nat.{ℕ, _+_, _*_, _≤_, _<_}
+use mathlib.Core.Bool.{Bool, true, false}
+use mathlib.Core.Path.{_≡_, refl, sym, ap, _∙_, subst}
+use mathlib.Core.List.{List, _++_, foldl}
+use native.Mathlib.Omega.{arith}
+use lib.ListN.{length, drop, getD}
+use Rattle.meaning.specs.Limits.{mostRows, mostSegments}
+use Rattle.meaning.specs.Rows.{countBelow, sumBelow}
+use Rattle.meaning.specs.Segment.{Segment, segmentCount}
+use Rattle.meaning.specs.Canonical.{Draft, blank, body, put, canonicalOf}
+use Rattle.meaning.specs.Index.{rowCount}
+use Rattle.meaning.specs.Question.{endsAt, stretches}
+use Rattle.meaning.specs.Laws.{IndexFacts, SoundFacts}
+use Rattle.meaning.specs.Ahead.{StretchAt, answerSegments}
+use Rattle.meaning.proofs.Prefixes.{upTo, upTo-on, upTo-all, upTo-within, upTo-low}
+use Rattle.meaning.proofs.Evaluated.{answer-length, answer-canonical}
+use Rattle.meaning.proofs.Counting.{count-le}
+use Rattle.meaning.proofs.Sums.{sum-le}
+use Rattle.ewah.specs.declared.writer.Writer.{Writer}
+use Rattle.ewah.specs.declared.cursor.Piece as code
+use Rattle.ewah.specs.declared.cursor.Piece.the-variants.{Clean, Dirty}
+use Rattle.ewah.specs.Cursors.{ValueLow, leftOf}
+use Rattle.ewah.specs.Drafts.{Tracks, Writing, RoomFor}
+use Rattle.ewah.proofs.Growing.{used-is}
+use Rattle.ewah.proofs.Pushing.{Written, written-none, written-more, written-all}
+use Rattle.words.specs.Counters.{countAt}
+use Rattle.merge.specs.declared.survey.Survey.{Survey}
+use Rattle.merge.specs.declared.evaluate.Operation.{Operation}
+use Rattle.merge.specs.declared.evaluate.Part.{Part}
+use Rattle.merge.specs.Operations.{chosen}
+use Rattle.merge.specs.Queries.{cursorOf, Standing, Listed, placeBody}
+use Rattle.merge.specs.Surveys.{onesIn, Surveyed, MovedAll}
+use Rattle.merge.specs.Parts.{Evaluated, MaskOf, PartLow, partSegments}
+use Rattle.merge.specs.Emitted.{Emitted}
+use Rattle.merge.specs.Merges.{bodiesOf, answerBody, MergedTo}
+use Rattle.merge.proofs.Stretched.{stretch, least-some, least-low, least-left}
+
+one-most : (p : code.Piece) → ValueLow p → onesIn p ≤ 1
+one-most (Clean v n) h = omega arith
+one-most (Dirty x) h = omega arith
+
+module _ (index list : List ℕ) (op : Operation) (table : List ℕ) where
+  abbrev R : ℕ
+  R = rowCount index
+
+  abbrev S : ℕ
+  S = segmentCount 32 R
+
+  abbrev bodies : List (List ℕ)
+  bodies = bodiesOf index list
+
+  -- the answer's segments
+  abbrev T : List Segment
+  T = answerSegments R (chosen op table) bodies
+
+  pub record Merging (old : List ℕ) (store : Bool) (out ns : List ℕ) (s : Survey) (w : Writer) (o steps : ℕ) : Type 0 where
+    pub here : o ≤ S
+    pub standing : Standing index list ns (length list) o
+    pub long : length ns ≡ 256
+    pub surveyed : Surveyed ns (length list) s
+    pub counted : steps ≡ countBelow o (endsAt bodies)
+    pub tracks : Tracks w (upTo T o)
+    pub stored : store ≡ true → Written old out w (upTo T o)
+    pub kept : store ≡ false → out ≡ old
+    pub same : length out ≡ length old
+
+  pub merging-none : (old : List ℕ) (store : Bool) (ns : List ℕ) (s : Survey) (w : Writer) → Standing index list ns (length list) 0 → length ns ≡ 256 → Surveyed ns (length list) s → Tracks w blank → Merging old store old ns s w 0 0
+  unfolding countBelow sumBelow
+  merging-none old store ns s w st n su t = record {
+    here = omega arith;
+    standing = st;
+    long = n;
+    surveyed = su;
+    counted = refl;
+    tracks = t;
+    stored = λ e. written-none old w t;
+    kept = λ e. refl;
+    same = refl;
+  }
+
+  body-is : canonicalOf T ≡ answerBody index list op table
+  unfolding answerBody
+  body-is = sym (answer-canonical R (chosen op table) bodies)
+
+  pub segments-few : R ≤ mostRows → S ≤ mostSegments
+  segments-few h = unfold segmentCount in omega arith
+
+  module _ (f : IndexFacts index) (li : Listed index list) (some : 1 ≤ length list) (old : List ℕ) (store : Bool) (out ns : List ℕ) (s : Survey) (w : Writer) (o steps : ℕ) (g : Merging old store out ns s w o steps) where
+    -- what the writer has used, and how many stretches there were
+    pub used-low : w .used ≤ 2 * o
+    used-low = omega (arith, used-is (upTo T o) (g .tracks), upTo-low T o)
+
+    pub steps-low : steps ≤ o
+    steps-low = omega (arith, g .counted, count-le o (endsAt bodies))
+
+    pub value-low : (i : ℕ) → i < length list → ValueLow (cursorOf ns i .piece)
+    value-low i h = g .standing i h .in-order .value-low
+
+    pub ones-low : s .ones ≤ 64
+    ones-low = omega (arith, g .surveyed .ones-is, li .most, sum-le (length list) (λ i. onesIn (cursorOf ns i .piece)) (λ i h. one-most (cursorOf ns i .piece) (value-low i h)))
+
+    -- ---- one stretch more
+    module _ (l : o < S) where
+      sound : (i : ℕ) → i < length list → SoundFacts R (placeBody index list i)
+      sound i h = f .bodies (getD list i 0) (li .its i h)
+
+      pub is-stretch : StretchAt R bodies o (s .least) (s .ones) (s .dirty) (countAt (s .planes))
+      is-stretch = stretch index list ns R o s sound (g .standing) (g .surveyed) some l
+
+      pub n-some : 1 ≤ s .least
+      n-some = least-some index list ns R o s sound (g .standing) (g .surveyed) some l
+
+      pub n-low : s .least ≤ 65535
+      n-low = least-low index list ns R o s sound (g .standing) (g .surveyed) some l
+
+      pub n-left : (i : ℕ) → i < length list → s .least ≤ leftOf (cursorOf ns i .piece)
+      n-left = least-left index list ns R o s sound (g .standing) (g .surveyed) some l
+
+      module _ (mask : ℕ) (m : MaskOf R (o + s .least) mask) (p : Part) (e : Evaluated op table s mask p) where
+        put-is : foldl put (upTo T o) (partSegments p) ≡ upTo T (o + s .least)
+        put-is = ap (λ (ss : List Segment). foldl put (upTo T o) ss) (e .segments R o bodies is-stretch m) ∙ upTo-on T o (s .least)
+
+        pub part-low : PartLow p
+        part-low = e .low n-low
+
+        pub writing : Writing w
+        writing = (upTo T o, g .tracks)
+
+        pub room : (store ≡ true → length (answerBody index list op table) ≤ length old) → store ≡ true → RoomFor (partSegments p) w (length out)
+        room h t = (upTo T o, g .tracks, omega (arith, h t, g .same, ap length body-is, ap (λ (d : Draft). length (body d)) put-is, upTo-within T (o + s .least)))
+
+        module _ (out′ : List ℕ) (v : Writer) (em : Emitted out out′ w (partSegments p) store v) (ns′ : List ℕ) (s′ : Survey) (mv : MovedAll index list ns (s .least) ns′ s′) (same′ : length out′ ≡ length out) where
+          pub merging-more : Merging old store out′ ns′ s′ v (o + s .least) (steps + 1)
+          merging-more = record {
+            here = is-stretch .within;
+            standing = mv .on o (g .standing);
+            long = mv .long ∙ g .long;
+            surveyed = mv .surveyed;
+            counted = omega (arith, g .counted, is-stretch .next);
+            tracks = subst (λ (d : Draft). Tracks v d) put-is (em .grown (upTo T o) (g .tracks));
+            stored = λ t. subst (λ (d : Draft). Written old out′ v d) put-is (written-more old out out′ w v (upTo T o) (partSegments p) (g .stored t) (em .stored t));
+            kept = λ t. em .kept t ∙ g .kept t;
+            same = same′ ∙ g .same;
+          }
+
+    -- ---- the end
+    module _ (l : S ≤ o) where
+      all-is : body (upTo T o) ≡ answerBody index list op table
+      all-is = upTo-all T o (omega (arith, answer-length R (chosen op table) bodies)) ∙ body-is
+
+      words-are : w .used ≡ length (answerBody index list op table)
+      words-are = used-is (upTo T o) (g .tracks) ∙ ap length all-is
+
+      pub merging-all : MergedTo index list op table old store out (record { words = w .used; stretches = steps })
+      unfolding stretches
+      merging-all = let end : o ≡ S = omega (arith, g .here) in record {
+        words-are = words-are;
+        stretches-are = g .counted ∙ ap (λ (k : ℕ). countBelow k (endsAt bodies)) end;
+        stored = λ t. written-all old out w (upTo T o) (g .stored t) ∙ ap (λ (b : List ℕ). b ++ drop (w .used) old) all-is ∙ ap (λ (k : ℕ). answerBody index list op table ++ drop k old) words-are;
+        kept = g .kept;
+      }

@@ -1,0 +1,6 @@
+pub mod Queries
+pub mod Surveys
+pub mod Operations
+pub mod Parts
+pub mod Emitted
+pub mod Merges

@@ -1,0 +1,28 @@
+-- What the engine gives: the canonical body of the answer's rows, and the stretches.
+-- Assumes nothing.
+use Prim.Native.Nat.{ℕ}
+use mathlib.Core.Bool.{Bool, true, false}
+use mathlib.Core.Path.{_≡_}
+use mathlib.Core.List.{List, _++_, map}
+use lib.ListN.{length, drop}
+use Rattle.meaning.specs.Canonical.{canonical}
+use Rattle.meaning.specs.Index.{rowCount, bodyAt}
+use Rattle.meaning.specs.Question.{stretches}
+use Rattle.meaning.specs.Ahead.{answerRows}
+use Rattle.merge.specs.declared.evaluate.Operation.{Operation}
+use Rattle.merge.specs.declared.engine.Merged.{Merged}
+use Rattle.merge.specs.Operations.{chosen}
+
+-- the bodies that a list names
+abbrev pub bodiesOf : (index list : List ℕ) → List (List ℕ)
+bodiesOf index list = map (bodyAt index) list
+
+-- the canonical body of the answer's rows
+unfoldable pub answerBody : (index list : List ℕ) → Operation → (table : List ℕ) → List ℕ
+answerBody index list op table = canonical (rowCount index) (answerRows (chosen op table) (bodiesOf index list))
+
+pub record MergedTo (index list : List ℕ) (op : Operation) (table out : List ℕ) (store : Bool) (out′ : List ℕ) (r : Merged) : Type 0 where
+  pub words-are : r .words ≡ length (answerBody index list op table)
+  pub stretches-are : r .stretches ≡ stretches (rowCount index) (bodiesOf index list)
+  pub stored : store ≡ true → out′ ≡ answerBody index list op table ++ drop (length (answerBody index list op table)) out
+  pub kept : store ≡ false → out′ ≡ out

@@ -1,0 +1,61 @@
+// A part of the answer goes to the writer.
+ghost use mathlib.Core.Path.{_≡_};
+ghost use mathlib.Core.Bool.{true};
+ghost use Prim.Native.Nat.{_<_, _≤_, _^_};
+ghost use lib.ListN.{length};
+ghost use Rattle.ewah.specs.Drafts.{Writing, RoomFor, Grown, Pushed};
+ghost use Rattle.merge.specs.Parts.{partSegments, PartLow};
+ghost use Rattle.merge.specs.Emitted.{Emitted};
+use crate::evaluate::Part;
+use ewah::writer;
+use ewah::writer::Writer;
+
+// The writer grown by a part, with no buffer.
+fn grow(w: Writer, part: Part) -> Writer
+    requires { ⌜ Writing w ⌝ }
+    requires { ⌜ (w .used < 2 ^ 61) × PartLow part ⌝ }
+    ensures { λ r. ⌜ Grown w (partSegments part) r ⌝ }
+{
+    match part {
+        Part::Run(value, n) => writer::grow_run(w, value, n),
+        Part::Tail(n, x) => {
+            let r = writer::grow_run(w, 1, n);
+            writer::grow_segment(r, x)
+        }
+    }
+}
+
+// The same with its words.
+fn push(out: &mut [u32], w: Writer, part: Part) -> Writer
+    requires { ⌜ RoomFor (partSegments part) w (length (now out)) ⌝ }
+    requires { ⌜ PartLow part ⌝ }
+    ensures { λ r. ⌜ Pushed (now (out .entry)) (now (out .exit)) w (partSegments part) r ⌝ }
+{
+    match part {
+        Part::Run(value, n) => writer::push_run(out, w, value, n),
+        Part::Tail(n, x) => push_tail(out, w, n, x),
+    }
+}
+
+// So many segments of ones, and then a word.
+fn push_tail(out: &mut [u32], w: Writer, n: u32, x: u32) -> Writer
+    requires { ⌜ RoomFor (partSegments (Part.Tail n x)) w (length (now out)) ⌝ }
+    requires { ⌜ n ≤ 65535 ⌝ }
+    ensures { λ r. ⌜ Pushed (now (out .entry)) (now (out .exit)) w (partSegments (Part.Tail n x)) r ⌝ }
+{
+    let r = writer::push_run(out, w, 1, n);
+    writer::push_segment(out, r, x)
+}
+
+// A part is written where `store` says so, and else only measured.
+pub fn emit(out: &mut [u32], w: Writer, part: Part, store: bool) -> Writer
+    requires { ⌜ Writing w ⌝ }
+    requires { ⌜ (w .used < 2 ^ 61) × PartLow part ⌝ }
+    requires { ⌜ (store ≡ true → RoomFor (partSegments part) w (length (now out))) ⌝ }
+    ensures { λ r. ⌜ Emitted (now (out .entry)) (now (out .exit)) w (partSegments part) store r ⌝ }
+{
+    if store {
+        return push(out, w, part);
+    }
+    grow(w, part)
+}

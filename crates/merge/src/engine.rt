@@ -1,0 +1,61 @@
+// The engine behind every question over a list: stretch by stretch, the cursors go on together and the answer's part is emitted.
+ghost use mathlib.Core.Path.{_≡_};
+ghost use mathlib.Core.Bool.{true};
+ghost use Prim.Native.Nat.{_≤_};
+ghost use lib.ListN.{length};
+ghost use Rattle.meaning.specs.Laws.{IndexFacts};
+ghost use Rattle.merge.specs.Queries.{Listed};
+ghost use Rattle.merge.specs.Operations.{LowNumber};
+ghost use Rattle.merge.specs.Merges.{MergedTo, answerBody};
+use crate::emit;
+use crate::evaluate;
+use crate::evaluate::Operation;
+use crate::survey;
+use ewah::writer;
+use index::contents;
+use words::rows;
+
+// How many words the answer has, and how many stretches were passed.
+pub struct Merged {
+    pub words: usize,
+    pub stretches: u32,
+}
+
+// The answer, written to the front of `out` where `store` says so, and else only measured.
+pub fn merge(
+    index: &[u32],
+    list: &[u32],
+    op: Operation,
+    table: &[u32],
+    out: &mut [u32],
+    store: bool,
+) -> Merged
+    requires { ⌜ IndexFacts (now index) ⌝ }
+    requires { ⌜ Listed (now index) (now list) ⌝ }
+    requires { ⌜ (1 ≤ length (now list)) × (length (now table) ≤ 65) × LowNumber op ⌝ }
+    requires { ⌜ (store ≡ true → length (answerBody (now index) (now list) op (now table)) ≤ length (now out)) ⌝ }
+    ensures { λ r. ⌜ MergedTo (now (index .entry)) (now (list .entry)) op (now (table .entry)) (now (out .entry)) store (now (out .exit)) r ⌝ }
+{
+    let rows = contents::rows(index);
+    let segments = rows::segment_count(rows);
+    let mut q = survey::open(index, list);
+    let mut s = survey::all(q);
+    let mut w = writer::start();
+    let mut o: u32 = 0;
+    let mut stretches: u32 = 0;
+    while o < segments {
+        let n = s.least;
+        let mask = evaluate::mask_before(rows, segments, o + n);
+        let part = evaluate::evaluate(op, table, s, mask);
+        let v = emit::emit(out, w, part, store);
+        w = v;
+        let t = survey::advance(index, list, &mut q.numbers, n);
+        s = t;
+        o += n;
+        stretches += 1;
+    }
+    Merged {
+        words: w.used,
+        stretches,
+    }
+}

@@ -1,0 +1,103 @@
+// What an answer has of a stretch: which rows, by how many bitmaps of the list have them.
+ghost use mathlib.Core.Path.{_≡_};
+ghost use Prim.Native.Nat.{ℕ, _+_, _≤_, _<_};
+ghost use lib.Dec.{eqb};
+ghost use lib.ListN.{length, getD};
+ghost use Rattle.meaning.specs.Segment.{isSet, segmentCount};
+ghost use Rattle.words.specs.Counters.{countAt};
+ghost use Rattle.merge.specs.Operations.{chosen, LowNumber};
+ghost use Rattle.merge.specs.Parts.{Evaluated, MaskOf};
+use crate::survey::Survey;
+use words::bits;
+use words::counters;
+use words::rows;
+
+// A row is in the answer where at least so many of the list have it; where exactly so many have it; where the table has a 1 at the
+// number that have it.
+pub enum Operation {
+    AtLeast(u32),
+    Exactly(u32),
+    Table,
+}
+
+// Whether a row that c of the list have is in the answer.
+fn holds(op: Operation, table: &[u32], c: u32) -> bool
+    ensures { λ r. ⌜ r ≡ chosen op (now (table .entry)) c ⌝ }
+{
+    match op {
+        Operation::AtLeast(t) => t <= c,
+        Operation::Exactly(t) => c == t,
+        Operation::Table => entry_is_one(table, c),
+    }
+}
+
+// Whether the table has a 1 at c.
+fn entry_is_one(table: &[u32], c: u32) -> bool
+    ensures { λ r. ⌜ r ≡ eqb (getD (now (table .entry)) c 0) 1 ⌝ }
+{
+    let k = c as usize;
+    if k < table.len() {
+        return table[k] == 1;
+    }
+    false
+}
+
+// The rows of a segment that are in the answer, where base of the list have every row of it, and the counters' number more.
+fn word(op: Operation, table: &[u32], base: u32, planes: [u32; 7]) -> u32
+    requires { ⌜ (base ≤ 64) × (length (now table) ≤ 65) × LowNumber op ⌝ }
+    ensures { λ r. ⌜ ((j : ℕ) → j < 32 → isSet r j ≡ chosen op (now (table .entry)) (base + countAt planes j)) ⌝ }
+{
+    match op {
+        Operation::AtLeast(t) => {
+            if t <= base {
+                return 0xFFFF_FFFF;
+            }
+            counters::at_least(planes, t - base)
+        }
+        Operation::Exactly(t) => {
+            if t < base {
+                return 0;
+            }
+            counters::equals(planes, t - base)
+        }
+        Operation::Table => counters::by_table(planes, base, table),
+    }
+}
+
+// The bits of the segment before `end` that are rows.
+pub fn mask_before(rows: u32, segments: u32, end: u32) -> u32
+    requires { ⌜ (segments ≡ segmentCount 32 rows) × (1 ≤ end) × (end ≤ segments) ⌝ }
+    ensures { λ r. ⌜ MaskOf rows end r ⌝ }
+{
+    if end < segments {
+        return 0xFFFF_FFFF;
+    }
+    bits::low_ones(rows::last_rows(rows))
+}
+
+// The segments of the answer in one stretch: a clean run, with its value and its length; or so many segments of ones, and then one
+// word.
+pub enum Part {
+    Run(u32, u32),
+    Tail(u32, u32),
+}
+
+// The part of the answer in a stretch of n segments, of whose last one the mask has the rows.
+pub fn evaluate(op: Operation, table: &[u32], s: Survey, mask: u32) -> Part
+    requires { ⌜ (length (now table) ≤ 65) × LowNumber op × (s .ones ≤ 64) × (1 ≤ s .least) ⌝ }
+    ensures { λ r. ⌜ Evaluated op (now (table .entry)) s mask r ⌝ }
+{
+    let n = s.least;
+    let base = s.ones;
+    if s.dirty != 0 {
+        let planes = s.planes;
+        return Part::Tail(0, mask & word(op, table, base, planes));
+    }
+    if holds(op, table, base) {
+        if mask == 0xFFFF_FFFF {
+            return Part::Run(1, n);
+        }
+        return Part::Tail(n - 1, mask);
+    }
+    Part::Run(0, n)
+}
