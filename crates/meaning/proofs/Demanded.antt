@@ -133,11 +133,11 @@ demand3 index list T buffer a = holds index list T buffer a
 
 -- ---- stretches
 
-or-false : (a b : Bool) → a || b ≡ false → (a ≡ false) × (b ≡ false)
+pub or-false : (a b : Bool) → a || b ≡ false → (a ≡ false) × (b ≡ false)
 or-false true b e = absurd (true≢false e)
 or-false false b e = (refl, e)
 
-good-each : (index list : List ℕ) → anyBad index list ≡ false → (i : ℕ) → i < length list → getD list i 0 < bitmapCount index
+pub good-each : (index list : List ℕ) → anyBad index list ≡ false → (i : ℕ) → i < length list → getD list i 0 < bitmapCount index
 unfolding anyBad badBitmap
 good-each index [] e i h = absurd (omega arith)
 good-each index (k ∷ ks) e zero h = leb-false (bitmapCount index) k (or-false (leb (bitmapCount index) k) (anyBad index ks) e .0)

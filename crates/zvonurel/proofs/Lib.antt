@@ -3,3 +3,4 @@ pub mod Alone
 pub mod Asks
 pub mod Plain
 pub mod Numbers
+pub mod Listing

@@ -6,13 +6,15 @@ use mathlib.Core.Path.{_≡_}
 use mathlib.Core.List.{List}
 use lib.ListN.{take}
 use Rattle.meaning.specs.Refusal.{Outcome, answer}
-use Rattle.meaning.specs.Answer.{bufferAfter, wordsReported}
+use Rattle.meaning.specs.Answer.{bufferAfter, wordsReported, stretchesReported}
 use Rattle.ewah.specs.declared.refusal.Refusal.{Refusal}
 use Rattle.ewah.specs.Told.{refusedBy}
 use Rattle.zvonurel.specs.declared.answer.Flag.{Flag}
 use Rattle.zvonurel.specs.declared.answer.Flag.the-variants as flag
 use Rattle.zvonurel.specs.declared.answer.Number.{Number}
 use Rattle.zvonurel.specs.declared.answer.Number.the-variants as number
+use Rattle.zvonurel.specs.declared.answer.Answered.{Answered}
+use Rattle.zvonurel.specs.declared.answer.Answered.the-variants as answered
 use Rattle.zvonurel.specs.declared.answer.Written.{Written}
 use Rattle.zvonurel.specs.declared.answer.Written.the-variants as written
 
@@ -42,4 +44,25 @@ wordsOf (written.Refused r) = 0
 pub record Wrote (o : Outcome (List ℕ)) (r : Written) (buffer buffer′ : List ℕ) : Type 0 where
   pub told : writtenOf r buffer′ ≡ o
   pub words : wordsOf r ≡ wordsReported o
+  pub left : buffer′ ≡ bufferAfter o buffer
+
+-- ---- an answer over a list, which reports its stretches too
+
+unfoldable pub answeredOf : Answered → (buffer′ : List ℕ) → Outcome (List ℕ)
+answeredOf (answered.Words n s) buffer′ = answer (take n buffer′)
+answeredOf (answered.Refused r) buffer′ = refusedBy r
+
+unfoldable pub wordsIn : Answered → ℕ
+wordsIn (answered.Words n s) = n
+wordsIn (answered.Refused r) = 0
+
+unfoldable pub stretchesIn : Answered → ℕ
+stretchesIn (answered.Words n s) = s
+stretchesIn (answered.Refused r) = 0
+
+-- a call with the outcome o: it tells that outcome, its words and its stretches, and leaves the buffer as it should be
+pub record Reported (index list : List ℕ) (o : Outcome (List ℕ)) (r : Answered) (buffer buffer′ : List ℕ) : Type 0 where
+  pub told : answeredOf r buffer′ ≡ o
+  pub words : wordsIn r ≡ wordsReported o
+  pub stretches : stretchesIn r ≡ stretchesReported index list o
   pub left : buffer′ ≡ bufferAfter o buffer

@@ -21,6 +21,12 @@ pub enum Written {
     Refused(Refusal),
 }
 
+// How many words were written, at the front of the buffer, and how many stretches the answer was made of.
+pub enum Answered {
+    Words(usize, u32),
+    Refused(Refusal),
+}
+
 // 3, at word 1.
 pub fn too_many_rows() -> Refusal
     ensures { λ r. ⌜ r ≡ refusal 3 1 ⌝ }

@@ -14,6 +14,7 @@ use meaning::MOST_ROWS;
 
 mod answer;
 mod ask;
+mod lists;
 
 pub use crate::answer::Flag;
 pub use crate::answer::Number;
