@@ -41,7 +41,7 @@ all-whole : (index list : List ℕ) → SoundIndex index → ((i : ℕ) → i < 
 all-whole index [] s h = tt
 all-whole index (k ∷ ks) s h = (index-whole index s k (h 0 (omega arith)), all-whole index ks s (λ i g. h (suc i) (omega arith)))
 
-named-is : (index list : List ℕ) → map (rowsAt index) list ≡ map rowsOf (map (bodyAt index) list)
+pub named-is : (index list : List ℕ) → map (rowsAt index) list ≡ map rowsOf (map (bodyAt index) list)
 unfolding rowsAt
 named-is index [] = refl
 named-is index (k ∷ ks) = ap (λ (l : List (ℕ → Bool)). rowsOf (bodyAt index k) ∷ l) (named-is index ks)

@@ -76,7 +76,7 @@ part-is l p o n e h g =
     (λ i k. let k′ : i < n = omega arith in getD-take n (drop o l) i (clean 0) k′ ∙ getD-drop o l i (clean 0) ∙ g i k′)
 
 -- of k bits from row a on, those that are rows below R
-count-cut : (a k R : ℕ) (q : ℕ → Bool) → a ≤ R → countBelow k (λ j. ltb (a + j) R && q j) ≡ countBelow (min R (a + k) - a) q
+pub count-cut : (a k R : ℕ) (q : ℕ → Bool) → a ≤ R → countBelow k (λ j. ltb (a + j) R && q j) ≡ countBelow (min R (a + k) - a) q
 count-cut a k R q h =
     ap (λ (i : ℕ). countBelow i cut) e
     ∙ count-add m (k - m) cut

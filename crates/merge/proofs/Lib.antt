@@ -4,4 +4,6 @@ pub mod Places
 pub mod Evaluating
 pub mod Emitting
 pub mod Stretched
+pub mod Along
 pub mod Merging
+pub mod Tallying

@@ -3,5 +3,6 @@
 pub mod emit;
 pub mod engine;
 pub mod evaluate;
+pub mod histogram;
 pub mod query;
 pub mod survey;

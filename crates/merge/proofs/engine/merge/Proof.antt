@@ -1,15 +1,17 @@
-use Rattle.merge.proofs.Merging.{Merging, merging-none, merging-more, merging-all, segments-few, used-low, steps-low, ones-low, is-stretch, n-some, n-low, n-left, part-low, room}
-use mathlib.Core.Path.{_≡_, ap, _∙_}
+-- `merge::engine::merge` meets its contract. The invariant: the cursors are on their way at segment o, and the writer has put the
+-- answer's first o segments.
+-- Assumes nothing.
 use Prim.Native.Nat.{ℕ, _+_, _-_, _≤_, _<_}
+use mathlib.Core.Path.{_≡_, ap, _∙_, subst}
 use denote.Ref.{now}
+use Rattle.meaning.specs.Limits.{mostSegments}
 use Rattle.meaning.specs.Segment.{segmentCount}
 use Rattle.meaning.specs.Index.{rowCount}
-use Rattle.meaning.specs.Limits.{mostSegments}
-use mathlib.Core.Path.{subst}
 use Rattle.ewah.specs.Drafts.{Writing}
 use Rattle.merge.specs.Surveys.{Surveyed}
 use Rattle.merge.specs.Parts.{MaskOf}
-use Rattle.merge.proofs.Merging.{Merging, merging-none, merging-more, merging-all, segments-few, used-low, steps-low, is-stretch, n-some, n-low, n-left, part-low, room}
+use Rattle.merge.proofs.Along.{along-none, segments-few, ones-low, is-stretch, n-some, n-low, n-left}
+use Rattle.merge.proofs.Merging.{Merging, merging-none, merging-more, merging-all, used-low, steps-low, part-low, room}
 use borrow.Author.Needs.{needs}
 use native.Mathlib.Omega.{arith}
 use Rattle.merge.proofs.engine.merge.Statement.{statement}
@@ -29,7 +31,7 @@ module _ (i : tie.In-loop Inv-loop μ-loop) where
   few : segmentCount 32 (rowCount (now (i .before .before .before .before .before .before .before .before .before .before .before .args .index))) ≤ mostSegments
   few =
       let s = i .before .before .before .before .before .before .before .before .before .before .before in
-      segments-few (now (s .args .index)) (now (s .args .list)) (s .args .op) (now (s .args .table)) (s .pre .0 .head .few-rows)
+      segments-few (rowCount (now (s .args .index))) (s .pre .0 .head .few-rows)
 
   inside : i .before .loop .o < segmentCount 32 (rowCount (now (i .before .before .before .before .before .before .before .before .before .before .before .args .index)))
   inside = omega (arith, i .loop-test .taken, total)
@@ -64,7 +66,7 @@ loop-holds c =
     let s = c .before .before .before .before .before .before .before .before .before in
     let a = s .args in
     let e = c .before .before .«open» .ensures in
-    merging-none (now (a .index)) (now (a .list)) (a .op) (now (a .table)) (now (a .out)) (a .store) _ _ (c .start .result) (e .2) (e .1) (subst (λ (m : ℕ). Surveyed (c .before .before .«open» .result .numbers) m (c .before .all .result)) (e .0) (c .before .all .ensures)) (c .start .ensures)
+    merging-none (now (a .index)) (now (a .list)) (a .op) (now (a .table)) (now (a .out)) (a .store) _ _ (c .start .result) (along-none (now (a .index)) (now (a .list)) _ _ (e .2) (e .1) (subst (λ (m : ℕ). Surveyed (c .before .before .«open» .result .numbers) m (c .before .all .result)) (e .0) (c .before .all .ensures))) (c .start .ensures)
 
 add-mask-before : tie.Need-add-mask-before Inv-loop μ-loop
 add-mask-before c =
@@ -72,7 +74,7 @@ add-mask-before c =
     let l = i .before .loop in
     let s = i .before .before .before .before .before .before .before .before .before .before .before in
     let a = s .args in
-    omega (arith, n-low (now (a .index)) (now (a .list)) (a .op) (now (a .table)) (s .pre .0) (s .pre .1 .0) (s .pre .1 .1 .0 .0) (now (a .out)) (a .store) (l .out) (l .q .numbers) (l .s) (l .w) (l .o) (l .stretches) (l .inv) (inside i), few i, l .inv .here)
+    omega (arith, n-low (now (a .index)) (now (a .list)) (s .pre .0) (s .pre .1 .0) (s .pre .1 .1 .0 .0) (l .q .numbers) (l .s) (l .o) (l .inv .along) (inside i), few i, l .inv .along .here)
 
 mask-before-requires : tie.Need-mask-before-requires Inv-loop μ-loop
 mask-before-requires c κs =
@@ -80,7 +82,7 @@ mask-before-requires c κs =
     let l = i .before .loop in
     let s = i .before .before .before .before .before .before .before .before .before .before .before in
     let a = s .args in
-    (i .before .before .before .before .before .segment-count .ensures, omega (arith, n-some (now (a .index)) (now (a .list)) (a .op) (now (a .table)) (s .pre .0) (s .pre .1 .0) (s .pre .1 .1 .0 .0) (now (a .out)) (a .store) (l .out) (l .q .numbers) (l .s) (l .w) (l .o) (l .stretches) (l .inv) (inside i)), omega (arith, is-stretch (now (a .index)) (now (a .list)) (a .op) (now (a .table)) (s .pre .0) (s .pre .1 .0) (s .pre .1 .1 .0 .0) (now (a .out)) (a .store) (l .out) (l .q .numbers) (l .s) (l .w) (l .o) (l .stretches) (l .inv) (inside i) .within, total i))
+    (i .before .before .before .before .before .segment-count .ensures, omega (arith, n-some (now (a .index)) (now (a .list)) (s .pre .0) (s .pre .1 .0) (s .pre .1 .1 .0 .0) (l .q .numbers) (l .s) (l .o) (l .inv .along) (inside i)), omega (arith, is-stretch (now (a .index)) (now (a .list)) (s .pre .0) (s .pre .1 .0) (s .pre .1 .1 .0 .0) (l .q .numbers) (l .s) (l .o) (l .inv .along) (inside i) .within, total i))
 
 evaluate-requires : tie.Need-evaluate-requires Inv-loop μ-loop
 evaluate-requires c κs =
@@ -88,7 +90,7 @@ evaluate-requires c κs =
     let l = i .before .loop in
     let s = i .before .before .before .before .before .before .before .before .before .before .before in
     let a = s .args in
-    (s .pre .1 .1 .0 .1, s .pre .1 .1 .0 .2, ones-low (now (a .index)) (now (a .list)) (a .op) (now (a .table)) (s .pre .0) (s .pre .1 .0) (s .pre .1 .1 .0 .0) (now (a .out)) (a .store) (l .out) (l .q .numbers) (l .s) (l .w) (l .o) (l .stretches) (l .inv), n-some (now (a .index)) (now (a .list)) (a .op) (now (a .table)) (s .pre .0) (s .pre .1 .0) (s .pre .1 .1 .0 .0) (now (a .out)) (a .store) (l .out) (l .q .numbers) (l .s) (l .w) (l .o) (l .stretches) (l .inv) (inside i))
+    (s .pre .1 .1 .0 .1, s .pre .1 .1 .0 .2, ones-low (now (a .index)) (now (a .list)) (s .pre .0) (s .pre .1 .0) (s .pre .1 .1 .0 .0) (l .q .numbers) (l .s) (l .o) (l .inv .along), n-some (now (a .index)) (now (a .list)) (s .pre .0) (s .pre .1 .0) (s .pre .1 .1 .0 .0) (l .q .numbers) (l .s) (l .o) (l .inv .along) (inside i))
 
 emit-requires : tie.Need-emit-requires Inv-loop μ-loop
 emit-requires c κs =
@@ -100,7 +102,7 @@ emit-requires c κs =
     let e = c .before .evaluate .ensures in (
       (upTo-tracks i),
       (
-        (omega (arith, used-low (now (a .index)) (now (a .list)) (a .op) (now (a .table)) (s .pre .0) (s .pre .1 .0) (s .pre .1 .1 .0 .0) (now (a .out)) (a .store) (l .out) (l .q .numbers) (l .s) (l .w) (l .o) (l .stretches) (l .inv), few i, l .inv .here), part-low (now (a .index)) (now (a .list)) (a .op) (now (a .table)) (s .pre .0) (s .pre .1 .0) (s .pre .1 .1 .0 .0) (now (a .out)) (a .store) (l .out) (l .q .numbers) (l .s) (l .w) (l .o) (l .stretches) (l .inv) (inside i) _ (mask-of i _ m) _ e),
+        (omega (arith, used-low (now (a .index)) (now (a .list)) (a .op) (now (a .table)) (s .pre .0) (s .pre .1 .0) (s .pre .1 .1 .0 .0) (now (a .out)) (a .store) (l .out) (l .q .numbers) (l .s) (l .w) (l .o) (l .stretches) (l .inv), few i, l .inv .along .here), part-low (now (a .index)) (now (a .list)) (a .op) (now (a .table)) (s .pre .0) (s .pre .1 .0) (s .pre .1 .1 .0 .0) (now (a .out)) (a .store) (l .out) (l .q .numbers) (l .s) (l .w) (l .o) (l .stretches) (l .inv) (inside i) _ (mask-of i _ m) _ e),
         room (now (a .index)) (now (a .list)) (a .op) (now (a .table)) (s .pre .0) (s .pre .1 .0) (s .pre .1 .1 .0 .0) (now (a .out)) (a .store) (l .out) (l .q .numbers) (l .s) (l .w) (l .o) (l .stretches) (l .inv) (inside i) _ (mask-of i _ m) _ e (s .pre .1 .1 .1),
       ),
     )
@@ -111,7 +113,7 @@ advance-requires c κs =
     let l = i .before .loop in
     let s = i .before .before .before .before .before .before .before .before .before .before .before in
     let a = s .args in
-    (s .pre .0 .head, (s .pre .0 .entries, (s .pre .1 .0, (l .inv .long, n-some (now (a .index)) (now (a .list)) (a .op) (now (a .table)) (s .pre .0) (s .pre .1 .0) (s .pre .1 .1 .0 .0) (now (a .out)) (a .store) (l .out) (l .q .numbers) (l .s) (l .w) (l .o) (l .stretches) (l .inv) (inside i), λ k h. (n-left (now (a .index)) (now (a .list)) (a .op) (now (a .table)) (s .pre .0) (s .pre .1 .0) (s .pre .1 .1 .0 .0) (now (a .out)) (a .store) (l .out) (l .q .numbers) (l .s) (l .w) (l .o) (l .stretches) (l .inv) (inside i) k h, l .inv .standing k h .in-order)))))
+    (s .pre .0 .head, (s .pre .0 .entries, (s .pre .1 .0, (l .inv .along .long, n-some (now (a .index)) (now (a .list)) (s .pre .0) (s .pre .1 .0) (s .pre .1 .1 .0 .0) (l .q .numbers) (l .s) (l .o) (l .inv .along) (inside i), λ k h. (n-left (now (a .index)) (now (a .list)) (s .pre .0) (s .pre .1 .0) (s .pre .1 .1 .0 .0) (l .q .numbers) (l .s) (l .o) (l .inv .along) (inside i) k h, l .inv .along .standing k h .in-order)))))
 
 add-o : tie.Need-add-o Inv-loop μ-loop
 add-o c =
@@ -119,7 +121,7 @@ add-o c =
     let l = i .before .loop in
     let s = i .before .before .before .before .before .before .before .before .before .before .before in
     let a = s .args in
-    omega (arith, n-low (now (a .index)) (now (a .list)) (a .op) (now (a .table)) (s .pre .0) (s .pre .1 .0) (s .pre .1 .1 .0 .0) (now (a .out)) (a .store) (l .out) (l .q .numbers) (l .s) (l .w) (l .o) (l .stretches) (l .inv) (inside i), few i, l .inv .here)
+    omega (arith, n-low (now (a .index)) (now (a .list)) (s .pre .0) (s .pre .1 .0) (s .pre .1 .1 .0 .0) (l .q .numbers) (l .s) (l .o) (l .inv .along) (inside i), few i, l .inv .along .here)
 
 add-stretches : tie.Need-add-stretches Inv-loop μ-loop
 add-stretches c =
@@ -127,7 +129,7 @@ add-stretches c =
     let l = i .before .loop in
     let s = i .before .before .before .before .before .before .before .before .before .before .before in
     let a = s .args in
-    omega (arith, steps-low (now (a .index)) (now (a .list)) (a .op) (now (a .table)) (s .pre .0) (s .pre .1 .0) (s .pre .1 .1 .0 .0) (now (a .out)) (a .store) (l .out) (l .q .numbers) (l .s) (l .w) (l .o) (l .stretches) (l .inv), few i, l .inv .here)
+    omega (arith, steps-low (now (a .index)) (now (a .list)) (a .op) (now (a .table)) (s .pre .0) (s .pre .1 .0) (s .pre .1 .1 .0 .0) (now (a .out)) (a .store) (l .out) (l .q .numbers) (l .s) (l .w) (l .o) (l .stretches) (l .inv), few i, l .inv .along .here)
 
 loop-less : tie.Need-loop-less Inv-loop μ-loop
 loop-less c =
@@ -135,7 +137,7 @@ loop-less c =
     let l = i .before .loop in
     let s = i .before .before .before .before .before .before .before .before .before .before .before in
     let a = s .args in
-    omega (arith, n-some (now (a .index)) (now (a .list)) (a .op) (now (a .table)) (s .pre .0) (s .pre .1 .0) (s .pre .1 .1 .0 .0) (now (a .out)) (a .store) (l .out) (l .q .numbers) (l .s) (l .w) (l .o) (l .stretches) (l .inv) (inside i), i .loop-test .taken)
+    omega (arith, n-some (now (a .index)) (now (a .list)) (s .pre .0) (s .pre .1 .0) (s .pre .1 .1 .0 .0) (l .q .numbers) (l .s) (l .o) (l .inv .along) (inside i), i .loop-test .taken)
 
 loop-again : tie.Need-loop-again Inv-loop μ-loop
 loop-again c =

@@ -1,0 +1,138 @@
+-- The histogram's loop: how the numbers grow over a stretch, what holds where it has passed o segments, and its end.
+-- Assumes nothing.
+use Prim.Native.Nat.{ℕ, _+_, _-_, _*_, _≤_, _<_, min}
+use mathlib.Core.Bool.{Bool, true, _&&_, and-true}
+use mathlib.Core.Path.{_≡_, refl, sym, ap, _∙_}
+use mathlib.Core.List.{List, map}
+use lib.Dec.{eqb, ltb}
+use lib.ListN.{length, getD, set, length-set}
+use lib.Seq.{ext-getD, getD-set-same, getD-set-other}
+use native.Mathlib.Decide.{ℕ-discrete}
+use native.Mathlib.Omega.{arith}
+use borrow.Author.Tests.{eq-eqb, ne-eqb}
+use Rattle.meaning.specs.Limits.{mostRows}
+use Rattle.meaning.specs.Rows.{countBelow}
+use Rattle.meaning.specs.Segment.{isSet, segmentCount, tabulate}
+use Rattle.meaning.specs.Ewah.{rowsOf}
+use Rattle.meaning.specs.Index.{rowCount}
+use Rattle.meaning.specs.Question.{histogramOf}
+use Rattle.meaning.specs.Laws.{IndexFacts}
+use Rattle.meaning.specs.Ahead.{StretchAt, answerRows}
+use Rattle.meaning.proofs.Counting.{count-ext, count-le, count-all}
+use Rattle.meaning.proofs.RowWords.{length-tabulate, getD-tabulate, before-last, rows-fit}
+use Rattle.meaning.proofs.Evaluated.{count-cut, count-in, count-out, count-mixed}
+use Rattle.words.specs.Counters.{countAt}
+use Rattle.merge.specs.declared.survey.Survey.{Survey}
+use Rattle.merge.specs.Queries.{Listed}
+use Rattle.merge.specs.Surveys.{MovedAll}
+use Rattle.merge.specs.Parts.{MaskOf}
+use Rattle.merge.specs.Merges.{bodiesOf}
+use Rattle.merge.specs.Tallies.{heldBefore, Tally, Tallied}
+use Rattle.merge.proofs.Along.{Along, along-more, is-stretch}
+
+-- ---- one stretch
+
+-- the set bits of a mask are as many as its segment has rows
+mask-count : (R i mask : ℕ) → i < segmentCount 32 R → ((j : ℕ) → j < 32 → isSet mask j ≡ ltb (i * 32 + j) R) → countBelow 32 (isSet mask) ≡ min R (i * 32 + 32) - i * 32
+mask-count R i mask h m =
+    count-ext 32 (isSet mask) (λ j. ltb (i * 32 + j) R && true) (λ j l. m j l ∙ sym (and-true (ltb (i * 32 + j) R)))
+    ∙ count-cut (i * 32) 32 R (λ j. true) (before-last 32 (omega arith) R i h)
+    ∙ count-all (min R (i * 32 + 32) - i * 32) (λ j. true) (λ j l. refl)
+
+module _ (counts : List ℕ) (s : Survey) (mask : ℕ) where
+  -- how many rows a clean stretch has
+  abbrev rowsIn : ℕ
+  rowsIn = (s .least - 1) * 32 + countBelow 32 (isSet mask)
+
+  -- the numbers with those counted in
+  abbrev grown : List ℕ
+  grown = set counts (s .ones) (getD counts (s .ones) 0 + rowsIn)
+
+  -- how many rows of the mask exactly c of the bodies have, in a stretch with a dirty word
+  abbrev rowsAt : (c : ℕ) → ℕ
+  rowsAt c = countBelow 32 (λ j. isSet mask j && eqb (s .ones + countAt (s .planes) j) c)
+
+  module _ (R o : ℕ) (bodies : List (List ℕ)) (st : StretchAt R bodies o (s .least) (s .ones) (s .dirty) (countAt (s .planes))) (m : MaskOf R (o + s .least) mask) (t : Tally R bodies o counts) where
+    rows-in : rowsIn ≡ min R ((o + s .least) * 32) - o * 32
+    rows-in =
+        let i : o + s .least - 1 < segmentCount 32 R = omega (arith, st .some, st .within) in
+        omega (arith, mask-count R (o + s .least - 1) mask i (m .rows), before-last 32 (omega arith) R (o + s .least - 1) i, st .some)
+
+    on-clean : s .dirty ≡ 0 → s .ones < length counts → Tally R bodies (o + s .least) grown
+    on-clean z h c l = go (ℕ-discrete c (s .ones))
+      where
+        go : Dec (c ≡ s .ones) → getD grown c 0 ≡ heldBefore R bodies (o + s .least) c
+        go (yes e) =
+            let same : getD grown c 0 ≡ getD counts (s .ones) 0 + rowsIn = ap (λ (i : ℕ). getD grown i 0) e ∙ getD-set-same counts (s .ones) _ 0 h in
+            let was : getD counts (s .ones) 0 ≡ heldBefore R bodies o c = ap (λ (i : ℕ). getD counts i 0) (sym e) ∙ t c l in
+            omega (arith, same, was, rows-in, count-in R (λ k. eqb k c) bodies o (s .least) (s .ones) (s .dirty) (countAt (s .planes)) st z (eq-eqb (s .ones) c (sym e)))
+        go (no e) =
+            getD-set-other counts (s .ones) c _ 0 e
+            ∙ t c l
+            ∙ sym (count-out R (λ k. eqb k c) bodies o (s .least) (s .ones) (s .dirty) (countAt (s .planes)) st z (ne-eqb (s .ones) c (λ q. e (sym q))))
+
+    on-mixed : (s .dirty ≡ 0 → ⊥) → (r : List ℕ) → ((c : ℕ) → c < 65 → getD r c 0 ≡ getD counts c 0 + 1 * rowsAt c)
+        → Tally R bodies (o + s .least) r
+    on-mixed d r g c l =
+        let here : o + s .least - 1 ≡ o = omega (arith, st .single d) in
+        omega (
+          arith,
+          g c l,
+          t c l,
+          count-mixed R (λ k. eqb k c) bodies o (s .least) (s .ones) (s .dirty) (countAt (s .planes)) st d,
+          count-ext 32 (λ j. isSet mask j && eqb (s .ones + countAt (s .planes) j) c) (λ j. ltb (o * 32 + j) R && eqb (s .ones + countAt (s .planes) j) c)
+              (λ j k. ap (λ (b : Bool). b && eqb (s .ones + countAt (s .planes) j) c) (m .rows j k ∙ ap (λ (i : ℕ). ltb (i * 32 + j) R) here)),
+        )
+
+  pub tallied-clean : length counts ≡ 65 → s .ones ≤ 64 → s .dirty ≡ 0 → Tallied counts s mask grown
+  tallied-clean n h z = record {
+    long = length-set counts (s .ones) _ ∙ n;
+    on = λ R o bodies st m t. on-clean R o bodies st m t z (omega arith);
+  }
+
+  pub tallied-mixed : (s .dirty ≡ 0 → ⊥) → (r : List ℕ) → length r ≡ 65 → ((c : ℕ) → c < 65 → getD r c 0 ≡ getD counts c 0 + 1 * rowsAt c)
+      → Tallied counts s mask r
+  tallied-mixed d r n g = record { long = n; on = λ R o bodies st m t. on-mixed R o bodies st m t d r g }
+
+-- ---- all
+
+-- a list whose entries are known
+tabulated : (n : ℕ) (f : ℕ → ℕ) (xs : List ℕ) → length xs ≡ n → ((c : ℕ) → c < n → getD xs c 0 ≡ f c) → xs ≡ tabulate n f
+tabulated n f xs e h = ext-getD 0 xs (tabulate n f) (e ∙ sym (length-tabulate n f)) (λ c l. let k : c < n = omega arith in h c k ∙ sym (getD-tabulate n f c k))
+
+module _ (index list : List ℕ) where
+  abbrev R : ℕ
+  R = rowCount index
+
+  abbrev S : ℕ
+  S = segmentCount 32 R
+
+  abbrev bodies : List (List ℕ)
+  bodies = bodiesOf index list
+
+  pub record Tallying (ns : List ℕ) (s : Survey) (counts : List ℕ) (o : ℕ) : Type 0 where
+    pub along : Along index list ns s o
+    pub long : length counts ≡ 65
+    pub tally : Tally R bodies o counts
+
+  pub tallying-none : (ns : List ℕ) (s : Survey) (counts : List ℕ) → Along index list ns s 0 → length counts ≡ 65 → ((c : ℕ) → c < 65 → getD counts c 0 ≡ 0) → Tallying ns s counts 0
+  tallying-none ns s counts a n z = record { along = a; long = n; tally = λ c l. omega (arith, z c l, count-le (min R (0 * 32)) (answerRows (λ k. eqb k c) bodies)) }
+
+  module _ (ns : List ℕ) (s : Survey) (counts : List ℕ) (o : ℕ) (g : Tallying ns s counts o) where
+    pub tally-low : R ≤ mostRows → (c : ℕ) → c < 65 → getD counts c 0 ≤ mostRows
+    tally-low h c l = omega (arith, g .tally c l, count-le (min R (o * 32)) (answerRows (λ k. eqb k c) bodies))
+
+    pub tallying-more : (f : IndexFacts index) (li : Listed index list) (some : 1 ≤ length list) (l : o < S) (mask : ℕ) → MaskOf R (o + s .least) mask
+        → (r : List ℕ) → Tallied counts s mask r → (ns′ : List ℕ) (s′ : Survey) → MovedAll index list ns (s .least) ns′ s′ → Tallying ns′ s′ r (o + s .least)
+    tallying-more f li some l mask m r t ns′ s′ mv = record {
+      along = along-more index list f li some ns s o (g .along) l ns′ s′ mv;
+      long = t .long;
+      tally = t .on R o bodies (is-stretch index list f li some ns s o (g .along) l) m (g .tally);
+    }
+
+    pub tallying-all : S ≤ o → counts ≡ histogramOf R (map rowsOf bodies)
+    unfolding histogramOf answerRows
+    tallying-all h =
+        let end : min R (o * 32) ≡ R = omega (arith, rows-fit 32 (omega arith) R) in
+        tabulated 65 (λ c. countBelow R (answerRows (λ k. eqb k c) bodies)) counts (g .long)
+        (λ c l. g .tally c l ∙ ap (λ (k : ℕ). countBelow k (answerRows (λ k′. eqb k′ c) bodies)) end)

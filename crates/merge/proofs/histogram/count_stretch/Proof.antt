@@ -1,0 +1,72 @@
+-- `merge::histogram::count_stretch` meets its contract: each way is a law of `Tallying`.
+-- Assumes nothing.
+use borrow.Author.Needs.{needs}
+use native.Mathlib.Omega.{arith}
+use Rattle.meaning.specs.Segment.{isSet}
+use Rattle.meaning.proofs.Counting.{count-le}
+use Rattle.merge.proofs.Tallying.{tallied-clean, tallied-mixed}
+use Rattle.merge.proofs.histogram.count_stretch.Statement.{statement}
+use Rattle.merge.proofs.histogram.count_stretch.Tie as tie
+
+add-to-histogram-requires : tie.Need-add-to-histogram-requires
+add-to-histogram-requires c κs = search needs
+
+returns : tie.Need-returns
+returns c =
+    let s = c .before .before .before .before in
+    tallied-mixed (s .args .counts) (s .args .s) (s .args .mask) (λ z. omega arith) _ (c .add-to-histogram .ensures .0) (c .add-to-histogram .ensures .1)
+
+cast-k : tie.Need-cast-k
+cast-k c = search needs
+
+mul-r : tie.Need-mul-r
+mul-r c = search needs
+
+array-read-r : tie.Need-array-read-r
+array-read-r c = search needs
+
+sub-r : tie.Need-sub-r
+sub-r c = search needs
+
+mul-r-2 : tie.Need-mul-r-2
+mul-r-2 c = search needs
+
+count-requires : tie.Need-count-requires
+count-requires c κs = search needs
+
+add-r : tie.Need-add-r
+add-r c = omega (arith, c .count .ensures, count-le 32 (isSet (c .before .before .before .args .mask)))
+
+add-r-2 : tie.Need-add-r-2
+add-r-2 c =
+    let s = c .before .before .before in
+    omega (arith, c .count .ensures, count-le 32 (isSet (s .args .mask)), s .pre .3 (s .args .s .ones) (omega arith))
+
+mul-r-3 : tie.Need-mul-r-3
+mul-r-3 c = search needs
+
+array-write-r : tie.Need-array-write-r
+array-write-r c = search needs
+
+returns-2 : tie.Need-returns-2
+returns-2 c =
+    let s = c .before .before .before in
+    rw (c .count .ensures) (tallied-clean (s .args .counts) (s .args .s) (s .args .mask) (search needs) (s .pre .0) (omega arith))
+
+pub count-stretch-spec : {M : Type 1} → statement M
+count-stretch-spec =
+    tie.close
+    (tie.spec
+    add-to-histogram-requires
+    returns
+    cast-k
+    mul-r
+    array-read-r
+    sub-r
+    mul-r-2
+    count-requires
+    add-r
+    add-r-2
+    mul-r-3
+    array-write-r
+    returns-2)

@@ -1,0 +1,61 @@
+// The histogram of a list: for each number, how many rows exactly so many of the list have, stretch by stretch.
+ghost use mathlib.Core.Path.{_≡_};
+ghost use mathlib.Core.List.{map};
+ghost use Prim.Native.Nat.{ℕ, _≤_, _<_};
+ghost use lib.ListN.{length, getD};
+ghost use Rattle.meaning.specs.Limits.{mostRows};
+ghost use Rattle.meaning.specs.Ewah.{rowsOf};
+ghost use Rattle.meaning.specs.Index.{rowCount, bodyAt};
+ghost use Rattle.meaning.specs.Laws.{IndexFacts};
+ghost use Rattle.meaning.specs.Question.{histogramOf};
+ghost use Rattle.merge.specs.Queries.{Listed};
+ghost use Rattle.merge.specs.Tallies.{Tallied};
+use crate::evaluate;
+use crate::survey;
+use crate::survey::Survey;
+use index::contents;
+use words::bits;
+use words::counters;
+use words::rows;
+
+// The numbers with the rows of a stretch counted in, of whose last segment the mask has the rows.
+fn count_stretch(counts: [u32; 65], s: Survey, mask: u32) -> [u32; 65]
+    requires { ⌜ (s .ones ≤ 64) × (1 ≤ s .least) × (s .least ≤ 65535) × ((c : ℕ) → c < 65 → getD counts c 0 ≤ mostRows) ⌝ }
+    ensures { λ r. ⌜ Tallied counts s mask r ⌝ }
+{
+    let n = s.least;
+    let base = s.ones;
+    if s.dirty != 0 {
+        let planes = s.planes;
+        return counters::add_to_histogram(counts, planes, base, mask, 1);
+    }
+    let mut r = counts;
+    let k = base as usize;
+    r[k] = r[k] + ((n - 1) * 32 + bits::count(mask));
+    r
+}
+
+// For each c from 0 to 64 the number of rows that exactly c of the list have.
+pub fn histogram(index: &[u32], list: &[u32]) -> [u32; 65]
+    requires { ⌜ IndexFacts (now index) ⌝ }
+    requires { ⌜ Listed (now index) (now list) ⌝ }
+    requires { ⌜ 1 ≤ length (now list) ⌝ }
+    ensures { λ r. ⌜ r ≡ histogramOf (rowCount (now (index .entry))) (map rowsOf (map (bodyAt (now (index .entry))) (now (list .entry)))) ⌝ }
+{
+    let rows = contents::rows(index);
+    let segments = rows::segment_count(rows);
+    let mut q = survey::open(index, list);
+    let mut s = survey::all(q);
+    let mut counts: [u32; 65] = [0; 65];
+    let mut o: u32 = 0;
+    while o < segments {
+        let n = s.least;
+        let mask = evaluate::mask_before(rows, segments, o + n);
+        let d = count_stretch(counts, s, mask);
+        counts = d;
+        let t = survey::advance(index, list, &mut q.numbers, n);
+        s = t;
+        o += n;
+    }
+    counts
+}
