@@ -4,3 +4,4 @@ pub mod Asks
 pub mod Plain
 pub mod Numbers
 pub mod Listing
+pub mod Choosing

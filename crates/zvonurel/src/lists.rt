@@ -102,3 +102,51 @@ pub fn write_answer(
     }
     write_fitting(index, list, op, table, out)
 }
+
+// The rows that at least t of the list have; 8 for a bad list, or where t is 0 or above the list's length.
+pub fn threshold(index: &[u32], list: &[u32], t: u32, out: &mut [u32]) -> Answered
+    requires { ⌜ IndexFacts (now index) ⌝ }
+    ensures { λ r. ⌜ Reported (now (index .entry)) (now (list .entry)) (refuseIf (meaning.badList (now (index .entry)) (now (list .entry)) || eqb t 0 || ltb (length (now (list .entry))) t) 8 0 0 (meaning.write (rowCount (now (index .entry))) (meaning.rightRows (now (index .entry)) (now (list .entry)) t) (length (now (out .entry))))) r (now (out .entry)) (now (out .exit)) ⌝ }
+{
+    if list_is_bad(index, list) {
+        return Answered::Refused(answer::bad_argument());
+    }
+    if t == 0 {
+        return Answered::Refused(answer::bad_argument());
+    }
+    if list.len() < contents::wide(t) {
+        return Answered::Refused(answer::bad_argument());
+    }
+    write_answer(index, list, Operation::AtLeast(t), &index[0..0], out)
+}
+
+// Whether a table has an entry other than 0 and 1.
+fn entry_is_bad(table: &[u32]) -> bool
+    ensures { λ r. ⌜ r ≡ meaning.badEntry (now (table .entry)) ⌝ }
+{
+    let mut i: usize = 0;
+    while i < table.len() {
+        if 1 < table[i] {
+            return true;
+        }
+        i += 1;
+    }
+    false
+}
+
+// The rows at whose number the table has a 1; 8 for a bad list, or unless the table has one entry more than the list, each 0 or 1.
+pub fn symmetric(index: &[u32], list: &[u32], table: &[u32], out: &mut [u32]) -> Answered
+    requires { ⌜ IndexFacts (now index) ⌝ }
+    ensures { λ r. ⌜ Reported (now (index .entry)) (now (list .entry)) (refuseIf (meaning.badList (now (index .entry)) (now (list .entry)) || not (eqb (length (now (table .entry))) (suc (length (now (list .entry))))) || meaning.badEntry (now (table .entry))) 8 0 0 (meaning.write (rowCount (now (index .entry))) (byTable (now (table .entry)) (meaning.named (now (index .entry)) (now (list .entry)))) (length (now (out .entry))))) r (now (out .entry)) (now (out .exit)) ⌝ }
+{
+    if list_is_bad(index, list) {
+        return Answered::Refused(answer::bad_argument());
+    }
+    if table.len() != list.len() + 1 {
+        return Answered::Refused(answer::bad_argument());
+    }
+    if entry_is_bad(table) {
+        return Answered::Refused(answer::bad_argument());
+    }
+    write_answer(index, list, Operation::Table, table, out)
+}
