@@ -2,7 +2,7 @@
 -- Assumes nothing.
 use Prim.Native.Nat.{ℕ, suc, _+_, _≤_, _<_}
 use mathlib.Core.Bool.{Bool, true, false, _||_, not}
-use mathlib.Core.Path.{_≡_, refl, sym, ap, _∙_}
+use mathlib.Core.Path.{_≡_, refl, sym, ap, _∙_, subst₂}
 use mathlib.Core.List.{List}
 use native.Mathlib.Omega.{arith}
 use native.Mathlib.Numerals.{add-one}
@@ -10,21 +10,28 @@ use borrow.Author.Tests.{lt-ltb, le-ltb, eq-eqb, ne-eqb}
 use lib.Dec.{eqb, leb, ltb}
 use lib.ListN.{length, drop, getD, drop-of-length-le}
 use lib.Seq.{drop-cons}
-use Rattle.meaning.specs.Refusal.{Outcome, refuseIf}
+use Rattle.meaning.specs.Refusal.{Outcome, Verdict, refuseIf, _then_}
 use Rattle.meaning.specs.Canonical.{canonical}
 use Rattle.meaning.specs.Index.{rowCount}
 use Rattle.meaning.specs.Question.{held, atLeast, byTable}
 use Rattle.meaning.specs.Ahead.{answerRows}
-use Rattle.meaning.specs.Answer.{named, rightRows, badEntry, write, fits}
-use Rattle.meaning.proofs.Demanded.{named-is}
+use Rattle.meaning.specs.Answer.{check, threshold, named, rightRows, badEntry, write, fits}
+use Rattle.meaning.proofs.Demanded.{named-is, demand3}
 use Rattle.ewah.specs.declared.refusal.Refusal.{Refusal}
-use Rattle.ewah.specs.Told.{refusedBy}
+use Rattle.ewah.specs.Told.{refusedBy, verdictOf}
 use Rattle.merge.specs.declared.evaluate.Operation.the-variants as operation
 use Rattle.merge.specs.Operations.{chosen}
 use Rattle.merge.specs.Merges.{answerBody}
 use Rattle.zvonurel.specs.declared.answer.Answered.{Answered}
 use Rattle.zvonurel.specs.declared.answer.Answered.the-variants as answered
-use Rattle.zvonurel.specs.Told.{refusal, Reported}
+use Rattle.zvonurel.specs.Told.{refusal, answeredOf, Reported}
+use Rattle.meaning.specs.Laws.{IndexFacts}
+use Rattle.meaning.specs.Demands.{Asked, Demand3}
+use Rattle.meaning.proofs.IndexSound.{index-means}
+use Rattle.meaning.proofs.Outcomes.{then-sound}
+use Rattle.ewah.specs.declared.refusal.Checked.{Checked}
+use Rattle.ewah.specs.declared.refusal.Checked.the-variants as checked
+use Rattle.ewah.proofs.Checks.{sound-is}
 use Rattle.zvonurel.proofs.Listing.{reported-refused}
 
 -- ---- one of three tests refuses, or none does
@@ -87,3 +94,17 @@ module _ (table : List ℕ) (i : ℕ) (v : Bool) (inv : badEntry (drop i table) 
   pub entry-end : length table ≤ i → false ≡ v
   unfolding badEntry
   entry-end h = rw (drop-of-length-le table h) at inv
+
+-- ---- the whole index is checked first
+
+pub checked-index : (k : Checked) (index : List ℕ) → verdictOf k ≡ check index → k ≡ checked.Sound → IndexFacts index
+unfolding check
+checked-index k index e h = index-means index .0 (sound-is k (check index) e h)
+
+pub reported-then : (index list : List ℕ) (k : Checked) (v : Verdict) (o : Outcome (List ℕ)) (r : Answered) (out out′ : List ℕ) → verdictOf k ≡ v → k ≡ checked.Sound → Reported index list o r out out′ → Reported index list (v then o) r out out′
+reported-then index list k v o r out out′ e h w = rw (then-sound v o (sound-is k v e h)) w
+
+-- what is reported of a threshold question meets demand 3
+pub demand-met : (index list : List ℕ) (t : ℕ) (r : Answered) (out out′ : List ℕ) → Reported index list (threshold index list t (length out)) r out out′
+    → Asked index list t → Demand3 index list t out (answeredOf r out′) out′
+demand-met index list t r out out′ w a = subst₂ (λ (o : Outcome (List ℕ)) (b : List ℕ). Demand3 index list t out o b) (sym (w .told)) (sym (w .left)) (demand3 index list t out a)

@@ -6,8 +6,9 @@
 ghost use mathlib.Core.Path.{_≡_};
 ghost use lib.ListN.{length};
 ghost use Rattle.meaning.specs.Answer as meaning;
+ghost use Rattle.meaning.specs.Demands.{Asked, Demand3};
 ghost use Rattle.ewah.specs.Told.{verdictOf};
-ghost use Rattle.zvonurel.specs.Told.{flagOf, numberOf, Wrote};
+ghost use Rattle.zvonurel.specs.Told.{flagOf, numberOf, answeredOf, Wrote, Reported};
 use ewah::query;
 use index::contents;
 use meaning::MOST_ROWS;
@@ -16,6 +17,7 @@ mod answer;
 mod ask;
 mod lists;
 
+pub use crate::answer::Answered;
 pub use crate::answer::Flag;
 pub use crate::answer::Number;
 pub use crate::answer::Written;
@@ -161,5 +163,30 @@ pub fn expand_bitmap(index: &[u32], k: u32, out: &mut [u32]) -> Written
     match checked {
         Checked::Refused(refusal) => Written::Refused(refusal),
         Checked::Sound => ask::plain(contents::body(index, k), contents::rows(index), out),
+    }
+}
+
+// ---- a list of 1 to 64 bitmap numbers, repeats included, each counted as often as it is named
+
+// The rows that at least t of the list have, as a body in canonical form.
+pub fn threshold(index: &[u32], list: &[u32], t: u32, out: &mut [u32]) -> Answered
+    ensures { λ r. ⌜ Reported (now (index .entry)) (now (list .entry)) (meaning.threshold (now (index .entry)) (now (list .entry)) t (length (now (out .entry)))) r (now (out .entry)) (now (out .exit)) ⌝ }
+    ensures { λ r. ⌜ (Asked (now (index .entry)) (now (list .entry)) t → Demand3 (now (index .entry)) (now (list .entry)) t (now (out .entry)) (answeredOf r (now (out .exit))) (now (out .exit))) ⌝ }
+{
+    let checked = check(index);
+    match checked {
+        Checked::Refused(refusal) => Answered::Refused(refusal),
+        Checked::Sound => lists::threshold(index, list, t, out),
+    }
+}
+
+// The rows at whose number the table has a 1, as a body in canonical form.
+pub fn symmetric(index: &[u32], list: &[u32], table: &[u32], out: &mut [u32]) -> Answered
+    ensures { λ r. ⌜ Reported (now (index .entry)) (now (list .entry)) (meaning.symmetric (now (index .entry)) (now (list .entry)) (now (table .entry)) (length (now (out .entry)))) r (now (out .entry)) (now (out .exit)) ⌝ }
+{
+    let checked = check(index);
+    match checked {
+        Checked::Refused(refusal) => Answered::Refused(refusal),
+        Checked::Sound => lists::symmetric(index, list, table, out),
     }
 }
