@@ -3,28 +3,30 @@
 use Prim.Native.Nat.{ℕ, suc, _+_, _≤_, _<_}
 use mathlib.Core.Bool.{Bool, true, false, _||_, not}
 use mathlib.Core.Path.{_≡_, refl, sym, ap, _∙_, subst₂}
-use mathlib.Core.List.{List}
+use mathlib.Core.List.{List, map}
 use native.Mathlib.Omega.{arith}
 use native.Mathlib.Numerals.{add-one}
 use borrow.Author.Tests.{lt-ltb, le-ltb, eq-eqb, ne-eqb}
 use lib.Dec.{eqb, leb, ltb}
 use lib.ListN.{length, drop, getD, drop-of-length-le}
 use lib.Seq.{drop-cons}
-use Rattle.meaning.specs.Refusal.{Outcome, Verdict, refuseIf, _then_}
+use Rattle.meaning.specs.Refusal.{Outcome, Verdict, answer, refuseIf, _then_}
+use Rattle.meaning.specs.Ewah.{rowsOf}
 use Rattle.meaning.specs.Canonical.{canonical}
-use Rattle.meaning.specs.Index.{rowCount}
-use Rattle.meaning.specs.Question.{held, atLeast, byTable}
+use Rattle.meaning.specs.Index.{rowCount, rowsAt}
+use Rattle.meaning.specs.Question.{held, atLeast, byTable, histogramOf}
 use Rattle.meaning.specs.Ahead.{answerRows}
-use Rattle.meaning.specs.Answer.{check, threshold, named, rightRows, badEntry, write, fits}
+use Rattle.meaning.specs.Answer.{check, threshold, named, rightRows, badEntry, write, fits, histogramReported}
 use Rattle.meaning.proofs.Demanded.{named-is, demand3}
 use Rattle.ewah.specs.declared.refusal.Refusal.{Refusal}
 use Rattle.ewah.specs.Told.{refusedBy, verdictOf}
 use Rattle.merge.specs.declared.evaluate.Operation.the-variants as operation
 use Rattle.merge.specs.Operations.{chosen}
-use Rattle.merge.specs.Merges.{answerBody}
+use Rattle.merge.specs.Merges.{bodiesOf, answerBody}
+use Rattle.zvonurel.specs.declared.answer.Histogram.{Histogram}
 use Rattle.zvonurel.specs.declared.answer.Answered.{Answered}
 use Rattle.zvonurel.specs.declared.answer.Answered.the-variants as answered
-use Rattle.zvonurel.specs.Told.{refusal, answeredOf, Reported}
+use Rattle.zvonurel.specs.Told.{refusal, answeredOf, Reported, histogramTold, Counted}
 use Rattle.meaning.specs.Laws.{IndexFacts}
 use Rattle.meaning.specs.Demands.{Asked, Demand3}
 use Rattle.meaning.proofs.IndexSound.{index-means}
@@ -70,6 +72,20 @@ module _ (index list : List ℕ) where
   unfolding answerBody answerRows chosen byTable named write
   symmetric-body room table = ap (λ (ps : List (ℕ → Bool)). fits room (canonical (rowCount index) (λ (r : ℕ). eqb (getD table (held ps r) 0) 1))) (sym (named-is index list))
 
+module _ (index list : List ℕ) (b : Bool) where
+  abbrev counted : Outcome (List ℕ)
+  counted = refuseIf b 8 0 0 (answer (histogramOf (rowCount index) (named index list)))
+
+  pub counted-refused : b ≡ true → (r : Refusal) → r ≡ refusal 8 0 → (g : Histogram) → Counted (refusedBy r) g → Counted counted g
+  unfolding refuseIf
+  counted-refused h r e g w = rw h (rw e at w)
+
+  pub counted-sound : b ≡ false → (counts : List ℕ) → counts ≡ histogramOf (rowCount index) (map rowsOf (bodiesOf index list)) → Counted counted (record { checked = checked.Sound; counts = counts })
+  unfolding refuseIf histogramTold histogramReported named
+  counted-sound h counts e =
+      let is : counts ≡ histogramOf (rowCount index) (map (rowsAt index) list) = e ∙ ap (histogramOf (rowCount index)) (sym (named-is index list)) in
+      rw h (record { told = ap answer is; counts-are = is })
+
 -- ---- a table's size, and its entries, one by one
 
 module _ (m n : ℕ) where
@@ -103,6 +119,9 @@ checked-index k index e h = index-means index .0 (sound-is k (check index) e h)
 
 pub reported-then : (index list : List ℕ) (k : Checked) (v : Verdict) (o : Outcome (List ℕ)) (r : Answered) (out out′ : List ℕ) → verdictOf k ≡ v → k ≡ checked.Sound → Reported index list o r out out′ → Reported index list (v then o) r out out′
 reported-then index list k v o r out out′ e h w = rw (then-sound v o (sound-is k v e h)) w
+
+pub counted-then : (k : Checked) (v : Verdict) (o : Outcome (List ℕ)) (r : Histogram) → verdictOf k ≡ v → k ≡ checked.Sound → Counted o r → Counted (v then o) r
+counted-then k v o r e h w = rw (then-sound v o (sound-is k v e h)) w
 
 -- what is reported of a threshold question meets demand 3
 pub demand-met : (index list : List ℕ) (t : ℕ) (r : Answered) (out out′ : List ℕ) → Reported index list (threshold index list t (length out)) r out out′

@@ -6,9 +6,12 @@ use mathlib.Core.Path.{_≡_}
 use mathlib.Core.List.{List}
 use lib.ListN.{take}
 use Rattle.meaning.specs.Refusal.{Outcome, answer}
-use Rattle.meaning.specs.Answer.{bufferAfter, wordsReported, stretchesReported}
+use Rattle.meaning.specs.Answer.{bufferAfter, wordsReported, stretchesReported, histogramReported}
 use Rattle.ewah.specs.declared.refusal.Refusal.{Refusal}
+use Rattle.ewah.specs.declared.refusal.Checked.{Checked}
+use Rattle.ewah.specs.declared.refusal.Checked.the-variants as checked
 use Rattle.ewah.specs.Told.{refusedBy}
+use Rattle.zvonurel.specs.declared.answer.Histogram.{Histogram}
 use Rattle.zvonurel.specs.declared.answer.Flag.{Flag}
 use Rattle.zvonurel.specs.declared.answer.Flag.the-variants as flag
 use Rattle.zvonurel.specs.declared.answer.Number.{Number}
@@ -66,3 +69,14 @@ pub record Reported (index list : List ℕ) (o : Outcome (List ℕ)) (r : Answer
   pub words : wordsIn r ≡ wordsReported o
   pub stretches : stretchesIn r ≡ stretchesReported index list o
   pub left : buffer′ ≡ bufferAfter o buffer
+
+-- ---- a histogram, which is all zeros on a refusal
+
+unfoldable pub histogramTold : Checked → (counts : List ℕ) → Outcome (List ℕ)
+histogramTold checked.Sound counts = answer counts
+histogramTold (checked.Refused r) counts = refusedBy r
+
+-- a call with the outcome o: it tells that outcome, and its numbers
+pub record Counted (o : Outcome (List ℕ)) (r : Histogram) : Type 0 where
+  pub told : histogramTold (r .checked) (r .counts) ≡ o
+  pub counts-are : r .counts ≡ histogramReported o

@@ -1,6 +1,8 @@
 // What calls answer, and the refusals that have no place.
 ghost use mathlib.Core.Path.{_≡_};
-ghost use Rattle.zvonurel.specs.Told.{refusal};
+ghost use Rattle.zvonurel.specs.Told.{refusal, Counted};
+ghost use Rattle.ewah.specs.Told.{refusedBy};
+use ewah::refusal::Checked;
 use ewah::refusal::Refusal;
 
 // Whether a row is set.
@@ -25,6 +27,22 @@ pub enum Written {
 pub enum Answered {
     Words(usize, u32),
     Refused(Refusal),
+}
+
+// For each c from 0 to 64 the number of rows that exactly c of the list have; all zeros where it was refused, and why.
+pub struct Histogram {
+    pub checked: Checked,
+    pub counts: [u32; 65],
+}
+
+// A refused histogram.
+pub fn no_histogram(refusal: Refusal) -> Histogram
+    ensures { λ r. ⌜ Counted (refusedBy refusal) r ⌝ }
+{
+    Histogram {
+        checked: Checked::Refused(refusal),
+        counts: [0; 65],
+    }
 }
 
 // 3, at word 1.

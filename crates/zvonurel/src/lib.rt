@@ -8,7 +8,7 @@ ghost use lib.ListN.{length};
 ghost use Rattle.meaning.specs.Answer as meaning;
 ghost use Rattle.meaning.specs.Demands.{Asked, Demand3};
 ghost use Rattle.ewah.specs.Told.{verdictOf};
-ghost use Rattle.zvonurel.specs.Told.{flagOf, numberOf, answeredOf, Wrote, Reported};
+ghost use Rattle.zvonurel.specs.Told.{flagOf, numberOf, answeredOf, Wrote, Reported, Counted};
 use ewah::query;
 use index::contents;
 use meaning::MOST_ROWS;
@@ -19,6 +19,7 @@ mod lists;
 
 pub use crate::answer::Answered;
 pub use crate::answer::Flag;
+pub use crate::answer::Histogram;
 pub use crate::answer::Number;
 pub use crate::answer::Written;
 pub use ewah::refusal::Checked;
@@ -188,5 +189,16 @@ pub fn symmetric(index: &[u32], list: &[u32], table: &[u32], out: &mut [u32]) ->
     match checked {
         Checked::Refused(refusal) => Answered::Refused(refusal),
         Checked::Sound => lists::symmetric(index, list, table, out),
+    }
+}
+
+// For each c from 0 to 64 the number of rows that exactly c of the list have.
+pub fn histogram(index: &[u32], list: &[u32]) -> Histogram
+    ensures { λ r. ⌜ Counted (meaning.histogram (now (index .entry)) (now (list .entry))) r ⌝ }
+{
+    let checked = check(index);
+    match checked {
+        Checked::Refused(refusal) => answer::no_histogram(refusal),
+        Checked::Sound => lists::histogram(index, list),
     }
 }

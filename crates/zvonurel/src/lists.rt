@@ -7,16 +7,19 @@ ghost use lib.Dec.{eqb, ltb};
 ghost use lib.ListN.{length};
 ghost use Rattle.meaning.specs.Limits.{headWords};
 ghost use Rattle.meaning.specs.Refusal.{refuseIf};
+ghost use Rattle.meaning.specs.Refusal as outcome;
 ghost use Rattle.meaning.specs.Index.{rowCount};
-ghost use Rattle.meaning.specs.Question.{byTable};
+ghost use Rattle.meaning.specs.Question.{byTable, histogramOf};
 ghost use Rattle.meaning.specs.Laws.{IndexFacts};
 ghost use Rattle.meaning.specs.Answer as meaning;
 ghost use Rattle.merge.specs.Queries.{Listed};
 ghost use Rattle.merge.specs.Operations.{LowNumber};
 ghost use Rattle.merge.specs.Merges.{answerBody};
-ghost use Rattle.zvonurel.specs.Told.{Reported};
+ghost use Rattle.zvonurel.specs.Told.{Reported, Counted};
 use crate::answer;
 use crate::answer::Answered;
+use crate::answer::Histogram;
+use ewah::refusal::Checked;
 use index::contents;
 use merge::engine;
 use merge::evaluate::Operation;
@@ -149,4 +152,18 @@ pub fn symmetric(index: &[u32], list: &[u32], table: &[u32], out: &mut [u32]) ->
         return Answered::Refused(answer::bad_argument());
     }
     write_answer(index, list, Operation::Table, table, out)
+}
+
+// The histogram of the list; 8 for a bad one.
+pub fn histogram(index: &[u32], list: &[u32]) -> Histogram
+    requires { ⌜ IndexFacts (now index) ⌝ }
+    ensures { λ r. ⌜ Counted (refuseIf (meaning.badList (now (index .entry)) (now (list .entry))) 8 0 0 (outcome.answer (histogramOf (rowCount (now (index .entry))) (meaning.named (now (index .entry)) (now (list .entry)))))) r ⌝ }
+{
+    if list_is_bad(index, list) {
+        return answer::no_histogram(answer::bad_argument());
+    }
+    Histogram {
+        checked: Checked::Sound,
+        counts: merge::histogram::histogram(index, list),
+    }
 }
