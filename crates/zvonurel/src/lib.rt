@@ -2,28 +2,26 @@
 //
 // A call asks nothing of its input: what is wrong with it is refused, with paper 01's three numbers. Each `ensures` settles
 // what is returned, and every word of a lent buffer afterwards, for every input. The outcomes that they name are defined in
-// `meaning`'s `specs/Answer.antt`; `specs/Told.antt` here says which outcome an answer tells.
+// `meaning`'s `specs/Answer.antt`; `questions`' `specs/Told.antt` says which outcome an answer tells.
 ghost use mathlib.Core.Path.{_≡_};
 ghost use lib.ListN.{length};
 ghost use Rattle.meaning.specs.Answer as meaning;
 ghost use Rattle.meaning.specs.Demands.{Asked, Demand3};
 ghost use Rattle.ewah.specs.Told.{verdictOf};
-ghost use Rattle.zvonurel.specs.Told.{flagOf, numberOf, answeredOf, Wrote, Reported, Counted};
+ghost use Rattle.questions.specs.Told.{flagOf, numberOf, answeredOf, Wrote, Reported, Counted};
 use ewah::query;
-use index::contents;
-use meaning::MOST_ROWS;
-
-mod answer;
-mod ask;
-mod lists;
-
-pub use crate::answer::Answered;
-pub use crate::answer::Flag;
-pub use crate::answer::Histogram;
-pub use crate::answer::Number;
-pub use crate::answer::Written;
 pub use ewah::refusal::Checked;
 pub use ewah::refusal::Refusal;
+use index::contents;
+use meaning::MOST_ROWS;
+use questions::answer;
+pub use questions::answer::Answered;
+pub use questions::answer::Flag;
+pub use questions::answer::Histogram;
+pub use questions::answer::Number;
+pub use questions::answer::Written;
+use questions::ask;
+use questions::lists;
 
 // ---- one body alone: bitmap 0, with places counted in the body. More rows than the limit are refused first
 

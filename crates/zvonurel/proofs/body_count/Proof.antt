@@ -7,10 +7,10 @@ use Rattle.meaning.specs.Ewah.{rowsOf}
 use mathlib.Core.Path.{ap}
 use Rattle.meaning.specs.Refusal.{answer}
 use Rattle.meaning.specs.Answer.{checkBody, askCount, bodyCount}
-use Rattle.zvonurel.specs.Told.{numberOf}
+use Rattle.questions.specs.Told.{numberOf}
 use Rattle.ewah.proofs.Checks.{sound-is, refuses, answers}
 use Rattle.zvonurel.proofs.Alone.{few-rows, facts}
-use Rattle.zvonurel.proofs.Asks.{few-segments}
+use Rattle.questions.proofs.Asks.{few-segments}
 use Rattle.zvonurel.proofs.body_count.Statement.{statement}
 use Rattle.zvonurel.proofs.body_count.Tie as tie
 

@@ -5,10 +5,10 @@ use denote.Ref.{now}
 use Rattle.meaning.specs.Refusal.{sound}
 use Rattle.meaning.specs.Ewah.{rowsOf}
 use Rattle.meaning.specs.Answer.{checkBody, askNth, bodyNth}
-use Rattle.zvonurel.specs.Told.{numberOf}
+use Rattle.questions.specs.Told.{numberOf}
 use Rattle.ewah.proofs.Checks.{sound-is, refuses, answers}
 use Rattle.zvonurel.proofs.Alone.{few-rows, facts}
-use Rattle.zvonurel.proofs.Asks.{few-segments}
+use Rattle.questions.proofs.Asks.{few-segments}
 use Rattle.zvonurel.proofs.body_nth.Statement.{statement}
 use Rattle.zvonurel.proofs.body_nth.Tie as tie
 

@@ -5,7 +5,7 @@ use denote.Ref.{now}
 use Rattle.meaning.specs.Refusal.{sound}
 use Rattle.meaning.specs.Ewah.{rowsOf}
 use Rattle.meaning.specs.Answer.{checkBody, askRow, bodyRow}
-use Rattle.zvonurel.specs.Told.{flagOf}
+use Rattle.questions.specs.Told.{flagOf}
 use Rattle.ewah.proofs.Checks.{sound-is, refuses, answers}
 use Rattle.zvonurel.proofs.Alone.{facts}
 use Rattle.zvonurel.proofs.body_row.Statement.{statement}

@@ -5,8 +5,9 @@ use lib.ListN.{length}
 use Rattle.meaning.specs.Segment.{hasRow}
 use Rattle.meaning.specs.Answer.{plainFault, write, compress}
 use Rattle.ewah.proofs.Checks.{sound-is, refuses}
-use Rattle.zvonurel.proofs.Tells.{wrote-refused, wrote-then}
-use Rattle.zvonurel.proofs.Plain.{plain-rows}
+use Rattle.questions.proofs.Tells.{wrote-refused}
+use Rattle.zvonurel.proofs.Guards.{wrote-then}
+use Rattle.questions.proofs.Plain.{plain-rows}
 use Rattle.zvonurel.proofs.compress.Statement.{statement}
 use Rattle.zvonurel.proofs.compress.Tie as tie
 

@@ -8,9 +8,10 @@ use Prim.Native.Nat.{ℕ}
 use mathlib.Core.List.{List}
 use lib.ListN.{length}
 use mathlib.Core.Path.{subst₂}
-use Rattle.zvonurel.specs.Told.{Wrote}
-use Rattle.zvonurel.proofs.Tells.{wrote-refused, wrote-then}
-use Rattle.zvonurel.proofs.Numbers.{facts-as, rows-as}
+use Rattle.questions.specs.Told.{Wrote}
+use Rattle.questions.proofs.Tells.{wrote-refused}
+use Rattle.zvonurel.proofs.Guards.{wrote-then}
+use Rattle.questions.proofs.Numbers.{facts-as, rows-as}
 use borrow.Author.Needs.{needs}
 use Rattle.zvonurel.proofs.expand_bitmap.Statement.{statement}
 use Rattle.zvonurel.proofs.expand_bitmap.Tie as tie

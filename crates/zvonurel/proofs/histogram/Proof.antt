@@ -7,8 +7,8 @@ use Rattle.meaning.specs.Refusal.{Outcome, answer, refuseIf}
 use Rattle.meaning.specs.Index.{rowCount}
 use Rattle.meaning.specs.Question.{histogramOf}
 use Rattle.meaning.specs.Answer.{check, histogram, badList, named}
-use Rattle.zvonurel.specs.Told.{Counted}
-use Rattle.zvonurel.proofs.Choosing.{checked-index, counted-then}
+use Rattle.questions.specs.Told.{Counted}
+use Rattle.zvonurel.proofs.Guards.{checked-index, counted-then}
 use borrow.Author.Needs.{needs}
 use Rattle.zvonurel.proofs.histogram.Statement.{statement}
 use Rattle.zvonurel.proofs.histogram.Tie as tie

@@ -2,14 +2,14 @@ use mathlib.Core.Path.{_∙_}
 use denote.Ref.{now}
 use Rattle.ewah.proofs.Checks.{sound-is, refuses, answers}
 use Rattle.meaning.proofs.BitmapPart.{part-laws}
-use Rattle.zvonurel.specs.Told.{flagOf}
+use Rattle.questions.specs.Told.{flagOf}
 use Rattle.meaning.specs.Answer.{bitmapRefusal, askRow, row}
 use Rattle.meaning.specs.Index.{rowCount, rowsAt}
 use Rattle.meaning.specs.Ewah.{rowsOf}
 use Prim.Native.Nat.{ℕ}
 use mathlib.Core.List.{List}
 use mathlib.Core.Path.{ap₂}
-use Rattle.zvonurel.proofs.Numbers.{facts-as}
+use Rattle.questions.proofs.Numbers.{facts-as}
 use borrow.Author.Needs.{needs}
 use Rattle.zvonurel.proofs.row.Statement.{statement}
 use Rattle.zvonurel.proofs.row.Tie as tie

@@ -8,8 +8,8 @@ use mathlib.Core.Bool.{_||_, not}
 use Prim.Native.Nat.{suc}
 use Rattle.meaning.specs.Question.{byTable}
 use lib.Dec.{eqb}
-use Rattle.zvonurel.proofs.Listing.{reported-refused}
-use Rattle.zvonurel.proofs.Choosing.{checked-index, reported-then}
+use Rattle.questions.proofs.Listing.{reported-refused}
+use Rattle.zvonurel.proofs.Guards.{checked-index, reported-then}
 use borrow.Author.Needs.{needs}
 use Rattle.zvonurel.proofs.symmetric.Statement.{statement}
 use Rattle.zvonurel.proofs.symmetric.Tie as tie

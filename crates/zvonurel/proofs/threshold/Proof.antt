@@ -6,8 +6,8 @@ use Rattle.meaning.specs.Index.{rowCount}
 use Rattle.meaning.specs.Answer.{check, threshold, badList, write, rightRows}
 use mathlib.Core.Bool.{_||_}
 use lib.Dec.{eqb, ltb}
-use Rattle.zvonurel.proofs.Listing.{reported-refused}
-use Rattle.zvonurel.proofs.Choosing.{checked-index, reported-then, demand-met}
+use Rattle.questions.proofs.Listing.{reported-refused}
+use Rattle.zvonurel.proofs.Guards.{checked-index, reported-then, demand-met}
 use borrow.Author.Needs.{needs}
 use Rattle.zvonurel.proofs.threshold.Statement.{statement}
 use Rattle.zvonurel.proofs.threshold.Tie as tie

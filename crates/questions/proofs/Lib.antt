@@ -1,0 +1,6 @@
+pub mod Tells
+pub mod Asks
+pub mod Plain
+pub mod Numbers
+pub mod Listing
+pub mod Choosing

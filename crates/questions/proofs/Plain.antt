@@ -1,0 +1,97 @@
+-- Plain words: their faults, and the body that is written of them.
+-- Assumes nothing.
+use Prim.Native.Nat.{ℕ, _-_, _^_, _≤_, _<_}
+use mathlib.Core.Bool.{Bool, true, false, not}
+use mathlib.Core.Path.{_≡_, refl, sym, ap, _∙_}
+use mathlib.Core.List.{List, [], _∷_, _++_, map}
+use native.Mathlib.Omega.{arith}
+use borrow.Author.Tests.{lt-ltb, le-ltb, ltb-false, eq-eqb, ne-eqb, eqb-true, lt-leb, leb-false, not-false}
+use lib.Dec.{eqb, leb, ltb}
+use lib.ListN.{length, drop, getD}
+use lib.Pow.{pow-pos}
+use Rattle.meaning.specs.Limits.{mostRows}
+use Rattle.meaning.specs.Segment.{kind, segmentCount, lastRows, lastLimit, lastOf, hasRow}
+use Rattle.meaning.specs.Refusal.{refused, sound, refuseIf, _then_}
+use Rattle.meaning.specs.Canonical.{canonicalOf, canonical}
+use Rattle.meaning.specs.Demands.{Words, PlainRows}
+use Rattle.meaning.specs.Answer.{rowsFault, plainFault, write}
+use Rattle.meaning.proofs.RowWords.{rows-decide, last-getD}
+use Rattle.meaning.proofs.Segments.{encoded, canonical-is}
+use Rattle.meaning.proofs.Outcomes.{refuse-answer, then-answer}
+use Rattle.ewah.specs.declared.refusal.Refusal.{Refusal}
+use Rattle.questions.specs.declared.answer.Written.the-variants as written
+use Rattle.questions.specs.Told.{refusal, Wrote}
+use Rattle.questions.proofs.Tells.{wrote-none, wrote-words}
+
+module _ (R : ℕ) (plain : List ℕ) where
+  pub plain-over : mostRows < R → refused 3 0 1 ≡ plainFault R plain
+  unfolding plainFault rowsFault _then_ refuseIf
+  plain-over h = rw (lt-ltb mostRows R h)
+
+  module _ (few : R ≤ mostRows) (n : ℕ) (is : n ≡ segmentCount 32 R) where
+    pub plain-count : (length plain ≡ n → ⊥) → refused 8 0 0 ≡ plainFault R plain
+    unfolding plainFault rowsFault _then_ refuseIf
+    plain-count h = rw (le-ltb mostRows R few, ne-eqb (length plain) (segmentCount 32 R) (λ e. h (e ∙ sym is)))
+
+    module _ (same : length plain ≡ n) where
+      counted : plainFault R plain ≡ refuseIf (leb (lastLimit 32 R) (lastOf plain)) 7 0 (length plain - 1) sound
+      unfolding plainFault rowsFault _then_ refuseIf
+      counted = rw (le-ltb mostRows R few, eq-eqb (length plain) (segmentCount 32 R) (same ∙ is))
+
+      pub plain-none-left : n ≡ 0 → sound ≡ plainFault R plain
+      unfolding refuseIf lastLimit
+      plain-none-left z = sym (counted ∙ rw (none plain (same ∙ z), lt-leb (2 ^ lastRows 32 R) 0 (pow-pos (lastRows 32 R))))
+        where
+          none : (l : List ℕ) → length l ≡ 0 → lastOf l ≡ 0
+          none [] e = unfold lastOf in refl
+          none (x ∷ l) e = absurd (omega arith)
+
+      -- the last plain word; t is whether it sets a pad bit
+      module _ (some : n ≡ 0 → ⊥) (t : Bool) (pad : t ≡ leb (lastLimit 32 R) (getD plain (n - 1) 0)) where
+        tested : plainFault R plain ≡ refuseIf t 7 0 (length plain - 1) sound
+        tested =
+            counted
+            ∙ rw (last-getD plain (n - 1) (omega arith), ← pad)
+
+        pub plain-pad : t ≡ true → refused 7 0 (n - 1) ≡ plainFault R plain
+        unfolding refuseIf
+        plain-pad e = sym (tested ∙ rw (e, same))
+
+        pub plain-fine : t ≡ false → sound ≡ plainFault R plain
+        unfolding refuseIf
+        plain-fine e = sym (tested ∙ rw e)
+
+  pub plain-rows : Words plain → plainFault R plain ≡ sound → PlainRows R plain
+  unfolding plainFault rowsFault
+  plain-rows w e =
+      let p = then-answer (rowsFault R) _ tt e in
+      let q = refuse-answer (ltb mostRows R) 3 0 1 sound tt (p .0) in
+      let a = refuse-answer (not (eqb (length plain) (segmentCount 32 R))) 8 0 0 _ tt (p .1) in
+      let b = refuse-answer (leb (lastLimit 32 R) (lastOf plain)) 7 0 (length plain - 1) sound tt (a .1) in
+      record {
+        few = ltb-false mostRows R (q .0);
+        words = w;
+        count = eqb-true (length plain) (segmentCount 32 R) (not-false (eqb (length plain) (segmentCount 32 R)) (a .0));
+        pads = leb-false (lastLimit 32 R) (lastOf plain) (b .0);
+      }
+
+  -- valid plain words are the segments of their rows
+  canonical-plain : PlainRows R plain → canonical R (hasRow 32 plain) ≡ canonicalOf (map (kind 32 32) plain)
+  canonical-plain g =
+      canonical-is R (hasRow 32 plain)
+      ∙ ap encoded (sym (rows-decide 32 (omega arith) R (hasRow 32 plain) plain (g .count) (g .words) (g .pads) (λ r h. refl)))
+      ∙ (unfold encoded in refl)
+
+  module _ (g : PlainRows R plain) (out : List ℕ) (n : ℕ) (is : n ≡ length (canonicalOf (map (kind 32 32) plain))) where
+    same-length : n ≡ length (canonical R (hasRow 32 plain))
+    same-length = is ∙ ap length (sym (canonical-plain g))
+
+    pub write-none : (r : Refusal) → r ≡ refusal 9 n → length out < n → Wrote (write R (hasRow 32 plain) (length out)) (written.Refused r) out out
+    unfolding write
+    write-none r e h = rw e (wrote-none out (canonical R (hasRow 32 plain)) n same-length h)
+
+    pub write-words : (out′ : List ℕ) → n ≤ length out → out′ ≡ canonicalOf (map (kind 32 32) plain) ++ drop n out → Wrote (write R (hasRow 32 plain) (length out)) (written.Words n) out out′
+    unfolding write
+    write-words out′ h e =
+        wrote-words out (canonical R (hasRow 32 plain)) n same-length out′ h
+        (rw (canonical-plain g) (e ∙ ap (λ (k : ℕ). canonicalOf (map (kind 32 32) plain) ++ drop k out) is))

@@ -1,0 +1,12 @@
+use mathlib.Core.Path.{refl}
+use Rattle.questions.specs.Told.{histogramTold}
+use Rattle.meaning.specs.Answer.{histogramReported}
+use Rattle.questions.proofs.answer.no_histogram.Statement.{statement}
+use Rattle.questions.proofs.answer.no_histogram.Tie as tie
+
+returns : tie.Need-returns
+unfolding histogramTold histogramReported
+returns c = record { told = refl; counts-are = refl }
+
+pub no-histogram-spec : {M : Type 1} → statement M
+no-histogram-spec = tie.close (tie.spec returns)

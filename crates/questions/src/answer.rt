@@ -1,0 +1,90 @@
+// What calls answer, and the refusals that have no place.
+ghost use mathlib.Core.Path.{_≡_};
+ghost use Rattle.questions.specs.Told.{refusal, Counted};
+ghost use Rattle.ewah.specs.Told.{refusedBy};
+use ewah::refusal::Checked;
+use ewah::refusal::Refusal;
+
+// Whether a row is set.
+pub enum Flag {
+    Is(bool),
+    Refused(Refusal),
+}
+
+// A count, or a row number.
+pub enum Number {
+    Is(u32),
+    Refused(Refusal),
+}
+
+// How many words were written, at the front of the buffer.
+pub enum Written {
+    Words(usize),
+    Refused(Refusal),
+}
+
+// How many words were written, at the front of the buffer, and how many stretches the answer was made of.
+pub enum Answered {
+    Words(usize, u32),
+    Refused(Refusal),
+}
+
+// For each c from 0 to 64 the number of rows that exactly c of the list have; all zeros where it was refused, and why.
+pub struct Histogram {
+    pub checked: Checked,
+    pub counts: [u32; 65],
+}
+
+// A refused histogram.
+pub fn no_histogram(refusal: Refusal) -> Histogram
+    ensures { λ r. ⌜ Counted (refusedBy refusal) r ⌝ }
+{
+    Histogram {
+        checked: Checked::Refused(refusal),
+        counts: [0; 65],
+    }
+}
+
+// 3, at word 1.
+pub fn too_many_rows() -> Refusal
+    ensures { λ r. ⌜ r ≡ refusal 3 1 ⌝ }
+{
+    Refusal {
+        number: 3,
+        bitmap: 0,
+        word: 1,
+    }
+}
+
+// 8.
+pub fn bad_argument() -> Refusal
+    ensures { λ r. ⌜ r ≡ refusal 8 0 ⌝ }
+{
+    Refusal {
+        number: 8,
+        bitmap: 0,
+        word: 0,
+    }
+}
+
+// 7, at a plain word.
+pub fn pad_bit(place: u64) -> Refusal
+    ensures { λ r. ⌜ r ≡ refusal 7 place ⌝ }
+{
+    Refusal {
+        number: 7,
+        bitmap: 0,
+        word: place,
+    }
+}
+
+// 9, with the words needed.
+pub fn no_room(need: u64) -> Refusal
+    ensures { λ r. ⌜ r ≡ refusal 9 need ⌝ }
+{
+    Refusal {
+        number: 9,
+        bitmap: 0,
+        word: need,
+    }
+}

@@ -1,0 +1,169 @@
+// Questions over a list of bitmaps of a sound index: what is left to be refused, and the answer.
+ghost use mathlib.Core.Path.{_≡_};
+ghost use mathlib.Core.Bool.{true, _||_, not};
+ghost use mathlib.Core.List.{List};
+ghost use Prim.Native.Nat.{ℕ, suc, _≤_, _<_};
+ghost use lib.Dec.{eqb, ltb};
+ghost use lib.ListN.{length};
+ghost use Rattle.meaning.specs.Limits.{headWords};
+ghost use Rattle.meaning.specs.Refusal.{refuseIf};
+ghost use Rattle.meaning.specs.Refusal as outcome;
+ghost use Rattle.meaning.specs.Index.{rowCount};
+ghost use Rattle.meaning.specs.Question.{byTable, histogramOf};
+ghost use Rattle.meaning.specs.Laws.{IndexFacts};
+ghost use Rattle.meaning.specs.Answer as meaning;
+ghost use Rattle.merge.specs.Queries.{Listed};
+ghost use Rattle.merge.specs.Operations.{LowNumber};
+ghost use Rattle.merge.specs.Merges.{answerBody};
+ghost use Rattle.questions.specs.Told.{Reported, Counted};
+use crate::answer;
+use crate::answer::Answered;
+use crate::answer::Histogram;
+use ewah::refusal::Checked;
+use index::contents;
+use merge::engine;
+use merge::evaluate::Operation;
+use words::rows;
+
+// Whether some number names no bitmap.
+fn names_missing(index: &[u32], list: &[u32]) -> bool
+    requires { ⌜ headWords ≤ length (now index) ⌝ }
+    ensures { λ r. ⌜ r ≡ meaning.anyBad (now (index .entry)) (now (list .entry)) ⌝ }
+{
+    let n = contents::bitmaps(index);
+    let mut i: usize = 0;
+    while i < list.len() {
+        if n <= list[i] {
+            return true;
+        }
+        i += 1;
+    }
+    false
+}
+
+// Whether a list is empty, too long, or names a bitmap that is not there.
+fn list_is_bad(index: &[u32], list: &[u32]) -> bool
+    requires { ⌜ headWords ≤ length (now index) ⌝ }
+    ensures { λ r. ⌜ r ≡ meaning.badList (now (index .entry)) (now (list .entry)) ⌝ }
+{
+    if list.len() == 0 {
+        return true;
+    }
+    if 64 < list.len() {
+        return true;
+    }
+    names_missing(index, list)
+}
+
+// Whether a buffer of that length has room for any body of the index's rows.
+fn surely_fits(index: &[u32], room: usize) -> bool
+    requires { ⌜ IndexFacts (now index) ⌝ }
+    ensures { λ r. ⌜ (r ≡ true → (list table : List ℕ) (op : Operation) → length (answerBody (now (index .entry)) list op table) ≤ room) ⌝ }
+{
+    let segments = contents::wide(rows::segment_count(contents::rows(index)));
+    segments + segments / 32767 + 1 <= room
+}
+
+// The answer, into a buffer with room for it.
+fn write_fitting(
+    index: &[u32],
+    list: &[u32],
+    op: Operation,
+    table: &[u32],
+    out: &mut [u32],
+) -> Answered
+    requires { ⌜ IndexFacts (now index) ⌝ }
+    requires { ⌜ Listed (now index) (now list) ⌝ }
+    requires { ⌜ (1 ≤ length (now list)) × (length (now table) ≤ 65) × LowNumber op ⌝ }
+    requires { ⌜ length (answerBody (now index) (now list) op (now table)) ≤ length (now out) ⌝ }
+    ensures { λ r. ⌜ Reported (now (index .entry)) (now (list .entry)) (meaning.fits (length (now (out .entry))) (answerBody (now (index .entry)) (now (list .entry)) op (now (table .entry)))) r (now (out .entry)) (now (out .exit)) ⌝ }
+{
+    let m = engine::merge(index, list, op, table, out, true);
+    Answered::Words(m.words, m.stretches)
+}
+
+// The answer; 9 where it does not fit. It is measured first, unless the buffer surely has room.
+pub fn write_answer(
+    index: &[u32],
+    list: &[u32],
+    op: Operation,
+    table: &[u32],
+    out: &mut [u32],
+) -> Answered
+    requires { ⌜ IndexFacts (now index) ⌝ }
+    requires { ⌜ Listed (now index) (now list) ⌝ }
+    requires { ⌜ (1 ≤ length (now list)) × (length (now table) ≤ 65) × LowNumber op ⌝ }
+    ensures { λ r. ⌜ Reported (now (index .entry)) (now (list .entry)) (meaning.fits (length (now (out .entry))) (answerBody (now (index .entry)) (now (list .entry)) op (now (table .entry)))) r (now (out .entry)) (now (out .exit)) ⌝ }
+{
+    if surely_fits(index, out.len()) {
+        return write_fitting(index, list, op, table, out);
+    }
+    let measured = engine::merge(index, list, op, table, out, false);
+    let need = measured.words;
+    if out.len() < need {
+        return Answered::Refused(answer::no_room(need as u64));
+    }
+    write_fitting(index, list, op, table, out)
+}
+
+// The rows that at least t of the list have; 8 for a bad list, or where t is 0 or above the list's length.
+pub fn threshold(index: &[u32], list: &[u32], t: u32, out: &mut [u32]) -> Answered
+    requires { ⌜ IndexFacts (now index) ⌝ }
+    ensures { λ r. ⌜ Reported (now (index .entry)) (now (list .entry)) (refuseIf (meaning.badList (now (index .entry)) (now (list .entry)) || eqb t 0 || ltb (length (now (list .entry))) t) 8 0 0 (meaning.write (rowCount (now (index .entry))) (meaning.rightRows (now (index .entry)) (now (list .entry)) t) (length (now (out .entry))))) r (now (out .entry)) (now (out .exit)) ⌝ }
+{
+    if list_is_bad(index, list) {
+        return Answered::Refused(answer::bad_argument());
+    }
+    if t == 0 {
+        return Answered::Refused(answer::bad_argument());
+    }
+    if list.len() < contents::wide(t) {
+        return Answered::Refused(answer::bad_argument());
+    }
+    write_answer(index, list, Operation::AtLeast(t), &index[0..0], out)
+}
+
+// Whether a table has an entry other than 0 and 1.
+fn entry_is_bad(table: &[u32]) -> bool
+    ensures { λ r. ⌜ r ≡ meaning.badEntry (now (table .entry)) ⌝ }
+{
+    let mut i: usize = 0;
+    while i < table.len() {
+        if 1 < table[i] {
+            return true;
+        }
+        i += 1;
+    }
+    false
+}
+
+// The rows at whose number the table has a 1; 8 for a bad list, or unless the table has one entry more than the list, each 0 or 1.
+pub fn symmetric(index: &[u32], list: &[u32], table: &[u32], out: &mut [u32]) -> Answered
+    requires { ⌜ IndexFacts (now index) ⌝ }
+    ensures { λ r. ⌜ Reported (now (index .entry)) (now (list .entry)) (refuseIf (meaning.badList (now (index .entry)) (now (list .entry)) || not (eqb (length (now (table .entry))) (suc (length (now (list .entry))))) || meaning.badEntry (now (table .entry))) 8 0 0 (meaning.write (rowCount (now (index .entry))) (byTable (now (table .entry)) (meaning.named (now (index .entry)) (now (list .entry)))) (length (now (out .entry))))) r (now (out .entry)) (now (out .exit)) ⌝ }
+{
+    if list_is_bad(index, list) {
+        return Answered::Refused(answer::bad_argument());
+    }
+    if table.len() != list.len() + 1 {
+        return Answered::Refused(answer::bad_argument());
+    }
+    if entry_is_bad(table) {
+        return Answered::Refused(answer::bad_argument());
+    }
+    write_answer(index, list, Operation::Table, table, out)
+}
+
+// The histogram of the list; 8 for a bad one.
+pub fn histogram(index: &[u32], list: &[u32]) -> Histogram
+    requires { ⌜ IndexFacts (now index) ⌝ }
+    ensures { λ r. ⌜ Counted (refuseIf (meaning.badList (now (index .entry)) (now (list .entry))) 8 0 0 (outcome.answer (histogramOf (rowCount (now (index .entry))) (meaning.named (now (index .entry)) (now (list .entry)))))) r ⌝ }
+{
+    if list_is_bad(index, list) {
+        return answer::no_histogram(answer::bad_argument());
+    }
+    Histogram {
+        checked: Checked::Sound,
+        counts: merge::histogram::histogram(index, list),
+    }
+}

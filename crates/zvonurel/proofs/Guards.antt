@@ -1,0 +1,39 @@
+-- A call behind a check: where the check finds nothing it tells what the question behind it tells.
+-- Assumes nothing.
+use Prim.Native.Nat.{ℕ}
+use mathlib.Core.Path.{_≡_, sym, subst₂}
+use mathlib.Core.List.{List}
+use lib.ListN.{length}
+use Rattle.meaning.specs.Refusal.{Outcome, Verdict, _then_}
+use Rattle.meaning.specs.Answer.{check, threshold}
+use Rattle.meaning.specs.Laws.{IndexFacts}
+use Rattle.meaning.specs.Demands.{Asked, Demand3}
+use Rattle.meaning.proofs.Demanded.{demand3}
+use Rattle.meaning.proofs.IndexSound.{index-means}
+use Rattle.meaning.proofs.Outcomes.{then-sound}
+use Rattle.ewah.specs.declared.refusal.Checked.{Checked}
+use Rattle.ewah.specs.declared.refusal.Checked.the-variants as checked
+use Rattle.ewah.specs.Told.{verdictOf}
+use Rattle.ewah.proofs.Checks.{sound-is}
+use Rattle.questions.specs.declared.answer.Histogram.{Histogram}
+use Rattle.questions.specs.declared.answer.Answered.{Answered}
+use Rattle.questions.specs.declared.answer.Written.{Written}
+use Rattle.questions.specs.Told.{answeredOf, Reported, Counted, Wrote}
+
+pub checked-index : (k : Checked) (index : List ℕ) → verdictOf k ≡ check index → k ≡ checked.Sound → IndexFacts index
+unfolding check
+checked-index k index e h = index-means index .0 (sound-is k (check index) e h)
+
+pub reported-then : (index list : List ℕ) (k : Checked) (v : Verdict) (o : Outcome (List ℕ)) (r : Answered) (out out′ : List ℕ) → verdictOf k ≡ v → k ≡ checked.Sound → Reported index list o r out out′ → Reported index list (v then o) r out out′
+reported-then index list k v o r out out′ e h w = rw (then-sound v o (sound-is k v e h)) w
+
+pub counted-then : (k : Checked) (v : Verdict) (o : Outcome (List ℕ)) (r : Histogram) → verdictOf k ≡ v → k ≡ checked.Sound → Counted o r → Counted (v then o) r
+counted-then k v o r e h w = rw (then-sound v o (sound-is k v e h)) w
+
+pub wrote-then : (k : Checked) (v : Verdict) (o : Outcome (List ℕ)) (r : Written) (out out′ : List ℕ) → verdictOf k ≡ v → k ≡ checked.Sound → Wrote o r out out′ → Wrote (v then o) r out out′
+wrote-then k v o r out out′ e h w = rw (then-sound v o (sound-is k v e h)) w
+
+-- what is reported of a threshold question meets demand 3
+pub demand-met : (index list : List ℕ) (t : ℕ) (r : Answered) (out out′ : List ℕ) → Reported index list (threshold index list t (length out)) r out out′
+    → Asked index list t → Demand3 index list t out (answeredOf r out′) out′
+demand-met index list t r out out′ w a = subst₂ (λ (o : Outcome (List ℕ)) (b : List ℕ). Demand3 index list t out o b) (sym (w .told)) (sym (w .left)) (demand3 index list t out a)
