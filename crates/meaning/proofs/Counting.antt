@@ -67,14 +67,6 @@ fill-count w real (suc (suc v)) h = absurd (omega arith)
 
 -- ---- the set bits of a list of segments
 
-pub ones-nil : (w : ℕ) → ones w [] ≡ 0
-unfolding ones
-ones-nil w = refl
-
-pub ones-cons : (w x : ℕ) (xs : List ℕ) → ones w (x ∷ xs) ≡ countBelow w (isSet x) + ones w xs
-unfolding ones
-ones-cons w x xs = refl
-
 pub ones-append : (w : ℕ) (xs ys : List ℕ) → ones w (xs ++ ys) ≡ ones w xs + ones w ys
 unfolding ones
 ones-append w [] ys = omega arith

@@ -53,11 +53,6 @@ abbrev Good : Draft → Type 0
 Good blank = Unit {0}
 Good (draft done v c ds) = Fit done v c ds
 
-good-busy : (d : Draft) → Good d → Busy 0 (body d)
-unfolding body
-good-busy blank g = tt
-good-busy (draft done v c ds) g = busy-body done v c ds g
-
 good-due : (d : Draft) → Good d → dueAfter 0 (body d) ≡ 0
 unfolding body dueAfter
 good-due blank g = refl
@@ -138,11 +133,6 @@ encoded-decodes xs = puts xs blank tt .1
 pub encoded-whole : (xs : List ℕ) → dueAfter 0 (encoded xs) ≡ 0
 unfolding encoded canonicalOf
 encoded-whole xs = good-due (foldl put blank (map (kind 32 32) xs)) (puts xs blank tt .0)
-
--- no marker of it has both counts zero
-pub encoded-busy : (xs : List ℕ) → Busy 0 (encoded xs)
-unfolding encoded canonicalOf
-encoded-busy xs = good-busy (foldl put blank (map (kind 32 32) xs)) (puts xs blank tt .0)
 
 -- ... and is sound
 pub encoded-sound : (rows : ℕ) (xs : List ℕ) → length xs ≡ segmentCount 32 rows → lastOf xs < lastLimit 32 rows → Sound rows (encoded xs)

@@ -8,7 +8,7 @@ use mathlib.Core.List.{List, [], _∷_, _++_}
 use lib.Dec.{ltb}
 use lib.ListN.{length, getD, take, drop, replicate, length-drop, length-replicate, length-map, length-append, getD-replicate, List·getD-map, List·getD-append}
 use lib.Pow.{pow-mono, ones-lt}
-use lib.Seq.{ext-getD, getD-at, getD-take, getD-drop, length-take-le, take-all}
+use lib.Seq.{ext-getD, getD-at, getD-take, getD-drop, length-take-le}
 use native.Mathlib.Nat.{div-eq-of-lt, div-add-mod', mod-lt, suc-mul}
 use native.Mathlib.Decide.{decLe}
 use native.Mathlib.Omega.{arith}
@@ -115,9 +115,6 @@ module _ (R : ℕ) (f : ℕ → Bool) (bodies : List (List ℕ)) where
   pub answer-canonical : canonical R p ≡ canonicalOf T
   unfolding answerSegments encoded
   answer-canonical = canonical-is R p
-
-  pub answer-whole : take (segmentCount 32 R) T ≡ T
-  answer-whole = take-all (segmentCount 32 R) T (omega (arith, answer-length))
 
   -- the segment of a word whose bits are right
   segment-is : (i x : ℕ) → i < segmentCount 32 R → x < 2 ^ 32

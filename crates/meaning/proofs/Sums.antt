@@ -1,7 +1,7 @@
 -- Laws of sums f 0 + .. + f (n - 1), and the number of sets of a list that have a row as such a sum.
 -- Assumes nothing.
 use Prim.Native.Nat.{ℕ, zero, suc, _+_, _≤_, _<_}
-use mathlib.Core.Bool.{Bool, false}
+use mathlib.Core.Bool.{Bool}
 use mathlib.Core.Path.{_≡_, refl}
 use mathlib.Core.List.{List, [], _∷_, map}
 use lib.ListN.{length, getD}
@@ -42,14 +42,7 @@ unfolding sumBelow
 sum-first zero f = omega arith
 sum-first (suc n) f = omega (arith, sum-first n f)
 
--- ---- how many sets of a list have a row
-
-pub held-sum : (ps : List (ℕ → Bool)) (r : ℕ) → held ps r ≡ sumBelow (length ps) (λ i. bit (getD ps i (λ _. false) r))
-unfolding held sumBelow
-held-sum [] r = refl
-held-sum (p ∷ ps) r = omega (arith, held-sum ps r, sum-first (length ps) (λ i. bit (getD (p ∷ ps) i (λ _. false) r)))
-
--- where the sets are given by the elements of a list; d is what its places past the end would have
+-- how many sets of a list have a row, where they are given by the elements of a list; d is what its places past the end would have
 pub held-map : {A : Type 0} (f : A → ℕ → Bool) (d : A) (xs : List A) (r : ℕ) → held (map f xs) r ≡ sumBelow (length xs) (λ i. bit (f (getD xs i d) r))
 unfolding held sumBelow
 held-map f d [] r = refl

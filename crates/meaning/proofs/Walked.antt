@@ -118,10 +118,6 @@ module _ (b : List ℕ) (o : ℕ) where
   ahead-some [] a h = absurd (omega (arith, ahead-length [] a))
   ahead-some (p ∷ ps) a h = a .some .0
 
-  pub ahead-none : (ps : List Piece) → Ahead b o ps → length (segments b) ≤ o → ps ≡ []
-  ahead-none [] a h = refl
-  ahead-none (p ∷ ps) a h = absurd (omega (arith, ahead-length (p ∷ ps) a, flat-length p ps, a .some .0))
-
   pub no-end : (ps : List Piece) → Ahead b o ps → (e : ℕ) → o < e → e < o + firstSize ps → isIn (endsFrom 0 (pieces 0 b)) e ≡ false
   no-end ps a e h g = a .ends e h ∙ first-ends o ps e g
 
