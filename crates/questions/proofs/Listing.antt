@@ -80,16 +80,6 @@ module _ (index list : List ℕ) where
       let b = or-false (eqb (length list) 0) (ltb mostNamed (length list)) (a .0) in
       record { most = ltb-false mostNamed (length list) (b .1); its = good-each index list (a .1) }
 
-  -- no body of the index's rows has more words than this
-  pub body-most : (op : Operation) (table : List ℕ) (n : ℕ) → n ≡ segmentCount 32 (rowCount index) → length (answerBody index list op table) ≤ n + n / 32767 + 1
-  unfolding answerBody
-  body-most op table n e =
-      let R = rowCount index in
-      let f = chosen op table in
-      let b = bodiesOf index list in
-      let t : length (answerSegments R f b) ≡ n = answer-length R f b ∙ sym e in
-      rw (answer-canonical R f b, ← t) (most-words-div (answerSegments R f b))
-
   -- ---- what is reported
 
   module _ (out : List ℕ) where

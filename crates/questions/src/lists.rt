@@ -1,8 +1,7 @@
 // Questions over a list of bitmaps of a sound index: what is left to be refused, and the answer.
 ghost use mathlib.Core.Path.{_≡_};
 ghost use mathlib.Core.Bool.{true, _||_, not};
-ghost use mathlib.Core.List.{List};
-ghost use Prim.Native.Nat.{ℕ, suc, _≤_, _<_};
+ghost use Prim.Native.Nat.{suc, _≤_, _<_};
 ghost use lib.Dec.{eqb, ltb};
 ghost use lib.ListN.{length};
 ghost use Rattle.meaning.specs.Limits.{headWords};
@@ -12,13 +11,11 @@ ghost use Rattle.meaning.specs.Index.{rowCount};
 ghost use Rattle.meaning.specs.Question.{byTable, histogramOf};
 ghost use Rattle.meaning.specs.Laws.{IndexFacts};
 ghost use Rattle.meaning.specs.Answer as meaning;
-ghost use Rattle.merge.specs.Queries.{Listed};
-ghost use Rattle.merge.specs.Operations.{LowNumber};
-ghost use Rattle.merge.specs.Merges.{answerBody};
 ghost use Rattle.questions.specs.Told.{Reported, Counted};
 use crate::answer;
 use crate::answer::Answered;
 use crate::answer::Histogram;
+use crate::fit;
 use ewah::refusal::Checked;
 use index::contents;
 use merge::engine;
@@ -55,57 +52,6 @@ fn list_is_bad(index: &[u32], list: &[u32]) -> bool
     names_missing(index, list)
 }
 
-// Whether a buffer of that length has room for any body of the index's rows.
-fn surely_fits(index: &[u32], room: usize) -> bool
-    requires { ⌜ IndexFacts (now index) ⌝ }
-    ensures { λ r. ⌜ (r ≡ true → (list table : List ℕ) (op : Operation) → length (answerBody (now (index .entry)) list op table) ≤ room) ⌝ }
-{
-    let segments = contents::wide(rows::segment_count(contents::rows(index)));
-    segments + segments / 32767 + 1 <= room
-}
-
-// The answer, into a buffer with room for it.
-fn write_fitting(
-    index: &[u32],
-    list: &[u32],
-    op: Operation,
-    table: &[u32],
-    out: &mut [u32],
-) -> Answered
-    requires { ⌜ IndexFacts (now index) ⌝ }
-    requires { ⌜ Listed (now index) (now list) ⌝ }
-    requires { ⌜ (1 ≤ length (now list)) × (length (now table) ≤ 65) × LowNumber op ⌝ }
-    requires { ⌜ length (answerBody (now index) (now list) op (now table)) ≤ length (now out) ⌝ }
-    ensures { λ r. ⌜ Reported (now (index .entry)) (now (list .entry)) (meaning.fits (length (now (out .entry))) (answerBody (now (index .entry)) (now (list .entry)) op (now (table .entry)))) r (now (out .entry)) (now (out .exit)) ⌝ }
-{
-    let m = engine::merge(index, list, op, table, out, true);
-    Answered::Words(m.words, m.stretches)
-}
-
-// The answer; 9 where it does not fit. It is measured first, unless the buffer surely has room.
-pub fn write_answer(
-    index: &[u32],
-    list: &[u32],
-    op: Operation,
-    table: &[u32],
-    out: &mut [u32],
-) -> Answered
-    requires { ⌜ IndexFacts (now index) ⌝ }
-    requires { ⌜ Listed (now index) (now list) ⌝ }
-    requires { ⌜ (1 ≤ length (now list)) × (length (now table) ≤ 65) × LowNumber op ⌝ }
-    ensures { λ r. ⌜ Reported (now (index .entry)) (now (list .entry)) (meaning.fits (length (now (out .entry))) (answerBody (now (index .entry)) (now (list .entry)) op (now (table .entry)))) r (now (out .entry)) (now (out .exit)) ⌝ }
-{
-    if surely_fits(index, out.len()) {
-        return write_fitting(index, list, op, table, out);
-    }
-    let measured = engine::merge(index, list, op, table, out, false);
-    let need = measured.words;
-    if out.len() < need {
-        return Answered::Refused(answer::no_room(need as u64));
-    }
-    write_fitting(index, list, op, table, out)
-}
-
 // The rows that at least t of the list have; 8 for a bad list, or where t is 0 or above the list's length.
 pub fn threshold(index: &[u32], list: &[u32], t: u32, out: &mut [u32]) -> Answered
     requires { ⌜ IndexFacts (now index) ⌝ }
@@ -120,7 +66,7 @@ pub fn threshold(index: &[u32], list: &[u32], t: u32, out: &mut [u32]) -> Answer
     if list.len() < contents::wide(t) {
         return Answered::Refused(answer::bad_argument());
     }
-    write_answer(index, list, Operation::AtLeast(t), &index[0..0], out)
+    fit::write_answer(index, list, Operation::AtLeast(t), &index[0..0], out)
 }
 
 // Whether a table has an entry other than 0 and 1.
@@ -151,7 +97,7 @@ pub fn symmetric(index: &[u32], list: &[u32], table: &[u32], out: &mut [u32]) ->
     if entry_is_bad(table) {
         return Answered::Refused(answer::bad_argument());
     }
-    write_answer(index, list, Operation::Table, table, out)
+    fit::write_answer(index, list, Operation::Table, table, out)
 }
 
 // The histogram of the list; 8 for a bad one.

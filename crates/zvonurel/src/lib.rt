@@ -5,6 +5,7 @@
 // `meaning`'s `specs/Answer.antt`; `questions`' `specs/Told.antt` says which outcome an answer tells.
 ghost use mathlib.Core.Path.{_≡_};
 ghost use lib.ListN.{length};
+ghost use Rattle.meaning.specs.Refusal.{_then_};
 ghost use Rattle.meaning.specs.Answer as meaning;
 ghost use Rattle.meaning.specs.Demands.{Asked, Demand3};
 ghost use Rattle.ewah.specs.Told.{verdictOf};
@@ -22,6 +23,7 @@ pub use questions::answer::Number;
 pub use questions::answer::Written;
 use questions::ask;
 use questions::lists;
+use questions::logical;
 
 // ---- one body alone: bitmap 0, with places counted in the body. More rows than the limit are refused first
 
@@ -162,6 +164,74 @@ pub fn expand_bitmap(index: &[u32], k: u32, out: &mut [u32]) -> Written
     match checked {
         Checked::Refused(refusal) => Written::Refused(refusal),
         Checked::Sound => ask::plain(contents::body(index, k), contents::rows(index), out),
+    }
+}
+
+// ---- two bitmaps of an index, or one, as a body in canonical form
+
+// Why a question on bitmaps j and k is refused; `Sound` where it is not.
+fn pair_refusal(index: &[u32], j: u32, k: u32) -> Checked
+    ensures { λ r. ⌜ verdictOf r ≡ (meaning.bitmapRefusal (now (index .entry)) j then meaning.bitmapRefusal (now (index .entry)) k) ⌝ }
+{
+    let checked = bitmap_refusal(index, j);
+    match checked {
+        Checked::Refused(refusal) => Checked::Refused(refusal),
+        Checked::Sound => ask::check_number(index, k),
+    }
+}
+
+// The rows that both have.
+pub fn and(index: &[u32], j: u32, k: u32, out: &mut [u32]) -> Written
+    ensures { λ r. ⌜ Wrote (meaning.and (now (index .entry)) j k (length (now (out .entry)))) r (now (out .entry)) (now (out .exit)) ⌝ }
+{
+    let checked = pair_refusal(index, j, k);
+    match checked {
+        Checked::Refused(refusal) => Written::Refused(refusal),
+        Checked::Sound => logical::and(index, j, k, out),
+    }
+}
+
+// The rows that one or both have.
+pub fn or(index: &[u32], j: u32, k: u32, out: &mut [u32]) -> Written
+    ensures { λ r. ⌜ Wrote (meaning.or (now (index .entry)) j k (length (now (out .entry)))) r (now (out .entry)) (now (out .exit)) ⌝ }
+{
+    let checked = pair_refusal(index, j, k);
+    match checked {
+        Checked::Refused(refusal) => Written::Refused(refusal),
+        Checked::Sound => logical::or(index, j, k, out),
+    }
+}
+
+// The rows that just one of the two has.
+pub fn xor(index: &[u32], j: u32, k: u32, out: &mut [u32]) -> Written
+    ensures { λ r. ⌜ Wrote (meaning.xor (now (index .entry)) j k (length (now (out .entry)))) r (now (out .entry)) (now (out .exit)) ⌝ }
+{
+    let checked = pair_refusal(index, j, k);
+    match checked {
+        Checked::Refused(refusal) => Written::Refused(refusal),
+        Checked::Sound => logical::xor(index, j, k, out),
+    }
+}
+
+// The rows that j has and k has not.
+pub fn and_not(index: &[u32], j: u32, k: u32, out: &mut [u32]) -> Written
+    ensures { λ r. ⌜ Wrote (meaning.andNot (now (index .entry)) j k (length (now (out .entry)))) r (now (out .entry)) (now (out .exit)) ⌝ }
+{
+    let checked = pair_refusal(index, j, k);
+    match checked {
+        Checked::Refused(refusal) => Written::Refused(refusal),
+        Checked::Sound => logical::and_not(index, j, k, out),
+    }
+}
+
+// The rows that bitmap k has not.
+pub fn not(index: &[u32], k: u32, out: &mut [u32]) -> Written
+    ensures { λ r. ⌜ Wrote (meaning.notOf (now (index .entry)) k (length (now (out .entry)))) r (now (out .entry)) (now (out .exit)) ⌝ }
+{
+    let checked = bitmap_refusal(index, k);
+    match checked {
+        Checked::Refused(refusal) => Written::Refused(refusal),
+        Checked::Sound => logical::not(index, k, out),
     }
 }
 

@@ -1,8 +1,8 @@
 use denote.Ref.{now}
 use Rattle.questions.proofs.Listing.{reported-words}
 use borrow.Author.Needs.{needs}
-use Rattle.questions.proofs.lists.write_fitting.Statement.{statement}
-use Rattle.questions.proofs.lists.write_fitting.Tie as tie
+use Rattle.questions.proofs.fit.write_fitting.Statement.{statement}
+use Rattle.questions.proofs.fit.write_fitting.Tie as tie
 
 merge-requires : tie.Need-merge-requires
 merge-requires c κs =

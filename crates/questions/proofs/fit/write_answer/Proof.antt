@@ -2,17 +2,17 @@ use denote.Ref.{now}
 use mathlib.Core.Bool.{false≢true}
 use Rattle.questions.proofs.Listing.{measured-none, measured-room, measured-words}
 use borrow.Author.Needs.{needs}
-use Rattle.questions.proofs.lists.write_answer.Statement.{statement}
-use Rattle.questions.proofs.lists.write_answer.Tie as tie
+use Rattle.questions.proofs.fit.write_answer.Statement.{statement}
+use Rattle.questions.proofs.fit.write_answer.Tie as tie
 
 surely-fits-requires : tie.Need-surely-fits-requires
-surely-fits-requires c κs = c .before .before .before .before .pre .0
+surely-fits-requires c κs = let s = c .before .before .before .before in (s .pre .0, (s .pre .1 .0, s .pre .1 .1 .0))
 
 write-fitting-requires : tie.Need-write-fitting-requires
 write-fitting-requires c κs =
     let s = c .before .before .before .before .before .before .before in
     let a = s .args in
-    (s .pre .0, (s .pre .1 .0, (s .pre .1 .1, c .before .before .surely-fits .ensures (c .before .if1 .taken) (now (a .list)) (now (a .table)) (a .op))))
+    (s .pre .0, (s .pre .1 .0, (s .pre .1 .1, c .before .before .surely-fits .ensures (c .before .if1 .taken) (now (a .table)) (a .op))))
 
 same-length : tie.Need-same-length
 same-length c = search needs

@@ -1,0 +1,38 @@
+use Prim.Native.Nat.{_*_}
+use denote.Ref.{now}
+use borrow.Author.Tests.{leb-true}
+use Rattle.questions.proofs.Fitting.{twice-most}
+use native.Mathlib.Omega.{arith}
+use borrow.Author.Needs.{needs}
+use Rattle.questions.proofs.fit.surely_fits.Statement.{statement}
+use Rattle.questions.proofs.fit.surely_fits.Tie as tie
+use Rattle.questions.proofs.fit.surely_fits.Reads as reads
+use Rattle.questions.proofs.fit.surely_fits.Lts as lts
+use Rattle.questions.proofs.fit.most_words.Reads as most-words-reads
+use Rattle.questions.proofs.fit.named_words.Reads as named-words-reads
+
+-- src/fit.rt:54:8
+most-words-requires : tie.Need-most-words-requires
+most-words-requires c κs = search needs
+
+-- src/fit.rt:55:9
+returns : tie.Need-returns
+returns c = λ e table op. let s = c .before .before .before .before in omega (arith, c .before .most-words .ensures (now (s .args .list)) table op, c .if1 .taken)
+
+-- src/fit.rt:57:9
+named-words-requires : tie.Need-named-words-requires
+named-words-requires c κs = search needs
+
+-- src/fit.rt:57:5
+mul-result : tie.Need-mul-result
+mul-result c = search needs
+
+-- src/fit.rt:48:1
+returns-2 : tie.Need-returns-2
+returns-2 c = λ e table op.
+    let s = c .before .before .before .before .before in
+    omega (arith, twice-most (now (s .args .index)) (now (s .args .list)) op table (s .pre .0) (s .pre .1 .0) (s .pre .1 .1), c .named-words .ensures .0, leb-true (2 * c .named-words .result) (s .args .room) e)
+
+pub surely-fits-spec : {M : Type 1} → statement M
+surely-fits-spec =
+    tie.close (tie.spec most-words-requires returns named-words-requires mul-result returns-2)
