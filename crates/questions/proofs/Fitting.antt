@@ -2,15 +2,15 @@
 -- Assumes nothing.
 use Prim.Native.Nat.{ℕ, suc, _+_, _*_, _/_, _≤_, _<_}
 use mathlib.Core.Bool.{Bool}
-use mathlib.Core.Path.{_≡_, sym, ap, _∙_, subst}
-use mathlib.Core.List.{List, map}
+use mathlib.Core.Path.{_≡_, sym, _∙_, subst}
+use mathlib.Core.List.{List}
 use native.Mathlib.Omega.{arith}
 use native.Mathlib.Numerals.{add-one}
 use lib.ListN.{length, drop, getD, drop-of-length-le}
 use lib.Seq.{drop-cons}
 use Rattle.meaning.specs.Segment.{segmentCount}
 use Rattle.meaning.specs.Canonical.{canonical}
-use Rattle.meaning.specs.Index.{rowCount, lengthOf, bodyAt, rowsAt}
+use Rattle.meaning.specs.Index.{rowCount, lengthOf, bodyAt}
 use Rattle.meaning.specs.Question.{held, totalWords, stretches}
 use Rattle.meaning.specs.Ahead.{answerRows, answerSegments}
 use Rattle.meaning.specs.Answer.{named, namedBodies}

@@ -1,6 +1,6 @@
 -- Lists of bitmap numbers: which are bad, and what a call over a good one reports.
 -- Assumes nothing.
-use Prim.Native.Nat.{ℕ, _+_, _/_, _≤_, _<_}
+use Prim.Native.Nat.{ℕ, _+_, _≤_, _<_}
 use mathlib.Core.Bool.{Bool, true, false, _||_}
 use mathlib.Core.Path.{_≡_, refl, sym, ap, _∙_, subst}
 use mathlib.Core.List.{List}
@@ -11,22 +11,17 @@ use lib.Dec.{eqb, ltb}
 use lib.ListN.{length, drop, getD, drop-of-length-le}
 use lib.Seq.{drop-cons, take-at}
 use Rattle.meaning.specs.Limits.{mostNamed}
-use Rattle.meaning.specs.Segment.{segmentCount}
 use Rattle.meaning.specs.Refusal.{Outcome, refused, answer}
-use Rattle.meaning.specs.Index.{rowCount, bitmapCount}
-use Rattle.meaning.specs.Ahead.{answerSegments}
+use Rattle.meaning.specs.Index.{bitmapCount}
 use Rattle.meaning.specs.Answer.{badBitmap, anyBad, badList, namedBodies, fits, bufferAfter, wordsReported, stretchesReported}
 use Rattle.meaning.proofs.Demanded.{good-each, or-false}
-use Rattle.meaning.proofs.Evaluated.{answer-length, answer-canonical}
-use Rattle.meaning.proofs.Least.{most-words-div}
 use Rattle.meaning.proofs.Outcomes.{fits-yes, fits-no}
 use Rattle.ewah.specs.declared.refusal.Refusal.{Refusal}
 use Rattle.ewah.specs.Told.{refusedBy}
 use Rattle.merge.specs.declared.evaluate.Operation.{Operation}
 use Rattle.merge.specs.declared.engine.Merged.{Merged}
-use Rattle.merge.specs.Operations.{chosen}
 use Rattle.merge.specs.Queries.{Listed}
-use Rattle.merge.specs.Merges.{bodiesOf, answerBody, MergedTo}
+use Rattle.merge.specs.Merges.{answerBody, MergedTo}
 use Rattle.questions.specs.declared.answer.Answered.{Answered}
 use Rattle.questions.specs.declared.answer.Answered.the-variants as answered
 use Rattle.questions.specs.Told.{refusal, answeredOf, wordsIn, stretchesIn, Reported}

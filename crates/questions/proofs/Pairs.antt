@@ -1,6 +1,6 @@
 -- Logical questions: what is chosen of a list of one, two or three bitmaps, and the words alone of an answer.
 -- Assumes nothing.
-use Prim.Native.Nat.{ℕ, zero, suc, _+_, _≤_, _<_}
+use Prim.Native.Nat.{ℕ, zero, suc, _+_, _<_}
 use mathlib.Core.Bool.{Bool, true, false, not, _&&_, _||_, xor}
 use mathlib.Core.Path.{_≡_, refl, sym, ap, _∙_, subst}
 use mathlib.Core.List.{List, [], _∷_, map}
@@ -10,7 +10,6 @@ use lib.ListN.{length, getD}
 use Rattle.meaning.specs.Limits.{mostNamed}
 use Rattle.meaning.specs.Rows.{bit}
 use Rattle.meaning.specs.Refusal.{Outcome}
-use Rattle.meaning.specs.Ewah.{rowsOf}
 use Rattle.meaning.specs.Canonical.{canonical}
 use Rattle.meaning.specs.Index.{rowCount, bitmapCount, rowsAt}
 use Rattle.meaning.specs.Question.{held, intersection, union, symmetricDifference, difference, complement}
@@ -22,11 +21,10 @@ use Rattle.merge.specs.declared.evaluate.Operation.{Operation}
 use Rattle.merge.specs.declared.evaluate.Operation.the-variants as operation
 use Rattle.merge.specs.Operations.{chosen}
 use Rattle.merge.specs.Queries.{Listed}
-use Rattle.merge.specs.Merges.{bodiesOf, answerBody}
+use Rattle.merge.specs.Merges.{answerBody}
 use Rattle.ewah.specs.declared.refusal.Refusal.{Refusal}
 use Rattle.questions.specs.declared.answer.Answered.{Answered}
 use Rattle.questions.specs.declared.answer.Answered.the-variants as answered
-use Rattle.questions.specs.declared.answer.Written.{Written}
 use Rattle.questions.specs.declared.answer.Written.the-variants as written
 use Rattle.questions.specs.Told.{Reported, Wrote, answeredOf, wordsIn, writtenOf, wordsOf}
 

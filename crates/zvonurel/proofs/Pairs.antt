@@ -2,7 +2,7 @@
 -- Assumes nothing.
 use Prim.Native.Nat.{ℕ, _<_}
 use mathlib.Core.Bool.{Bool}
-use mathlib.Core.Path.{_≡_, refl, sym, _∙_}
+use mathlib.Core.Path.{_≡_, refl, _∙_}
 use mathlib.Core.List.{List}
 use lib.ListN.{length}
 use Rattle.meaning.specs.Refusal.{Outcome, refused, answer, Verdict, sound, refuseIf, _then_}
@@ -14,7 +14,7 @@ use Rattle.meaning.proofs.BitmapPart.{part-laws}
 use Rattle.ewah.specs.declared.refusal.Refusal.{Refusal}
 use Rattle.ewah.specs.declared.refusal.Checked.{Checked}
 use Rattle.ewah.specs.declared.refusal.Checked.the-variants as checked
-use Rattle.ewah.specs.Told.{verdictOf, refusedBy}
+use Rattle.ewah.specs.Told.{verdictOf}
 use Rattle.ewah.proofs.Checks.{sound-is, refuses}
 use Rattle.questions.specs.declared.answer.Written.{Written}
 use Rattle.questions.specs.declared.answer.Written.the-variants as written
@@ -34,12 +34,12 @@ grouped (refused n b p) w o = refl
 grouped (answer u) w o = refl
 
 module _ (index : List ℕ) (j k : ℕ) (c : Checked) (e : verdictOf c ≡ (bitmapRefusal index j then bitmapRefusal index k)) where
-  pub both-there : c ≡ checked.Sound → IndexFacts index × (j < bitmapCount index) × (k < bitmapCount index)
+  pub both-there : c ≡ checked.Sound → IndexFacts index × ((j < bitmapCount index) × (k < bitmapCount index))
   both-there h =
       let s = then-answer (bitmapRefusal index j) (bitmapRefusal index k) tt (sound-is c _ e h) in
       let f = part-laws .known index j (s .0) in
       let g = part-laws .known index k (s .1) in
-      (f .facts, f .below, g .below)
+      (f .facts, (f .below, g .below))
 
   module _ (op : (ℕ → Bool) → (ℕ → Bool) → ℕ → Bool) (out : List ℕ) where
     abbrev rest : Outcome (List ℕ)

@@ -1,39 +1,41 @@
-use native.Mathlib.Omega.{arith}
+use Rattle.zvonurel.proofs.Pairs.{both-there, pair-refused, pair-answered}
+use Rattle.meaning.specs.Answer.{and}
+use Rattle.meaning.specs.Question.{intersection}
+use denote.Ref.{now}
 use borrow.Author.Needs.{needs}
 use Rattle.zvonurel.proofs.and.Statement.{statement}
 use Rattle.zvonurel.proofs.and.Tie as tie
-use Rattle.zvonurel.proofs.and.Reads as reads
-use Rattle.zvonurel.proofs.and.Lts as lts
-use Rattle.questions.proofs.logical.and.Reads as and-reads
-use Rattle.zvonurel.proofs.pair_refusal.Reads as pair-refusal-reads
 
--- src/lib.rt:187:9
 pair-refusal-requires : tie.Need-pair-refusal-requires
 pair-refusal-requires c κs = search needs
 
--- src/lib.rt:189:26
 enum-known-checked : tie.Need-enum-known-checked
 enum-known-checked c = search needs
 
--- src/lib.rt:190:53
 enum-told : tie.Need-enum-told
 enum-told c = search needs
 
--- src/lib.rt:190:27
 and-requires : tie.Need-and-requires
-and-requires c κs = search needs
+and-requires c κs = let k = c .before .before .before in let a = k .before .before .before .args in both-there (now (a .index)) (a .j) (a .k) (k .pair-refusal .result) (k .pair-refusal .ensures) (c .before .enum-told .given .1)
 
--- src/lib.rt:184:1
 returns : tie.Need-returns
-returns c = search needs
+unfolding and
+returns c =
+    let k = c .before .before .before in
+    let a = k .before .before .before .args in
+    pair-refused (now (a .index)) (a .j) (a .k) (k .pair-refusal .result) (k .pair-refusal .ensures) intersection (now (a .out)) _ (c .before .checked .given .1)
 
--- src/lib.rt:184:1
 same-length : tie.Need-same-length
 same-length c = search needs
 
--- src/lib.rt:184:1
 returns-2 : tie.Need-returns-2
-returns-2 c = search needs
+unfolding and
+returns-2 c =
+    let w = c .before .before in
+    let t = w .before .before in
+    let k = t .before .before in
+    let a = k .before .before .before .args in
+    pair-answered (now (a .index)) (a .j) (a .k) (k .pair-refusal .result) (k .pair-refusal .ensures) intersection (now (a .out)) (t .enum-told .given .1) (w .and .result) (w .and .last .1 .1 .1 .0) (w .and .ensures)
 
 pub and-spec : {M : Type 1} → statement M
 and-spec =

@@ -1,35 +1,40 @@
-use native.Mathlib.Omega.{arith}
+use Rattle.zvonurel.proofs.Pairs.{second-number}
+use Rattle.ewah.proofs.Checks.{sound-is, refuses, answers}
+use Rattle.meaning.proofs.BitmapPart.{part-laws}
+use Rattle.meaning.specs.Answer.{bitmapRefusal}
+use Rattle.ewah.specs.Told.{verdictOf}
+use mathlib.Core.Path.{sym, _∙_}
+use denote.Ref.{now}
 use borrow.Author.Needs.{needs}
 use Rattle.zvonurel.proofs.pair_refusal.Statement.{statement}
 use Rattle.zvonurel.proofs.pair_refusal.Tie as tie
-use Rattle.zvonurel.proofs.pair_refusal.Reads as reads
-use Rattle.zvonurel.proofs.pair_refusal.Lts as lts
-use Rattle.questions.proofs.ask.check_number.Reads as check-number-reads
-use Rattle.zvonurel.proofs.bitmap_refusal.Reads as bitmap-refusal-reads
 
--- src/lib.rt:176:9
 bitmap-refusal-requires : tie.Need-bitmap-refusal-requires
 bitmap-refusal-requires c κs = search needs
 
--- src/lib.rt:178:26
 enum-known-checked : tie.Need-enum-known-checked
 enum-known-checked c = search needs
 
--- src/lib.rt:179:27
 enum-told : tie.Need-enum-told
 enum-told c = search needs
 
--- src/lib.rt:179:27
 check-number-requires : tie.Need-check-number-requires
-check-number-requires c κs = search needs
+check-number-requires c κs =
+    let k = c .before .before in
+    part-laws .known _ _ (sound-is (k .bitmap-refusal .result) _ (k .bitmap-refusal .ensures) (c .enum-told .given .1)) .facts .head .head
 
--- src/lib.rt:173:1
 returns : tie.Need-returns
-returns c = search needs
+unfolding verdictOf
+returns c =
+    let k = c .before .before .before in
+    let a = k .before .before .args in
+    refuses (k .bitmap-refusal .result) (bitmapRefusal (now (a .index)) (a .j)) (k .bitmap-refusal .ensures) (bitmapRefusal (now (a .index)) (a .k)) _ (c .before .checked .given .1)
 
--- src/lib.rt:173:1
 returns-2 : tie.Need-returns-2
-returns-2 c = search needs
+returns-2 c =
+    let k = c .before .before .before in
+    let a = k .before .before .args in
+    answers (k .bitmap-refusal .result) (bitmapRefusal (now (a .index)) (a .j)) (k .bitmap-refusal .ensures) (bitmapRefusal (now (a .index)) (a .k)) (verdictOf (c .check-number .result)) (c .before .enum-told .given .1) (c .check-number .ensures ∙ sym (second-number (now (a .index)) (a .j) (a .k) (sound-is (k .bitmap-refusal .result) _ (k .bitmap-refusal .ensures) (c .before .enum-told .given .1))))
 
 pub pair-refusal-spec : {M : Type 1} → statement M
 pair-refusal-spec =

@@ -1,39 +1,41 @@
-use native.Mathlib.Omega.{arith}
+use Rattle.zvonurel.proofs.Pairs.{both-there, pair-refused, pair-answered}
+use Rattle.meaning.specs.Answer.{xor}
+use Rattle.meaning.specs.Question.{symmetricDifference}
+use denote.Ref.{now}
 use borrow.Author.Needs.{needs}
 use Rattle.zvonurel.proofs.xor.Statement.{statement}
 use Rattle.zvonurel.proofs.xor.Tie as tie
-use Rattle.zvonurel.proofs.xor.Reads as reads
-use Rattle.zvonurel.proofs.xor.Lts as lts
-use Rattle.questions.proofs.logical.xor.Reads as xor-reads
-use Rattle.zvonurel.proofs.pair_refusal.Reads as pair-refusal-reads
 
--- src/lib.rt:209:9
 pair-refusal-requires : tie.Need-pair-refusal-requires
 pair-refusal-requires c κs = search needs
 
--- src/lib.rt:211:26
 enum-known-checked : tie.Need-enum-known-checked
 enum-known-checked c = search needs
 
--- src/lib.rt:212:53
 enum-told : tie.Need-enum-told
 enum-told c = search needs
 
--- src/lib.rt:212:27
 xor-requires : tie.Need-xor-requires
-xor-requires c κs = search needs
+xor-requires c κs = let k = c .before .before .before in let a = k .before .before .before .args in both-there (now (a .index)) (a .j) (a .k) (k .pair-refusal .result) (k .pair-refusal .ensures) (c .before .enum-told .given .1)
 
--- src/lib.rt:206:1
 returns : tie.Need-returns
-returns c = search needs
+unfolding xor
+returns c =
+    let k = c .before .before .before in
+    let a = k .before .before .before .args in
+    pair-refused (now (a .index)) (a .j) (a .k) (k .pair-refusal .result) (k .pair-refusal .ensures) symmetricDifference (now (a .out)) _ (c .before .checked .given .1)
 
--- src/lib.rt:206:1
 same-length : tie.Need-same-length
 same-length c = search needs
 
--- src/lib.rt:206:1
 returns-2 : tie.Need-returns-2
-returns-2 c = search needs
+unfolding xor
+returns-2 c =
+    let w = c .before .before in
+    let t = w .before .before in
+    let k = t .before .before in
+    let a = k .before .before .before .args in
+    pair-answered (now (a .index)) (a .j) (a .k) (k .pair-refusal .result) (k .pair-refusal .ensures) symmetricDifference (now (a .out)) (t .enum-told .given .1) (w .xor .result) (w .xor .last .1 .1 .1 .0) (w .xor .ensures)
 
 pub xor-spec : {M : Type 1} → statement M
 xor-spec =

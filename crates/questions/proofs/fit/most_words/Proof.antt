@@ -6,33 +6,22 @@ use native.Mathlib.Omega.{arith}
 use borrow.Author.Needs.{needs}
 use Rattle.questions.proofs.fit.most_words.Statement.{statement}
 use Rattle.questions.proofs.fit.most_words.Tie as tie
-use Rattle.questions.proofs.fit.most_words.Reads as reads
-use Rattle.questions.proofs.fit.most_words.Lts as lts
-use Rattle.index.proofs.contents.rows.Reads as rows-reads
-use Rattle.index.proofs.contents.wide.Reads as wide-reads
-use Rattle.words.proofs.rows.segment_count.Reads as segment-count-reads
 
--- src/fit.rt:42:55
 rows-requires : tie.Need-rows-requires
 rows-requires c κs = c .before .pre .head .head
 
--- src/fit.rt:42:35
 segment-count-requires : tie.Need-segment-count-requires
 segment-count-requires c κs = omega (arith, c .rows .ensures, c .before .before .pre .head .few-rows)
 
--- src/fit.rt:42:9
 wide-requires : tie.Need-wide-requires
 wide-requires c κs = search needs
 
--- src/fit.rt:43:5
 add-result : tie.Need-add-result
 add-result c = omega (arith, c .wide .ensures .1)
 
--- src/fit.rt:43:5
 add-result-2 : tie.Need-add-result-2
 add-result-2 c = omega (arith, c .wide .ensures .1)
 
--- src/fit.rt:38:1
 returns : tie.Need-returns
 returns c = λ list table op.
     let s = c .before .before .before .before in

@@ -6,28 +6,19 @@ use native.Mathlib.Omega.{arith}
 use borrow.Author.Needs.{needs}
 use Rattle.questions.proofs.fit.surely_fits.Statement.{statement}
 use Rattle.questions.proofs.fit.surely_fits.Tie as tie
-use Rattle.questions.proofs.fit.surely_fits.Reads as reads
-use Rattle.questions.proofs.fit.surely_fits.Lts as lts
-use Rattle.questions.proofs.fit.most_words.Reads as most-words-reads
-use Rattle.questions.proofs.fit.named_words.Reads as named-words-reads
 
--- src/fit.rt:54:8
 most-words-requires : tie.Need-most-words-requires
 most-words-requires c κs = search needs
 
--- src/fit.rt:55:9
 returns : tie.Need-returns
 returns c = λ e table op. let s = c .before .before .before .before in omega (arith, c .before .most-words .ensures (now (s .args .list)) table op, c .if1 .taken)
 
--- src/fit.rt:57:9
 named-words-requires : tie.Need-named-words-requires
 named-words-requires c κs = search needs
 
--- src/fit.rt:57:5
 mul-result : tie.Need-mul-result
 mul-result c = search needs
 
--- src/fit.rt:48:1
 returns-2 : tie.Need-returns-2
 returns-2 c = λ e table op.
     let s = c .before .before .before .before .before in

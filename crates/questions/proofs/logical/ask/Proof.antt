@@ -10,36 +10,25 @@ use borrow.Author.Needs.{needs}
 use native.Mathlib.Omega.{arith}
 use Rattle.questions.proofs.logical.ask.Statement.{statement}
 use Rattle.questions.proofs.logical.ask.Tie as tie
-use Rattle.questions.proofs.logical.ask.Reads as reads
-use Rattle.questions.proofs.logical.ask.Lts as lts
-use Rattle.questions.proofs.fit.write_answer.Reads as write-answer-reads
-use Rattle.questions.proofs.logical.words_alone.Reads as words-alone-reads
 
--- src/logical.rt:37:55
 sub-write-answer : tie.Need-sub-write-answer
 sub-write-answer c = search needs
 
--- src/logical.rt:37:55
 part-write-answer-start : tie.Need-part-write-answer-start
 part-write-answer-start c = search needs
 
--- src/logical.rt:37:55
 part-write-answer-end : tie.Need-part-write-answer-end
 part-write-answer-end c = search needs
 
--- src/logical.rt:37:9
 write-answer-requires : tie.Need-write-answer-requires
 write-answer-requires c κs = let s = c .before .before .before .before .before in (s .pre .0, (s .pre .1 .0, (s .pre .1 .1 .0, omega arith, s .pre .1 .1 .1)))
 
--- src/logical.rt:38:5
 words-alone-requires : tie.Need-words-alone-requires
 words-alone-requires c κs = search needs
 
--- src/logical.rt:31:1
 same-length : tie.Need-same-length
 same-length c = search needs
 
--- src/logical.rt:31:1
 returns : tie.Need-returns
 returns c = λ p h.
     let w = c .before .before .before in
