@@ -1,0 +1,93 @@
+// The starred readings of paper 01 ("Readings to test by"), asked of the public calls. What a reading expects is computed from the
+// definitions; that the call gives it is proved of the call's contract alone; and the run tries it on the compiled code.
+mod cases;
+mod told;
+
+// Bodies of 0, 64 and 40 rows.
+fn short_bodies() {
+    let none = [0];
+    cases::compresses(0, &none[0..0], 0, &[7, 7, 7, 7]);
+    cases::compresses(64, &[0, 0], 1, &[0x0000_0004, 7, 7, 7]);
+    cases::compresses(64, &[0xFFFF_FFFF, 0xFFFF_FFFF], 1, &[0x0000_0005, 7, 7, 7]);
+    cases::compresses(40, &[0xFFFF_FFFF, 0xFF], 2, &[0x0002_0003, 0xFF, 7, 7]);
+    cases::compresses(40, &[1, 0x80], 3, &[0x0004_0000, 1, 0x80, 7]);
+    cases::faulty(&[0x0000_0005], 40, 7, 0);
+}
+
+// Rows 5 and 64 of 96, in canonical form and wastefully.
+fn ninety_six_rows() {
+    let plain = [0x20, 0, 1];
+    let body = [0x0002_0000, 0x20, 0x0002_0002, 1];
+    let wasteful = [0x0006_0000, 0x20, 0, 1];
+    cases::compresses(96, &plain, 4, &body);
+    cases::expands(96, &body, 3, &[0x20, 0, 1, 7]);
+    cases::expands(96, &wasteful, 3, &[0x20, 0, 1, 7]);
+}
+
+// The LOOPED example of source document 003.
+fn looped() {
+    let index = [
+        1,
+        4,
+        3,
+        9,
+        2,
+        11,
+        2,
+        13,
+        2,
+        0x0002_0000,
+        3,
+        0x0002_0000,
+        0xE,
+        0x0002_0000,
+        8,
+    ];
+    let list = [0, 1, 2];
+    let mut tally: [u32; 65] = [0; 65];
+    tally[1] = 2;
+    tally[2] = 2;
+    cases::sound(&index);
+    cases::threshold(&index, &list, 2, 2, 1, &[0x0002_0000, 0xA, 7, 7]);
+    cases::histogram(&index, &list, &tally);
+    cases::refuses(&index, &list, 4, &mut [7, 7], &[7, 7], 8, 0);
+    cases::refuses(&index, &list, 2, &mut [7], &[7], 9, 2);
+}
+
+// Two bitmaps of 8 rows, of the same document.
+fn eight_rows() {
+    let index = [1, 8, 2, 7, 2, 9, 2, 0x0002_0000, 0x32, 0x0002_0000, 0xB0];
+    cases::and(&index, 0, 1, 2, &[0x0002_0000, 0x30, 7, 7]);
+    cases::or(&index, 0, 1, 2, &[0x0002_0000, 0xB2, 7, 7]);
+    cases::xor(&index, 0, 1, 2, &[0x0002_0000, 0x82, 7, 7]);
+    cases::and_not(&index, 0, 1, 2, &[0x0002_0000, 0x02, 7, 7]);
+    cases::not(&index, 0, 2, &[0x0002_0000, 0xCD, 7, 7]);
+}
+
+// Three stretches over 96 rows.
+fn stretches() {
+    let index = [
+        1,
+        96,
+        2,
+        7,
+        1,
+        8,
+        4,
+        0x0000_0006,
+        0x0002_0000,
+        0x20,
+        0x0002_0002,
+        1,
+    ];
+    let list = [0, 1];
+    cases::threshold(&index, &list, 1, 4, 3, &[0x0002_0000, 0x20, 0x0002_0002, 1]);
+}
+
+fn main() {
+    short_bodies();
+    ninety_six_rows();
+    looped();
+    eight_rows();
+    stretches();
+}
