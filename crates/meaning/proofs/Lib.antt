@@ -9,6 +9,7 @@ pub mod Outcomes
 pub mod ByRuns
 pub mod CanonicalBody
 pub mod Lawful
+pub mod Answering
 pub mod IndexSound
 pub mod BitmapPart
 pub mod Walk

@@ -1,18 +1,19 @@
 -- What holds of the definitions, for a reader to find in one place; each is proved in `proofs/Lawful`.
 -- Assumes nothing.
-use Prim.Native.Nat.{ℕ, _+_, _≤_, _<_}
+use Prim.Native.Nat.{ℕ, suc, _+_, _≤_, _<_}
 use mathlib.Core.Bool.{Bool}
 use mathlib.Core.Path.{_≡_}
 use mathlib.Core.Logic.{_↔_}
 use mathlib.Core.List.{List, [], foldl}
 use lib.ListN.{length, getD, replicate}
-use Rattle.meaning.specs.Limits.{mostClean, mostRows, mostBitmaps, mostIndexWords, indexKind, headWords}
+use Rattle.meaning.specs.Limits.{mostClean, mostNamed, mostRows, mostBitmaps, mostIndexWords, indexKind, headWords}
 use Rattle.meaning.specs.Segment.{Segment, clean, segmentCount, lastLimit, lastOf}
-use Rattle.meaning.specs.Refusal.{refused, sound}
+use Rattle.meaning.specs.Refusal.{refused, answer, sound}
 use Rattle.meaning.specs.Ewah.{Sound, segments, rowsOf, dueAfter}
 use Rattle.meaning.specs.Canonical.{Draft, body, put, canonicalOf, canonical, Canonical}
 use Rattle.meaning.specs.Index.{rowCount, bitmapCount, entryPlace, startOf, bodyPlace, bodyAt, rowsAt, SoundIndex}
-use Rattle.meaning.specs.Answer.{bitmap, bitmapRefusal, partOf}
+use Rattle.meaning.specs.Question.{complement, byTable, sumOf}
+use Rattle.meaning.specs.Answer.{bitmap, bitmapRefusal, partOf, logical, notOf, named, rightRows, threshold, symmetric, histogram}
 use Rattle.meaning.specs.Demands.{BodyOf, Fewest}
 use Rattle.meaning.specs.Paragraph.{groups, groupsWords}
 
@@ -80,3 +81,22 @@ pub record PartLaws : Type 0 where
   pub known : (index : List ℕ) (k : ℕ) → bitmapRefusal index k ≡ sound → Known index k
   -- where it is refused the part is empty
   pub none : (index : List ℕ) (k number place word : ℕ) → bitmapRefusal index k ≡ refused number place word → partOf (bitmap index k) ≡ []
+
+-- ---- what is written
+
+-- a sound body in canonical form with exactly the rows p; no pad bit of it is set
+pub record Answers (R : ℕ) (p : ℕ → Bool) (b : List ℕ) : Type 0 where
+  pub right : BodyOf R p b
+  pub form : Canonical R b
+  pub pads : lastOf (segments b) < lastLimit 32 R
+
+-- each question over bitmaps agrees with the rows, NOT and tables that say yes at 0 included
+pub record AnswerLaws : Type 0 where
+  pub of-pair : (index : List ℕ) (op : (ℕ → Bool) → (ℕ → Bool) → ℕ → Bool) (j k room : ℕ) (b : List ℕ) → logical index op j k room ≡ answer b
+      → Answers (rowCount index) (op (rowsAt index j) (rowsAt index k)) b
+  pub of-not : (index : List ℕ) (k room : ℕ) (b : List ℕ) → notOf index k room ≡ answer b → Answers (rowCount index) (complement (rowsAt index k)) b
+  pub of-threshold : (index list : List ℕ) (T room : ℕ) (b : List ℕ) → threshold index list T room ≡ answer b → Answers (rowCount index) (rightRows index list T) b
+  pub of-symmetric : (index list table : List ℕ) (room : ℕ) (b : List ℕ) → symmetric index list table room ≡ answer b
+      → Answers (rowCount index) (byTable table (named index list)) b
+  -- a histogram has 65 entries, and they add up to the rows
+  pub of-histogram : (index list entries : List ℕ) → histogram index list ≡ answer entries → (length entries ≡ suc mostNamed) × (sumOf entries ≡ rowCount index)

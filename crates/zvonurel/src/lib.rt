@@ -169,14 +169,14 @@ pub fn expand_bitmap(index: &[u32], k: u32, out: &mut [u32]) -> Written
 
 // ---- two bitmaps of an index, or one, as a body in canonical form
 
-// Why a question on bitmaps j and k is refused; `Sound` where it is not.
-fn pair_refusal(index: &[u32], j: u32, k: u32) -> Checked
-    ensures { λ r. ⌜ verdictOf r ≡ (meaning.bitmapRefusal (now (index .entry)) j then meaning.bitmapRefusal (now (index .entry)) k) ⌝ }
+// Why a question on two bitmaps is refused; `Sound` where it is not.
+fn pair_refusal(index: &[u32], first: u32, second: u32) -> Checked
+    ensures { λ r. ⌜ verdictOf r ≡ (meaning.bitmapRefusal (now (index .entry)) first then meaning.bitmapRefusal (now (index .entry)) second) ⌝ }
 {
-    let checked = bitmap_refusal(index, j);
+    let checked = bitmap_refusal(index, first);
     match checked {
-        Checked::Refused(refusal) => Checked::Refused(refusal),
-        Checked::Sound => ask::check_number(index, k),
+        Checked::Refused(why) => Checked::Refused(why),
+        Checked::Sound => ask::check_number(index, second),
     }
 }
 

@@ -28,13 +28,13 @@ unfolding verdictOf
 returns c =
     let k = c .before .before .before in
     let a = k .before .before .args in
-    refuses (k .bitmap-refusal .result) (bitmapRefusal (now (a .index)) (a .j)) (k .bitmap-refusal .ensures) (bitmapRefusal (now (a .index)) (a .k)) _ (c .before .checked .given .1)
+    refuses (k .bitmap-refusal .result) (bitmapRefusal (now (a .index)) (a .first)) (k .bitmap-refusal .ensures) (bitmapRefusal (now (a .index)) (a .second)) _ (c .before .checked .given .1)
 
 returns-2 : tie.Need-returns-2
 returns-2 c =
     let k = c .before .before .before in
     let a = k .before .before .args in
-    answers (k .bitmap-refusal .result) (bitmapRefusal (now (a .index)) (a .j)) (k .bitmap-refusal .ensures) (bitmapRefusal (now (a .index)) (a .k)) (verdictOf (c .check-number .result)) (c .before .enum-told .given .1) (c .check-number .ensures ∙ sym (second-number (now (a .index)) (a .j) (a .k) (sound-is (k .bitmap-refusal .result) _ (k .bitmap-refusal .ensures) (c .before .enum-told .given .1))))
+    answers (k .bitmap-refusal .result) (bitmapRefusal (now (a .index)) (a .first)) (k .bitmap-refusal .ensures) (bitmapRefusal (now (a .index)) (a .second)) (verdictOf (c .check-number .result)) (c .before .enum-told .given .1) (c .check-number .ensures ∙ sym (second-number (now (a .index)) (a .first) (a .second) (sound-is (k .bitmap-refusal .result) _ (k .bitmap-refusal .ensures) (c .before .enum-told .given .1))))
 
 pub pair-refusal-spec : {M : Type 1} → statement M
 pair-refusal-spec =

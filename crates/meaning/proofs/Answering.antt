@@ -1,0 +1,70 @@
+-- Each question over bitmaps agrees with the rows.
+-- Assumes nothing.
+use Prim.Native.Nat.{ℕ, suc, _≤_}
+use mathlib.Core.Bool.{Bool, false, _||_, not}
+use mathlib.Core.Path.{_≡_}
+use mathlib.Core.List.{List}
+use borrow.Author.Tests.{ltb-false}
+use lib.Dec.{eqb, ltb}
+use lib.ListN.{length, length-map}
+use Rattle.meaning.specs.Limits.{mostNamed}
+use Rattle.meaning.specs.Rows.{countBelow}
+use Rattle.meaning.specs.Refusal.{answer}
+use Rattle.meaning.specs.Index.{rowCount, rowsAt}
+use Rattle.meaning.specs.Question.{complement, byTable, held, sumOf, histogramOf}
+use Rattle.meaning.specs.Answer.{write, check, bitmapRefusal, logical, notOf, anyBad, badList, badEntry, named, rightRows, threshold, symmetric, histogram}
+use Rattle.meaning.specs.Canonical.{canonical}
+use Rattle.meaning.specs.Laws.{Answers, AnswerLaws}
+use Rattle.meaning.proofs.Outcomes.{refuse-answer, then-answer, fits-answer}
+use Rattle.meaning.proofs.CanonicalBody.{canonical-body, canonical-form}
+use Rattle.meaning.proofs.Lawful.{body-laws}
+use Rattle.meaning.proofs.Demanded.{or-false}
+use Rattle.meaning.proofs.Counted.{histogram-adds}
+use Rattle.meaning.proofs.RowWords.{length-tabulate}
+
+written : (R : ℕ) (p : ℕ → Bool) (room : ℕ) (b : List ℕ) → write R p room ≡ answer b → Answers R p b
+unfolding write
+written R p room b e =
+    let is = fits-answer room (canonical R p) b e in
+    let right = canonical-body R p in
+    rw is (record { right = right; form = canonical-form R p; pads = body-laws .sound-means R (canonical R p) .0 (right .isSound) .pads })
+
+of-pair : (index : List ℕ) (op : (ℕ → Bool) → (ℕ → Bool) → ℕ → Bool) (j k room : ℕ) (b : List ℕ) → logical index op j k room ≡ answer b
+    → Answers (rowCount index) (op (rowsAt index j) (rowsAt index k)) b
+unfolding logical
+of-pair index op j k room b e =
+    written _ _ room b (then-answer (bitmapRefusal index k) _ b (then-answer (bitmapRefusal index j) _ b e .1) .1)
+
+of-not : (index : List ℕ) (k room : ℕ) (b : List ℕ) → notOf index k room ≡ answer b → Answers (rowCount index) (complement (rowsAt index k)) b
+unfolding notOf
+of-not index k room b e = written _ _ room b (then-answer (bitmapRefusal index k) _ b e .1)
+
+of-threshold : (index list : List ℕ) (T room : ℕ) (b : List ℕ) → threshold index list T room ≡ answer b → Answers (rowCount index) (rightRows index list T) b
+unfolding threshold
+of-threshold index list T room b e =
+    written _ _ room b (refuse-answer (badList index list || eqb T 0 || ltb (length list) T) 8 0 0 _ b (then-answer (check index) _ b e .1) .1)
+
+of-symmetric : (index list table : List ℕ) (room : ℕ) (b : List ℕ) → symmetric index list table room ≡ answer b → Answers (rowCount index) (byTable table (named index list)) b
+unfolding symmetric
+of-symmetric index list table room b e =
+    written _ _ room b (refuse-answer (badList index list || not (eqb (length table) (suc (length list))) || badEntry table) 8 0 0 _ b (then-answer (check index) _ b e .1) .1)
+
+few-named : (index list : List ℕ) → badList index list ≡ false → length (named index list) ≤ mostNamed
+unfolding badList named
+few-named index list e =
+    let a = or-false (eqb (length list) 0 || ltb mostNamed (length list)) (anyBad index list) e in
+    let b = or-false (eqb (length list) 0) (ltb mostNamed (length list)) (a .0) in
+    rw length-map (ltb-false mostNamed (length list) (b .1))
+
+of-histogram : (index list entries : List ℕ) → histogram index list ≡ answer entries → (length entries ≡ suc mostNamed) × (sumOf entries ≡ rowCount index)
+unfolding histogram
+of-histogram index list entries e =
+    let p = refuse-answer (badList index list) 8 0 0 (answer (histogramOf (rowCount index) (named index list))) entries (then-answer (check index) _ entries e .1) in
+    let is : entries ≡ histogramOf (rowCount index) (named index list) = let q = p .1 in cc in
+    rw is (long, histogram-adds (rowCount index) (named index list) (few-named index list (p .0)))
+  where
+    long : length (histogramOf (rowCount index) (named index list)) ≡ suc mostNamed
+    long = unfold histogramOf in length-tabulate (suc mostNamed) (λ c. countBelow (rowCount index) (λ r. eqb (held (named index list) r) c))
+
+pub answer-laws : AnswerLaws
+answer-laws = record { of-pair = of-pair; of-not = of-not; of-threshold = of-threshold; of-symmetric = of-symmetric; of-histogram = of-histogram }
