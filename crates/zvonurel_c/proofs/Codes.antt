@@ -1,0 +1,147 @@
+-- What is returned for an outcome, from what the public call tells; and back: a caller reads the outcome from it.
+-- Assumes nothing.
+use Prim.Native.Nat.{ℕ, zero, suc, _+_, _≤_, _<_}
+use mathlib.Core.Bool.{Bool, true, false, cond}
+use mathlib.Core.Path.{_≡_, refl, sym, ap, _∙_, ap₂, subst}
+use mathlib.Core.List.{List, [], _∷_, _++_}
+use native.Mathlib.Omega.{arith}
+use lib.Dec.{eqb}
+use lib.ListN.{length, getD, set, take, drop, take-append-drop}
+use lib.Seq.{take-append-seam, take-all, take-suc, take-suc-set, drop-set-lt, drop-drop}
+use native.Mathlib.Numerals.{add-one}
+use mir.Val.{boolByte}
+use Rattle.meaning.specs.Refusal.{Outcome, refused, answer, Verdict}
+use Rattle.meaning.specs.Answer.{fits, bufferAfter, wordsReported, stretchesReported}
+use Rattle.meaning.specs.Demands.{Demand3}
+use Rattle.ewah.specs.declared.refusal.Refusal.{Refusal}
+use Rattle.ewah.specs.declared.refusal.Checked.{Checked}
+use Rattle.ewah.specs.declared.refusal.Checked.the-variants as checked
+use Rattle.ewah.specs.Told.{refusedBy}
+use Rattle.questions.specs.declared.answer.Written.{Written}
+use Rattle.questions.specs.declared.answer.Written.the-variants as written
+use Rattle.questions.specs.declared.answer.Answered.{Answered}
+use Rattle.questions.specs.declared.answer.Answered.the-variants as answered
+use Rattle.questions.specs.declared.answer.Histogram.{Histogram}
+use Rattle.questions.specs.Told.{writtenOf, wordsOf, answeredOf, wordsIn, stretchesIn, histogramTold, Wrote, Reported, Counted}
+use Rattle.questions.proofs.Tells.{wrote-refused}
+use Rattle.zvonurel_c.specs.declared.reply.ZvChecked.{ZvChecked}
+use Rattle.zvonurel_c.specs.declared.reply.ZvFlag.{ZvFlag}
+use Rattle.zvonurel_c.specs.declared.reply.ZvNumber.{ZvNumber}
+use Rattle.zvonurel_c.specs.declared.reply.ZvWritten.{ZvWritten}
+use Rattle.zvonurel_c.specs.declared.reply.ZvAnswered.{ZvAnswered}
+use Rattle.zvonurel_c.specs.Exported.{numberIn, bitmapIn, wordIn, flagIn, valueIn, checkedCode, flagCode, numberCode, writtenCode, answeredCode, writtenReply, answeredReply, told, verdictTold, flagTold, numberTold, writtenTold, answeredTold, Checks, Flags, Numbers, Writes, Reports, histogramInto}
+use Rattle.zvonurel_c.proofs.Numbered.{Numbered, number-of}
+
+-- ---- reading an outcome
+
+pub told-refused : {A : Type 0} (n b w : ℕ) (a : A) → 1 ≤ n → told n b w a ≡ refused n b w
+unfolding told
+told-refused zero b w a h = absurd (omega arith)
+told-refused (suc n) b w a h = refl
+
+-- a value that is the answer's where there is one
+told-is : {A : Type 0} (o : Outcome A) (a : A) → Numbered o → ((x : A) → o ≡ answer x → a ≡ x) → told (numberIn o) (bitmapIn o) (wordIn o) a ≡ o
+unfolding told numberIn bitmapIn wordIn
+told-is (refused n b w) a h f = told-refused n b w a (number-of _ n b w h)
+told-is (answer x) a h f = ap answer (f x refl)
+
+pub checks : (o : Verdict) (r : ZvChecked) → Numbered o → r ≡ checkedCode o → Checks o r
+checks o r n e = record { code = e; tells = ap verdictTold e ∙ told-is o tt n (λ x p. refl) }
+
+flag-back : (b : Bool) → eqb (cond b 1 0) 1 ≡ b
+flag-back true = refl
+flag-back false = refl
+
+flag-is : (o : Outcome Bool) (x : Bool) → o ≡ answer x → eqb (flagIn o) 1 ≡ x
+unfolding flagIn
+flag-is o x e = rw e (flag-back x)
+
+pub flags : (o : Outcome Bool) (r : ZvFlag) → Numbered o → r ≡ flagCode o → Flags o r
+flags o r n e = record { code = e; tells = ap flagTold e ∙ told-is o (eqb (flagIn o) 1) n (flag-is o) }
+
+pub numbers : (o : Outcome ℕ) (r : ZvNumber) → Numbered o → r ≡ numberCode o → Numbers o r
+unfolding valueIn
+numbers o r n e = record { code = e; tells = ap numberTold e ∙ told-is o (valueIn o) n (λ x p. ap valueIn p) }
+
+-- ---- a call that writes
+
+words-front : (o : Outcome (List ℕ)) (out out′ : List ℕ) → out′ ≡ bufferAfter o out → (x : List ℕ) → o ≡ answer x → take (wordsReported o) out′ ≡ x
+unfolding bufferAfter wordsReported
+words-front o out out′ l x e = rw (l, e) (take-append-seam x (drop (length x) out))
+
+written-code : (o : Outcome (List ℕ)) (r : Written) (out out′ : List ℕ) → Wrote o r out out′ → writtenReply r ≡ writtenCode o
+unfolding writtenReply writtenOf wordsOf numberIn bitmapIn wordIn wordsReported
+written-code o (written.Words n) out out′ w =
+    subst (λ (p : Outcome (List ℕ)). n ≡ wordsReported p → writtenReply (written.Words n) ≡ writtenCode p) (w .told)
+    (λ e. ap (λ (k : ℕ). record { number = 0; bitmap = 0; word = 0; words = k }) e)
+    (w .words)
+written-code o (written.Refused r) out out′ w = subst (λ (p : Outcome (List ℕ)). writtenReply (written.Refused r) ≡ writtenCode p) (w .told) refl
+
+pub writes : (o : Outcome (List ℕ)) (r : Written) (s : ZvWritten) (out out′ : List ℕ) → Numbered o → s ≡ writtenReply r → Wrote o r out out′ → Writes o s out out′
+writes o r s out out′ n e w =
+    let code = e ∙ written-code o r out out′ w in
+    record {
+      code = code;
+      tells = ap (λ (t : ZvWritten). writtenTold t out′) code ∙ told-is o (take (wordsReported o) out′) n (words-front o out out′ (w .left));
+      left = w .left;
+    }
+
+-- ---- an answer over a list
+
+answered-code : (index list : List ℕ) (o : Outcome (List ℕ)) (r : Answered) (out out′ : List ℕ) → Reported index list o r out out′ → answeredReply r ≡ answeredCode index list o
+unfolding answeredReply answeredOf wordsIn stretchesIn numberIn bitmapIn wordIn wordsReported stretchesReported
+answered-code index list o (answered.Words n s) out out′ w =
+    subst (λ (p : Outcome (List ℕ)). n ≡ wordsReported p → s ≡ stretchesReported index list p → answeredReply (answered.Words n s) ≡ answeredCode index list p) (w .told)
+    (λ e f. ap₂ (λ (k m : ℕ). record { number = 0; bitmap = 0; word = 0; words = k; stretches = m }) e f)
+    (w .words)
+    (w .stretches)
+answered-code index list o (answered.Refused r) out out′ w = subst (λ (p : Outcome (List ℕ)). answeredReply (answered.Refused r) ≡ answeredCode index list p) (w .told) refl
+
+pub reports : (index list : List ℕ) (o : Outcome (List ℕ)) (r : Answered) (s : ZvAnswered) (out out′ : List ℕ) → Numbered o → s ≡ answeredReply r → Reported index list o r out out′ → Reports index list o s out out′
+reports index list o r s out out′ n e w =
+    let code = e ∙ answered-code index list o r out out′ w in
+    record {
+      code = code;
+      tells = ap (λ (t : ZvAnswered). answeredTold t out′) code ∙ told-is o (take (wordsReported o) out′) n (words-front o out out′ (w .left));
+      left = w .left;
+    }
+
+-- demand 3 of what the public call tells is demand 3 of what the caller reads
+pub demanded : (index list : List ℕ) (t : ℕ) (r : Answered) (s : ZvAnswered) (out out′ : List ℕ) (o : Outcome (List ℕ)) → answeredOf r out′ ≡ o → answeredTold s out′ ≡ o
+    → Demand3 index list t out (answeredOf r out′) out′ → Demand3 index list t out (answeredTold s out′) out′
+demanded index list t r s out out′ o e f d = subst (λ (p : Outcome (List ℕ)). Demand3 index list t out p out′) (e ∙ sym f) d
+
+-- ---- a histogram, into a buffer
+
+into-answer : (room : ℕ) (o : Outcome (List ℕ)) (h : Histogram) → Counted o h → h .checked ≡ checked.Sound → fits room (h .counts) ≡ histogramInto room o
+unfolding histogramTold histogramInto
+into-answer room o h w e = ap (histogramInto room) (ap (λ (k : Checked). histogramTold k (h .counts)) (sym e) ∙ w .told)
+
+into-refused : (room : ℕ) (o : Outcome (List ℕ)) (h : Histogram) (r : Refusal) → Counted o h → h .checked ≡ checked.Refused r → refusedBy r ≡ histogramInto room o
+unfolding histogramTold histogramInto
+into-refused room o h r w e = ap (histogramInto room) (ap (λ (k : Checked). histogramTold k (h .counts)) (sym e) ∙ w .told)
+
+module _ (o : Outcome (List ℕ)) (h : Histogram) (w : Counted o h) (out : List ℕ) where
+  pub none-into : (r : Refusal) → h .checked ≡ checked.Refused r → Wrote (histogramInto (length out) o) (written.Refused r) out out
+  none-into r e = wrote-refused out r (histogramInto (length out) o) (into-refused (length out) o h r w e)
+
+  pub counts-into : (r : Written) (out′ : List ℕ) → h .checked ≡ checked.Sound → Wrote (fits (length out) (h .counts)) r out out′ → Wrote (histogramInto (length out) o) r out out′
+  counts-into r out′ e v = subst (λ (p : Outcome (List ℕ)). Wrote p r out out′) (into-answer (length out) o h w e) v
+
+-- ---- a bool as a number
+
+pub as-number : (b : Bool) → boolByte b ≡ cond b 1 0
+as-number true = refl
+as-number false = refl
+
+-- ---- the loop that copies
+
+module _ (out counts out₀ : List ℕ) where
+  pub one-more : (i : ℕ) → i < length out → i < length counts → take i out ≡ take i counts → take (i + 1) (set out i (getD counts i 0)) ≡ take (i + 1) counts
+  one-more i h k e = rw add-one (take-suc-set out i (getD counts i 0) h ∙ ap (λ (l : List ℕ). l ++ (getD counts i 0 ∷ [])) e ∙ sym (take-suc counts i 0 k))
+
+  pub rest-kept : (i v : ℕ) → drop i out ≡ drop i out₀ → drop (i + 1) (set out i v) ≡ drop (i + 1) out₀
+  rest-kept i v e = drop-set-lt (i + 1) out i v (omega arith) ∙ sym (drop-drop 1 i out) ∙ ap (drop 1) e ∙ drop-drop 1 i out₀
+
+  pub all-copied : length counts ≡ 65 → take 65 out ≡ take 65 counts → drop 65 out ≡ drop 65 out₀ → out ≡ counts ++ drop 65 out₀
+  all-copied l e f = sym (take-append-drop 65 out) ∙ ap₂ (λ (x y : List ℕ). x ++ y) (e ∙ take-all 65 counts (omega arith)) f

@@ -1,0 +1,223 @@
+-- Every refusal has a number from 1 to 9, so that 0 can say that there is none.
+-- Assumes nothing.
+use Prim.Native.Nat.{ℕ, zero, suc, _+_, _-_, _≤_}
+use mathlib.Core.Bool.{Bool, true, false, not, _||_}
+use mathlib.Core.List.{List, [], _∷_}
+use lib.Dec.{eqb, leb, ltb}
+use lib.ListN.{length, getD}
+use native.Mathlib.Omega.{arith}
+use Rattle.meaning.specs.Refusal.{Outcome, refused, answer, Verdict, sound, refuseIf, _then_}
+use Rattle.meaning.specs.Limits.{mostRows, mostBitmaps, mostIndexWords, indexKind, headWords}
+use Rattle.meaning.specs.Rows.{countBelow, nthBelow}
+use Rattle.meaning.specs.Segment.{fill, lastRows, overPad, segmentCount, lastLimit, lastOf, hasRow, fromRows}
+use Rattle.meaning.specs.Ewah.{valueOf, cleanOf, dirtyOf, faultFrom, bodyFault, rowsOf}
+use Rattle.meaning.specs.Canonical.{canonical}
+use Rattle.meaning.specs.Index.{bitmapCount, entryPlace, startOf, lengthOf, rowCount, bodyAt, rowsAt, entriesFault, bodiesFault, headFault, indexFault}
+use Rattle.meaning.specs.Question.{intersection, union, symmetricDifference, difference, complement, byTable}
+use Rattle.meaning.specs.Answer as meaning
+use Rattle.zvonurel_c.specs.Exported.{histogramInto}
+
+abbrev Number : ℕ → Type 0
+Number n = (1 ≤ n) × (n ≤ 9)
+
+unfoldable pub Numbered : {A : Type 0} → Outcome A → Type 0
+Numbered (refused number bitmap word) = Number number
+Numbered (answer a) = Unit {0}
+
+pub number-of : (A : Type 0) (n b w : ℕ) → Numbered {A = A} (refused n b w) → 1 ≤ n
+unfolding Numbered
+number-of A n b w h = h .0
+
+-- ---- the steps of an outcome
+
+module _ {A : Type 0} where
+  answered : (a : A) → Numbered (answer a)
+  unfolding Numbered
+  answered a = tt
+
+  refuse : (t : Bool) (n b w : ℕ) (o : Outcome A) → Number n → Numbered o → Numbered (refuseIf t n b w o)
+  unfolding refuseIf Numbered
+  refuse true n b w o h k = h
+  refuse false n b w o h k = k
+
+  after : (v : Verdict) (o : Outcome A) → Numbered v → Numbered o → Numbered (v then o)
+  unfolding _then_ Numbered
+  after (refused n b w) o h k = h
+  after (answer u) o h k = k
+
+fits : (room : ℕ) (ws : List ℕ) → Numbered (meaning.fits room ws)
+unfolding meaning.fits
+fits room ws = refuse (ltb room (length ws)) 9 0 (length ws) (answer ws) (omega arith) (answered ws)
+
+-- ---- the checks
+
+fault : (bitmap R place due left : ℕ) (ws : List ℕ) → Numbered (faultFrom bitmap R place due left ws)
+unfolding faultFrom
+fault bitmap R place due left [] = refuse (ltb 0 left) 6 bitmap place sound (omega arith) (answered tt)
+fault bitmap R place zero left (m ∷ ws) =
+    refuse (ltb (length ws) (dirtyOf m)) 5 bitmap place _ (omega arith)
+    (refuse (ltb left (cleanOf m + dirtyOf m)) 6 bitmap place _ (omega arith)
+    (refuse (overPad 32 R left (cleanOf m) (fill 32 (lastRows 32 R) (valueOf m))) 7 bitmap place _ (omega arith)
+    (fault bitmap R (suc place) (dirtyOf m) (left - cleanOf m) ws)))
+fault bitmap R place (suc due) left (w ∷ ws) = refuse (overPad 32 R left 1 w) 7 bitmap place _ (omega arith) (fault bitmap R (suc place) due (left - 1) ws)
+
+body : (bitmap place R : ℕ) (b : List ℕ) → Numbered (bodyFault bitmap place R b)
+unfolding bodyFault
+body bitmap place R b = fault bitmap R place 0 _ b
+
+module _ (index : List ℕ) where
+  entries : (k more end : ℕ) → Numbered (entriesFault index k more end)
+  unfolding entriesFault
+  entries k zero end = refuse (ltb end (length index)) 4 0 end sound (omega arith) (answered tt)
+  entries k (suc more) end =
+      refuse (not (eqb (startOf index k) end)) 4 k (entryPlace k) _ (omega arith)
+      (refuse (ltb (length index) (end + lengthOf index k)) 4 k (entryPlace k + 1) _ (omega arith)
+      (entries (suc k) more (end + lengthOf index k)))
+
+  bodies : (k more : ℕ) → Numbered (bodiesFault index k more)
+  unfolding bodiesFault
+  bodies k zero = answered tt
+  bodies k (suc more) = after (bodyFault k (startOf index k) (rowCount index) (bodyAt index k)) (bodiesFault index (suc k) more) (body k (startOf index k) (rowCount index) (bodyAt index k)) (bodies (suc k) more)
+
+  head : Numbered (headFault index)
+  unfolding headFault
+  head =
+      refuse (ltb mostIndexWords (length index)) 3 0 0 _ (omega arith)
+      (refuse (ltb (length index) headWords) 1 0 (length index) _ (omega arith)
+      (refuse (not (eqb (getD index 0 0) indexKind)) 2 0 0 _ (omega arith)
+      (refuse (ltb mostRows (rowCount index)) 3 0 1 _ (omega arith)
+      (refuse (ltb mostBitmaps (bitmapCount index)) 3 0 2 _ (omega arith)
+      (refuse (ltb (length index) (entryPlace (bitmapCount index))) 1 0 (length index) _ (omega arith)
+      (answered tt))))))
+
+  pub check : Numbered (meaning.check index)
+  unfolding meaning.check indexFault
+  check =
+      after (headFault index) _ head
+      (after (entriesFault index 0 (bitmapCount index) (entryPlace (bitmapCount index))) _ (entries 0 (bitmapCount index) (entryPlace (bitmapCount index))) (bodies 0 (bitmapCount index)))
+
+-- ---- the questions
+
+ask-row : (R : ℕ) (p : ℕ → Bool) (r : ℕ) → Numbered (meaning.askRow R p r)
+unfolding meaning.askRow
+ask-row R p r = refuse (leb R r) 8 0 0 _ (omega arith) (answered (p r))
+
+ask-count : (R : ℕ) (p : ℕ → Bool) → Numbered (meaning.askCount R p)
+unfolding meaning.askCount
+ask-count R p = answered _
+
+ask-nth : (R : ℕ) (p : ℕ → Bool) (n : ℕ) → Numbered (meaning.askNth R p n)
+unfolding meaning.askNth
+ask-nth R p n = refuse (leb (countBelow R p) n) 8 0 0 _ (omega arith) (answered (nthBelow R p n))
+
+ask-plain : (R : ℕ) (p : ℕ → Bool) (room : ℕ) → Numbered (meaning.askPlain R p room)
+unfolding meaning.askPlain
+ask-plain R p room = fits room (fromRows 32 R p)
+
+write : (R : ℕ) (p : ℕ → Bool) (room : ℕ) → Numbered (meaning.write R p room)
+unfolding meaning.write
+write R p room = fits room (canonical R p)
+
+rows : (R : ℕ) → Numbered (meaning.rowsFault R)
+unfolding meaning.rowsFault
+rows R = refuse (ltb mostRows R) 3 0 1 sound (omega arith) (answered tt)
+
+-- ---- of a body alone
+
+module _ (R : ℕ) (b : List ℕ) where
+  pub check-body : Numbered (meaning.checkBody R b)
+  unfolding meaning.checkBody
+  check-body = after (meaning.rowsFault R) (bodyFault 0 0 R b) (rows R) (body 0 0 R b)
+
+  pub body-row : (r : ℕ) → Numbered (meaning.bodyRow R b r)
+  unfolding meaning.bodyRow
+  body-row r = after (meaning.checkBody R b) _ check-body (ask-row R (rowsOf b) r)
+
+  pub body-count : Numbered (meaning.bodyCount R b)
+  unfolding meaning.bodyCount
+  body-count = after (meaning.checkBody R b) _ check-body (ask-count R (rowsOf b))
+
+  pub body-nth : (n : ℕ) → Numbered (meaning.bodyNth R b n)
+  unfolding meaning.bodyNth
+  body-nth n = after (meaning.checkBody R b) _ check-body (ask-nth R (rowsOf b) n)
+
+  pub expand : (room : ℕ) → Numbered (meaning.expand R b room)
+  unfolding meaning.expand
+  expand room = after (meaning.checkBody R b) _ check-body (ask-plain R (rowsOf b) room)
+
+plain : (R : ℕ) (ws : List ℕ) → Numbered (meaning.plainFault R ws)
+unfolding meaning.plainFault
+plain R ws =
+    after (meaning.rowsFault R) _ (rows R)
+    (refuse (not (eqb (length ws) (segmentCount 32 R))) 8 0 0 _ (omega arith)
+    (refuse (leb (lastLimit 32 R) (lastOf ws)) 7 0 (length ws - 1) sound (omega arith) (answered tt)))
+
+pub compress : (R : ℕ) (ws : List ℕ) (room : ℕ) → Numbered (meaning.compress R ws room)
+unfolding meaning.compress
+compress R ws room = after (meaning.plainFault R ws) _ (plain R ws) (write R (hasRow 32 ws) room)
+
+-- ---- of an index
+
+module _ (index : List ℕ) where
+  module _ (k : ℕ) where
+    pub bitmap-refusal : Numbered (meaning.bitmapRefusal index k)
+    unfolding meaning.bitmapRefusal
+    bitmap-refusal = after (meaning.check index) _ (check index) (refuse (meaning.badBitmap index k) 8 0 0 sound (omega arith) (answered tt))
+
+    pub row : (r : ℕ) → Numbered (meaning.row index k r)
+    unfolding meaning.row
+    row r = after (meaning.bitmapRefusal index k) _ bitmap-refusal (ask-row (rowCount index) (rowsAt index k) r)
+
+    pub count : Numbered (meaning.count index k)
+    unfolding meaning.count
+    count = after (meaning.bitmapRefusal index k) _ bitmap-refusal (ask-count (rowCount index) (rowsAt index k))
+
+    pub nth : (n : ℕ) → Numbered (meaning.nth index k n)
+    unfolding meaning.nth
+    nth n = after (meaning.bitmapRefusal index k) _ bitmap-refusal (ask-nth (rowCount index) (rowsAt index k) n)
+
+    pub expand-bitmap : (room : ℕ) → Numbered (meaning.expandBitmap index k room)
+    unfolding meaning.expandBitmap
+    expand-bitmap room = after (meaning.bitmapRefusal index k) _ bitmap-refusal (ask-plain (rowCount index) (rowsAt index k) room)
+
+    pub not-of : (room : ℕ) → Numbered (meaning.notOf index k room)
+    unfolding meaning.notOf
+    not-of room = after (meaning.bitmapRefusal index k) _ bitmap-refusal (write (rowCount index) (complement (rowsAt index k)) room)
+
+  logical : (op : (ℕ → Bool) → (ℕ → Bool) → ℕ → Bool) (j k room : ℕ) → Numbered (meaning.logical index op j k room)
+  unfolding meaning.logical
+  logical op j k room = after (meaning.bitmapRefusal index j) _ (bitmap-refusal j) (after (meaning.bitmapRefusal index k) _ (bitmap-refusal k) (write (rowCount index) (op (rowsAt index j) (rowsAt index k)) room))
+
+  pub and : (j k room : ℕ) → Numbered (meaning.and index j k room)
+  unfolding meaning.and
+  and = logical intersection
+
+  pub or : (j k room : ℕ) → Numbered (meaning.or index j k room)
+  unfolding meaning.or
+  or = logical union
+
+  pub xor : (j k room : ℕ) → Numbered (meaning.xor index j k room)
+  unfolding meaning.xor
+  xor = logical symmetricDifference
+
+  pub and-not : (j k room : ℕ) → Numbered (meaning.andNot index j k room)
+  unfolding meaning.andNot
+  and-not = logical difference
+
+  module _ (list : List ℕ) where
+    pub threshold : (T room : ℕ) → Numbered (meaning.threshold index list T room)
+    unfolding meaning.threshold
+    threshold T room = after (meaning.check index) _ (check index) (refuse (meaning.badList index list || eqb T 0 || ltb (length list) T) 8 0 0 _ (omega arith) (write (rowCount index) (meaning.rightRows index list T) room))
+
+    pub symmetric : (table : List ℕ) (room : ℕ) → Numbered (meaning.symmetric index list table room)
+    unfolding meaning.symmetric
+    symmetric table room = after (meaning.check index) _ (check index) (refuse (meaning.badList index list || not (eqb (length table) (suc (length list))) || meaning.badEntry table) 8 0 0 _ (omega arith) (write (rowCount index) (byTable table (meaning.named index list)) room))
+
+    pub histogram : Numbered (meaning.histogram index list)
+    unfolding meaning.histogram
+    histogram = after (meaning.check index) _ (check index) (refuse (meaning.badList index list) 8 0 0 _ (omega arith) (answered _))
+
+pub into : (room : ℕ) (o : Outcome (List ℕ)) → Numbered o → Numbered (histogramInto room o)
+unfolding histogramInto Numbered
+into room (refused n b w) h = h
+into room (answer ws) h = fits room ws

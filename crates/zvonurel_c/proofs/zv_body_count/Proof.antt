@@ -1,0 +1,24 @@
+use mathlib.Core.Path.{ap, _∙_}
+use denote.Ref.{now}
+use Rattle.meaning.specs.Answer as meaning
+use Rattle.zvonurel_c.specs.Exported.{numberCode}
+use Rattle.zvonurel_c.proofs.Numbered as numbered
+use Rattle.zvonurel_c.proofs.Codes.{numbers}
+use borrow.Author.Needs.{needs}
+use Rattle.zvonurel_c.proofs.zv_body_count.Statement.{statement}
+use Rattle.zvonurel_c.proofs.zv_body_count.Tie as tie
+
+body-count-requires : tie.Need-body-count-requires
+body-count-requires c κs = search needs
+
+number-requires : tie.Need-number-requires
+number-requires c κs = search needs
+
+returns : tie.Need-returns
+returns c =
+    let k = c .before in
+    let a = k .before .before .args in
+    numbers (meaning.bodyCount (a .rows) (now (a .body))) (c .number .result) (numbered.body-count (a .rows) (now (a .body))) (c .number .ensures ∙ ap numberCode (k .body-count .ensures))
+
+pub zv-body-count-spec : {M : Type 1} → statement M
+zv-body-count-spec = tie.close (tie.spec body-count-requires number-requires returns)

@@ -1,0 +1,24 @@
+use mathlib.Core.Path.{ap, _∙_}
+use denote.Ref.{now}
+use Rattle.meaning.specs.Answer as meaning
+use Rattle.zvonurel_c.specs.Exported.{flagCode}
+use Rattle.zvonurel_c.proofs.Numbered as numbered
+use Rattle.zvonurel_c.proofs.Codes.{flags}
+use borrow.Author.Needs.{needs}
+use Rattle.zvonurel_c.proofs.zv_body_row.Statement.{statement}
+use Rattle.zvonurel_c.proofs.zv_body_row.Tie as tie
+
+body-row-requires : tie.Need-body-row-requires
+body-row-requires c κs = search needs
+
+flag-requires : tie.Need-flag-requires
+flag-requires c κs = search needs
+
+returns : tie.Need-returns
+returns c =
+    let k = c .before in
+    let a = k .before .before .args in
+    flags (meaning.bodyRow (a .rows) (now (a .body)) (a .row)) (c .flag .result) (numbered.body-row (a .rows) (now (a .body)) (a .row)) (c .flag .ensures ∙ ap flagCode (k .body-row .ensures))
+
+pub zv-body-row-spec : {M : Type 1} → statement M
+zv-body-row-spec = tie.close (tie.spec body-row-requires flag-requires returns)

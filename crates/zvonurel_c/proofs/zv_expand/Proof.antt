@@ -1,0 +1,26 @@
+use denote.Ref.{now}
+use lib.ListN.{length}
+use Rattle.meaning.specs.Answer as meaning
+use Rattle.zvonurel_c.proofs.Numbered as numbered
+use Rattle.zvonurel_c.proofs.Codes.{writes}
+use borrow.Author.Needs.{needs}
+use Rattle.zvonurel_c.proofs.zv_expand.Statement.{statement}
+use Rattle.zvonurel_c.proofs.zv_expand.Tie as tie
+
+expand-requires : tie.Need-expand-requires
+expand-requires c κs = search needs
+
+written-requires : tie.Need-written-requires
+written-requires c κs = search needs
+
+same-length : tie.Need-same-length
+same-length c = search needs
+
+returns : tie.Need-returns
+returns c =
+    let w = c .before .before .before in
+    let a = w .before .before .before .before .args in
+    writes (meaning.expand (a .rows) (now (a .body)) (length (now (a .out)))) (w .expand .result) (c .written .result) (now (a .out)) (w .expand .last .1 .1 .0) (numbered.expand (a .rows) (now (a .body)) (length (now (a .out)))) (c .written .ensures) (w .expand .ensures)
+
+pub zv-expand-spec : {M : Type 1} → statement M
+zv-expand-spec = tie.close (tie.spec expand-requires written-requires same-length returns)

@@ -1,0 +1,193 @@
+// The public calls of `zvonurel` for C, one for one, under their names with `zv_` before them. `include/zvonurel.h` declares them.
+//
+// A slice is a pointer and a number of words. Each `ensures` cites the same outcome as the public call's, and settles every field
+// of what is returned and every word of a lent buffer; `specs/Exported.antt` says how an outcome is told in numbers.
+ghost use lib.ListN.{length};
+ghost use Rattle.meaning.specs.Answer as meaning;
+ghost use Rattle.meaning.specs.Demands.{Asked, Demand3};
+ghost use Rattle.zvonurel_c.specs.Exported.{Checks, Flags, Numbers, Writes, Reports, Lends, answeredTold, histogramInto};
+use index::contents;
+pub use reply::ZvAnswered;
+pub use reply::ZvChecked;
+pub use reply::ZvFlag;
+pub use reply::ZvNumber;
+pub use reply::ZvPart;
+pub use reply::ZvWritten;
+use zvonurel::Checked;
+use zvonurel::Written;
+
+mod counts;
+mod reply;
+
+// ---- one body alone: bitmap 0, with places counted in the body
+
+#[no_mangle]
+pub extern "C" fn zv_check_body(body: &[u32], rows: u32) -> ZvChecked
+    ensures { λ r. ⌜ Checks (meaning.checkBody rows (now (body .entry))) r ⌝ }
+{
+    reply::checked(zvonurel::check_body(body, rows))
+}
+
+#[no_mangle]
+pub extern "C" fn zv_body_row(body: &[u32], rows: u32, row: u32) -> ZvFlag
+    ensures { λ r. ⌜ Flags (meaning.bodyRow rows (now (body .entry)) row) r ⌝ }
+{
+    reply::flag(zvonurel::body_row(body, rows, row))
+}
+
+#[no_mangle]
+pub extern "C" fn zv_body_count(body: &[u32], rows: u32) -> ZvNumber
+    ensures { λ r. ⌜ Numbers (meaning.bodyCount rows (now (body .entry))) r ⌝ }
+{
+    reply::number(zvonurel::body_count(body, rows))
+}
+
+#[no_mangle]
+pub extern "C" fn zv_body_nth(body: &[u32], rows: u32, n: u32) -> ZvNumber
+    ensures { λ r. ⌜ Numbers (meaning.bodyNth rows (now (body .entry)) n) r ⌝ }
+{
+    reply::number(zvonurel::body_nth(body, rows, n))
+}
+
+#[no_mangle]
+pub extern "C" fn zv_expand(body: &[u32], rows: u32, out: &mut [u32]) -> ZvWritten
+    ensures { λ r. ⌜ Writes (meaning.expand rows (now (body .entry)) (length (now (out .entry)))) r (now (out .entry)) (now (out .exit)) ⌝ }
+{
+    reply::written(zvonurel::expand(body, rows, out))
+}
+
+#[no_mangle]
+pub extern "C" fn zv_compress(rows: u32, plain: &[u32], out: &mut [u32]) -> ZvWritten
+    ensures { λ r. ⌜ Writes (meaning.compress rows (now (plain .entry)) (length (now (out .entry)))) r (now (out .entry)) (now (out .exit)) ⌝ }
+{
+    reply::written(zvonurel::compress(rows, plain, out))
+}
+
+// ---- an index
+
+#[no_mangle]
+pub extern "C" fn zv_check(index: &[u32]) -> ZvChecked
+    ensures { λ r. ⌜ Checks (meaning.check (now (index .entry))) r ⌝ }
+{
+    reply::checked(zvonurel::check(index))
+}
+
+#[no_mangle]
+pub extern "C" fn zv_bitmap_refusal(index: &[u32], k: u32) -> ZvChecked
+    ensures { λ r. ⌜ Checks (meaning.bitmapRefusal (now (index .entry)) k) r ⌝ }
+{
+    reply::checked(zvonurel::bitmap_refusal(index, k))
+}
+
+// Where in the index bitmap k's body lies, by the index's own contents: C has no slice to return.
+#[no_mangle]
+pub extern "C" fn zv_bitmap(index: &[u32], k: u32) -> ZvPart
+    ensures { λ r. ⌜ Lends (now (index .entry)) k r ⌝ }
+{
+    let checked = zvonurel::bitmap_refusal(index, k);
+    match checked {
+        Checked::Refused(refusal) => reply::no_part(refusal),
+        Checked::Sound => reply::part(contents::start(index, k), contents::words(index, k)),
+    }
+}
+
+#[no_mangle]
+pub extern "C" fn zv_row(index: &[u32], k: u32, row: u32) -> ZvFlag
+    ensures { λ r. ⌜ Flags (meaning.row (now (index .entry)) k row) r ⌝ }
+{
+    reply::flag(zvonurel::row(index, k, row))
+}
+
+#[no_mangle]
+pub extern "C" fn zv_count(index: &[u32], k: u32) -> ZvNumber
+    ensures { λ r. ⌜ Numbers (meaning.count (now (index .entry)) k) r ⌝ }
+{
+    reply::number(zvonurel::count(index, k))
+}
+
+#[no_mangle]
+pub extern "C" fn zv_nth(index: &[u32], k: u32, n: u32) -> ZvNumber
+    ensures { λ r. ⌜ Numbers (meaning.nth (now (index .entry)) k n) r ⌝ }
+{
+    reply::number(zvonurel::nth(index, k, n))
+}
+
+#[no_mangle]
+pub extern "C" fn zv_expand_bitmap(index: &[u32], k: u32, out: &mut [u32]) -> ZvWritten
+    ensures { λ r. ⌜ Writes (meaning.expandBitmap (now (index .entry)) k (length (now (out .entry)))) r (now (out .entry)) (now (out .exit)) ⌝ }
+{
+    reply::written(zvonurel::expand_bitmap(index, k, out))
+}
+
+// ---- two bitmaps of an index, or one
+
+#[no_mangle]
+pub extern "C" fn zv_and(index: &[u32], j: u32, k: u32, out: &mut [u32]) -> ZvWritten
+    ensures { λ r. ⌜ Writes (meaning.and (now (index .entry)) j k (length (now (out .entry)))) r (now (out .entry)) (now (out .exit)) ⌝ }
+{
+    reply::written(zvonurel::and(index, j, k, out))
+}
+
+#[no_mangle]
+pub extern "C" fn zv_or(index: &[u32], j: u32, k: u32, out: &mut [u32]) -> ZvWritten
+    ensures { λ r. ⌜ Writes (meaning.or (now (index .entry)) j k (length (now (out .entry)))) r (now (out .entry)) (now (out .exit)) ⌝ }
+{
+    reply::written(zvonurel::or(index, j, k, out))
+}
+
+#[no_mangle]
+pub extern "C" fn zv_xor(index: &[u32], j: u32, k: u32, out: &mut [u32]) -> ZvWritten
+    ensures { λ r. ⌜ Writes (meaning.xor (now (index .entry)) j k (length (now (out .entry)))) r (now (out .entry)) (now (out .exit)) ⌝ }
+{
+    reply::written(zvonurel::xor(index, j, k, out))
+}
+
+#[no_mangle]
+pub extern "C" fn zv_and_not(index: &[u32], j: u32, k: u32, out: &mut [u32]) -> ZvWritten
+    ensures { λ r. ⌜ Writes (meaning.andNot (now (index .entry)) j k (length (now (out .entry)))) r (now (out .entry)) (now (out .exit)) ⌝ }
+{
+    reply::written(zvonurel::and_not(index, j, k, out))
+}
+
+#[no_mangle]
+pub extern "C" fn zv_not(index: &[u32], k: u32, out: &mut [u32]) -> ZvWritten
+    ensures { λ r. ⌜ Writes (meaning.notOf (now (index .entry)) k (length (now (out .entry)))) r (now (out .entry)) (now (out .exit)) ⌝ }
+{
+    reply::written(zvonurel::not(index, k, out))
+}
+
+// ---- a list of bitmap numbers
+
+#[no_mangle]
+pub extern "C" fn zv_threshold(index: &[u32], list: &[u32], t: u32, out: &mut [u32]) -> ZvAnswered
+    ensures { λ r. ⌜ Reports (now (index .entry)) (now (list .entry)) (meaning.threshold (now (index .entry)) (now (list .entry)) t (length (now (out .entry)))) r (now (out .entry)) (now (out .exit)) ⌝ }
+    ensures { λ r. ⌜ (Asked (now (index .entry)) (now (list .entry)) t → Demand3 (now (index .entry)) (now (list .entry)) t (now (out .entry)) (answeredTold r (now (out .exit))) (now (out .exit))) ⌝ }
+{
+    reply::answered(zvonurel::threshold(index, list, t, out))
+}
+
+#[no_mangle]
+pub extern "C" fn zv_symmetric(
+    index: &[u32],
+    list: &[u32],
+    table: &[u32],
+    out: &mut [u32],
+) -> ZvAnswered
+    ensures { λ r. ⌜ Reports (now (index .entry)) (now (list .entry)) (meaning.symmetric (now (index .entry)) (now (list .entry)) (now (table .entry)) (length (now (out .entry)))) r (now (out .entry)) (now (out .exit)) ⌝ }
+{
+    reply::answered(zvonurel::symmetric(index, list, table, out))
+}
+
+// The 65 numbers at the front of the buffer. A shorter one is refused with 9, after 8.
+#[no_mangle]
+pub extern "C" fn zv_histogram(index: &[u32], list: &[u32], out: &mut [u32]) -> ZvWritten
+    ensures { λ r. ⌜ Writes (histogramInto (length (now (out .entry))) (meaning.histogram (now (index .entry)) (now (list .entry)))) r (now (out .entry)) (now (out .exit)) ⌝ }
+{
+    let told = zvonurel::histogram(index, list);
+    let checked = told.checked;
+    let numbers = told.counts;
+    match checked {
+        Checked::Refused(refusal) => reply::written(Written::Refused(refusal)),
+        Checked::Sound => reply::written(counts::write(numbers, out)),
+    }
+}

@@ -1,0 +1,182 @@
+// What an exported call returns: the three numbers of a refusal, all 0 where there is none, and the values, 0 on a refusal.
+// A struct of numbers, since C has no enum that holds values.
+ghost use mathlib.Core.Path.{_≡_};
+ghost use Rattle.ewah.specs.Told.{verdictOf};
+ghost use Rattle.questions.specs.Told.{flagOf, numberOf};
+ghost use Rattle.zvonurel_c.specs.Exported.{checkedCode, flagCode, numberCode, writtenReply, answeredReply, partReply};
+use zvonurel::Answered;
+use zvonurel::Checked;
+use zvonurel::Flag;
+use zvonurel::Number;
+use zvonurel::Refusal;
+use zvonurel::Written;
+
+#[repr(C)]
+pub struct ZvChecked {
+    pub number: u32,
+    pub bitmap: u32,
+    pub word: u64,
+}
+
+// `value` is 1 for a set row and 0 for another.
+#[repr(C)]
+pub struct ZvFlag {
+    pub number: u32,
+    pub bitmap: u32,
+    pub word: u64,
+    pub value: u32,
+}
+
+#[repr(C)]
+pub struct ZvNumber {
+    pub number: u32,
+    pub bitmap: u32,
+    pub word: u64,
+    pub value: u32,
+}
+
+#[repr(C)]
+pub struct ZvWritten {
+    pub number: u32,
+    pub bitmap: u32,
+    pub word: u64,
+    pub words: u64,
+}
+
+#[repr(C)]
+pub struct ZvAnswered {
+    pub number: u32,
+    pub bitmap: u32,
+    pub word: u64,
+    pub words: u64,
+    pub stretches: u32,
+}
+
+// The part of an index that begins at word `start` and has `length` words.
+#[repr(C)]
+pub struct ZvPart {
+    pub number: u32,
+    pub bitmap: u32,
+    pub word: u64,
+    pub start: u64,
+    pub length: u64,
+}
+
+pub fn checked(told: Checked) -> ZvChecked
+    ensures { λ r. ⌜ r ≡ checkedCode (verdictOf told) ⌝ }
+{
+    match told {
+        Checked::Refused(refusal) => ZvChecked {
+            number: refusal.number,
+            bitmap: refusal.bitmap,
+            word: refusal.word,
+        },
+        Checked::Sound => ZvChecked {
+            number: 0,
+            bitmap: 0,
+            word: 0,
+        },
+    }
+}
+
+pub fn flag(told: Flag) -> ZvFlag
+    ensures { λ r. ⌜ r ≡ flagCode (flagOf told) ⌝ }
+{
+    match told {
+        Flag::Refused(refusal) => ZvFlag {
+            number: refusal.number,
+            bitmap: refusal.bitmap,
+            word: refusal.word,
+            value: 0,
+        },
+        Flag::Is(value) => ZvFlag {
+            number: 0,
+            bitmap: 0,
+            word: 0,
+            value: value as u32,
+        },
+    }
+}
+
+pub fn number(told: Number) -> ZvNumber
+    ensures { λ r. ⌜ r ≡ numberCode (numberOf told) ⌝ }
+{
+    match told {
+        Number::Refused(refusal) => ZvNumber {
+            number: refusal.number,
+            bitmap: refusal.bitmap,
+            word: refusal.word,
+            value: 0,
+        },
+        Number::Is(value) => ZvNumber {
+            number: 0,
+            bitmap: 0,
+            word: 0,
+            value: value,
+        },
+    }
+}
+
+pub fn written(told: Written) -> ZvWritten
+    ensures { λ r. ⌜ r ≡ writtenReply told ⌝ }
+{
+    match told {
+        Written::Refused(refusal) => ZvWritten {
+            number: refusal.number,
+            bitmap: refusal.bitmap,
+            word: refusal.word,
+            words: 0,
+        },
+        Written::Words(words) => ZvWritten {
+            number: 0,
+            bitmap: 0,
+            word: 0,
+            words: words as u64,
+        },
+    }
+}
+
+pub fn answered(told: Answered) -> ZvAnswered
+    ensures { λ r. ⌜ r ≡ answeredReply told ⌝ }
+{
+    match told {
+        Answered::Refused(refusal) => ZvAnswered {
+            number: refusal.number,
+            bitmap: refusal.bitmap,
+            word: refusal.word,
+            words: 0,
+            stretches: 0,
+        },
+        Answered::Words(words, stretches) => ZvAnswered {
+            number: 0,
+            bitmap: 0,
+            word: 0,
+            words: words as u64,
+            stretches: stretches,
+        },
+    }
+}
+
+pub fn no_part(refusal: Refusal) -> ZvPart
+    ensures { λ r. ⌜ r ≡ partReply (refusal .number) (refusal .bitmap) (refusal .word) 0 0 ⌝ }
+{
+    ZvPart {
+        number: refusal.number,
+        bitmap: refusal.bitmap,
+        word: refusal.word,
+        start: 0,
+        length: 0,
+    }
+}
+
+pub fn part(start: usize, length: usize) -> ZvPart
+    ensures { λ r. ⌜ r ≡ partReply 0 0 0 start length ⌝ }
+{
+    ZvPart {
+        number: 0,
+        bitmap: 0,
+        word: 0,
+        start: start as u64,
+        length: length as u64,
+    }
+}
