@@ -1,0 +1,209 @@
+/*
+ * Zvonurel for C: EWAH bitmaps of 32-bit words that answer a question rightly or refuse it.
+ *
+ * Link target/staticlib/libzvonurel_c.a, which `rt staticlib zvonurel_c` writes (x86-64, Linux). It needs nothing but
+ * C's memcpy and memset. crates/zvonurel_c/src/lib.rt has the contract of each call, and every one is proved.
+ *
+ * WORDS ARE LENT. An index, a body, a list or a buffer is a pointer and a number of words. The library keeps no
+ * pointer and no state, allocates nothing, and may be called from several threads. What a caller owes of each pointer:
+ *   - it is not NULL, even beside a length of 0, and is aligned as a uint32_t is;
+ *   - that many words can be read there, and in a buffer (`out`) written;
+ *   - a buffer shares no word with anything else that is lent to the same call, and nothing else changes lent words
+ *     before the call returns.
+ * Of the words themselves nothing is owed: what is wrong with them is refused.
+ *
+ * ROWS. Row r stands in segment r / 32, at bit r % 32, the lowest bit first. R rows have (R + 31) / 32 segments; in
+ * the last one the bits past row R - 1 are pad bits, and are zero. A body says the segments by markers and dirty
+ * words. Plain words are the segments themselves.
+ *
+ * AN INDEX has in word 0 the number 1, in word 1 the rows, in word 2 the number N of bitmaps, then for each bitmap
+ * where its body starts and how many words it has, then the bodies, one behind the other. The whole of it is checked
+ * for every question. Bitmaps are numbered from 0.
+ *
+ * ANSWERS. `number` is 0 where the call was not refused. Else `number`, `bitmap` and `word` say why, every value
+ * beside them is 0, and no word of the buffer changes. A call that writes puts its words at the front of the buffer;
+ * the words behind them keep their values. Compare answers field by field: a struct may have unused bytes at its end.
+ */
+#ifndef ZVONUREL_H
+#define ZVONUREL_H
+
+#include <stddef.h>
+#include <stdint.h>
+
+#ifdef __cplusplus
+extern "C" {
+#endif
+
+/* The most rows, bitmaps, index words and listed numbers; and how many numbers a histogram has. */
+#define ZV_MOST_ROWS 16777216u
+#define ZV_MOST_BITMAPS 64u
+#define ZV_MOST_INDEX_WORDS 67108864u
+#define ZV_MOST_NAMED 64u
+#define ZV_HISTOGRAM_WORDS 65u
+
+/*
+ * Numbers of refusal, with what `bitmap` and `word` are beside each. The first fault in this order is told: the index's
+ * length (3), three words (1), word 0 (2), rows and N (3), room for the contents (1), the contents (4), the bodies in
+ * order, each front to back (5, 6, 7), the arguments (8), the buffer (9). A body alone is bitmap 0 with places counted
+ * in the body, and its rows are tested first (3). Plain words: 3, then 8, 7 and 9.
+ */
+
+/* Not refused. */
+#define ZV_FINE 0u
+/* The index has fewer than 3 words, or ends within its contents. bitmap 0; word: the index's length. */
+#define ZV_TOO_SHORT 1u
+/* Word 0 is not 1. bitmap 0, word 0. */
+#define ZV_NOT_AN_INDEX 2u
+/* The index has too many words (word 0), too many rows (word 1) or too many bitmaps (word 2). bitmap 0. */
+#define ZV_TOO_LARGE 3u
+/* An entry of the contents has the wrong start, or a length that passes the index's end: its bitmap, and the place of
+ * that word. Or words are left behind the last body: bitmap 0, and the place where that body ends. */
+#define ZV_BAD_CONTENTS 4u
+/* The dirty words of a marker pass the body's end. Its bitmap, and the marker's place. */
+#define ZV_DIRTY_PAST_END 5u
+/* The clean and dirty counts of a marker pass the segments left: its bitmap, and the marker's place. Or the body ends
+ * with segments missing: its bitmap, and the place behind the body. */
+#define ZV_BAD_COUNT 6u
+/* A pad bit is set: the bitmap, and the place of the marker whose run of ones covers it, or of the dirty or plain word
+ * that has it. */
+#define ZV_PAD_BIT 7u
+/* A bad argument: no such bitmap; no such row; fewer set rows than asked for; a list of no numbers or more than 64; a
+ * threshold of 0 or above the list's length; a table without one entry more than the list, or with an entry other
+ * than 0 and 1; not as many plain words as the rows have segments. bitmap 0, word 0. */
+#define ZV_BAD_ARGUMENT 8u
+/* The answer does not fit into the buffer. bitmap 0; word: the words needed. */
+#define ZV_NO_ROOM 9u
+
+/* Whether there was a fault. */
+typedef struct zv_checked {
+    uint32_t number;
+    uint32_t bitmap;
+    uint64_t word;
+} zv_checked;
+
+/* 1 for yes, 0 for no. */
+typedef struct zv_flag {
+    uint32_t number;
+    uint32_t bitmap;
+    uint64_t word;
+    uint32_t value;
+} zv_flag;
+
+/* A count, or a row. */
+typedef struct zv_number {
+    uint32_t number;
+    uint32_t bitmap;
+    uint64_t word;
+    uint32_t value;
+} zv_number;
+
+/* How many words were written. */
+typedef struct zv_written {
+    uint32_t number;
+    uint32_t bitmap;
+    uint64_t word;
+    uint64_t words;
+} zv_written;
+
+/* How many words were written, and how many stretches the answer was made of. */
+typedef struct zv_answered {
+    uint32_t number;
+    uint32_t bitmap;
+    uint64_t word;
+    uint64_t words;
+    uint32_t stretches;
+} zv_answered;
+
+/* A part of the index: `length` words from word `start` on. Both are 0 on a refusal. */
+typedef struct zv_part {
+    uint32_t number;
+    uint32_t bitmap;
+    uint64_t word;
+    uint64_t start;
+    uint64_t length;
+} zv_part;
+
+/* ---- one body alone, of `rows` rows. Refusals: 3 (word 1), 5, 6, 7, then the call's own. */
+
+/* The first fault of the body. */
+zv_checked zv_check_body(const uint32_t *body, size_t body_words, uint32_t rows);
+
+/* Whether a row is set. 8: there is no such row. */
+zv_flag zv_body_row(const uint32_t *body, size_t body_words, uint32_t rows, uint32_t row);
+
+/* How many rows are set. */
+zv_number zv_body_count(const uint32_t *body, size_t body_words, uint32_t rows);
+
+/* The nth set row, n counted from 0. 8: n or fewer rows are set. */
+zv_number zv_body_nth(const uint32_t *body, size_t body_words, uint32_t rows, uint32_t n);
+
+/* The body's rows as plain words, one for each segment. 9: the buffer is shorter. */
+zv_written zv_expand(const uint32_t *body, size_t body_words, uint32_t rows, uint32_t *out, size_t out_words);
+
+/* Plain words as a body, in the one form with the fewest words. 3 (word 1); 8: they are not one for each segment; 7: the
+ * last one has a pad bit; 9. */
+zv_written zv_compress(uint32_t rows, const uint32_t *plain, size_t plain_words, uint32_t *out, size_t out_words);
+
+/* ---- an index. Refusals: 1 to 7, then the call's own. */
+
+/* The first fault of the index. */
+zv_checked zv_check(const uint32_t *index, size_t index_words);
+
+/* Why zv_bitmap gives no part: the index's first fault, or 8 where there is no bitmap k. */
+zv_checked zv_bitmap_refusal(const uint32_t *index, size_t index_words, uint32_t k);
+
+/* Where in the index bitmap k's body lies. 8: there is no bitmap k. */
+zv_part zv_bitmap(const uint32_t *index, size_t index_words, uint32_t k);
+
+/* Whether a row of bitmap k is set. 8: there is no such bitmap, or no such row. */
+zv_flag zv_row(const uint32_t *index, size_t index_words, uint32_t k, uint32_t row);
+
+/* How many rows of bitmap k are set. 8: there is no bitmap k. */
+zv_number zv_count(const uint32_t *index, size_t index_words, uint32_t k);
+
+/* The nth set row of bitmap k, n counted from 0. 8: there is no bitmap k, or n or fewer of its rows are set. */
+zv_number zv_nth(const uint32_t *index, size_t index_words, uint32_t k, uint32_t n);
+
+/* The rows of bitmap k as plain words, one for each segment. 8: there is no bitmap k; 9. */
+zv_written zv_expand_bitmap(const uint32_t *index, size_t index_words, uint32_t k, uint32_t *out, size_t out_words);
+
+/* ---- two bitmaps of an index, or one, as a body in the form with the fewest words. 8: one is not there; 9. */
+
+/* The rows that both have. */
+zv_written zv_and(const uint32_t *index, size_t index_words, uint32_t j, uint32_t k, uint32_t *out, size_t out_words);
+
+/* The rows that one or both have. */
+zv_written zv_or(const uint32_t *index, size_t index_words, uint32_t j, uint32_t k, uint32_t *out, size_t out_words);
+
+/* The rows that just one of the two has. */
+zv_written zv_xor(const uint32_t *index, size_t index_words, uint32_t j, uint32_t k, uint32_t *out, size_t out_words);
+
+/* The rows that j has and k has not. */
+zv_written zv_and_not(const uint32_t *index, size_t index_words, uint32_t j, uint32_t k, uint32_t *out,
+                      size_t out_words);
+
+/* The rows that bitmap k has not. */
+zv_written zv_not(const uint32_t *index, size_t index_words, uint32_t k, uint32_t *out, size_t out_words);
+
+/* ---- a list of 1 to 64 bitmap numbers of an index. A bitmap counts as often as it is named. A buffer of twice the
+ * words of the named bodies is long enough for each of the first two answers. */
+
+/* The rows that at least t of the list have, as such a body. 8; 9. */
+zv_answered zv_threshold(const uint32_t *index, size_t index_words, const uint32_t *list, size_t list_words, uint32_t t,
+                         uint32_t *out, size_t out_words);
+
+/* The rows for which the table has a 1 at the number of the list that have the row, as such a body. The table has one
+ * entry for each number from 0 to the list's length. 8; 9. */
+zv_answered zv_symmetric(const uint32_t *index, size_t index_words, const uint32_t *list, size_t list_words,
+                         const uint32_t *table, size_t table_words, uint32_t *out, size_t out_words);
+
+/* For each c from 0 to 64 the number of rows that exactly c of the list have: 65 words. 8; 9, with 65 as the words
+ * needed, where the buffer is shorter. */
+zv_written zv_histogram(const uint32_t *index, size_t index_words, const uint32_t *list, size_t list_words,
+                        uint32_t *out, size_t out_words);
+
+#ifdef __cplusplus
+}
+#endif
+
+#endif

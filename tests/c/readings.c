@@ -1,0 +1,233 @@
+/*
+ * The paper's LOOPED and 8-row readings, and a refusal of each number, through include/zvonurel.h.
+ * Writes `ok`, or the first difference, with exit status 1.
+ *
+ *   gcc -std=c99 -Wall -Wextra -Werror -pedantic -Iinclude tests/c/readings.c target/staticlib/libzvonurel_c.a -o readings
+ */
+#include "zvonurel.h"
+
+#include <stdio.h>
+#include <stdlib.h>
+
+#define WORDS(a) (a), sizeof(a) / sizeof((a)[0])
+#define SAME(what, got, want) same(__LINE__, what, (uint64_t)(got), (uint64_t)(want))
+#define FINE(a) refusal(__LINE__, (a).number, (a).bitmap, (a).word, 0, 0, 0)
+#define REFUSED(a, n, b, w) refusal(__LINE__, (a).number, (a).bitmap, (a).word, n, b, w)
+
+#define UNTOUCHED 0x77777777u
+
+static const uint32_t looped[] = {1, 4, 3, 9, 2, 11, 2, 13, 2, 0x00020000, 0x3, 0x00020000, 0xE, 0x00020000, 0x8};
+static const uint32_t eight[] = {1, 8, 2, 7, 2, 9, 2, 0x00020000, 0x32, 0x00020000, 0xB0};
+static const uint32_t three[] = {0, 1, 2};
+static const uint32_t forty[] = {0x00040000, 0x00000001, 0x00000080};
+static uint32_t out[70];
+
+static void same(int line, const char *what, uint64_t got, uint64_t want)
+{
+    if (got != want) {
+        printf("readings.c line %d: %s is %llu, not %llu\n", line, what, (unsigned long long)got,
+               (unsigned long long)want);
+        exit(1);
+    }
+}
+
+static void refusal(int line, uint32_t number, uint32_t bitmap, uint64_t word, uint32_t n, uint32_t b, uint64_t w)
+{
+    same(line, "number", number, n);
+    same(line, "bitmap", bitmap, b);
+    same(line, "word", word, w);
+}
+
+static void clear(void)
+{
+    for (size_t i = 0; i < sizeof(out) / sizeof(out[0]); i++) {
+        out[i] = UNTOUCHED;
+    }
+}
+
+/* the buffer begins with these words, and the rest is as `clear` left it */
+static void buffer(int line, const uint32_t *want, size_t words)
+{
+    for (size_t i = 0; i < sizeof(out) / sizeof(out[0]); i++) {
+        same(line, "a word of the buffer", out[i], i < words ? want[i] : UNTOUCHED);
+    }
+}
+
+static void wrote(int line, zv_written got, const uint32_t *want, size_t words)
+{
+    refusal(line, got.number, got.bitmap, got.word, 0, 0, 0);
+    same(line, "words", got.words, words);
+    buffer(line, want, words);
+    clear();
+}
+
+static void not_written(int line, zv_written got, uint32_t n, uint32_t b, uint64_t w)
+{
+    refusal(line, got.number, got.bitmap, got.word, n, b, w);
+    same(line, "words", got.words, 0);
+    buffer(line, out, 0);
+}
+
+#define WROTE(got, want) wrote(__LINE__, got, WORDS(want))
+#define NOT_WRITTEN(got, n, b, w) not_written(__LINE__, got, n, b, w)
+
+/* 40 rows, of which 0 and 39 are set */
+static void one_body(void)
+{
+    static const uint32_t plain[] = {0x00000001, 0x00000080};
+    static const uint32_t over[] = {0x00000001, 0x00000100};
+    static const uint32_t ones_over_pad[] = {0x00000005};
+    static const uint32_t too_many_dirty[] = {0x00040000, 1};
+    static const uint32_t too_many_clean[] = {0x00000006};
+    static const uint32_t too_few[] = {0x00000002};
+
+    FINE(zv_check_body(WORDS(forty), 40));
+    REFUSED(zv_check_body(WORDS(forty), ZV_MOST_ROWS + 1), ZV_TOO_LARGE, 0, 1);
+    REFUSED(zv_check_body(WORDS(too_many_dirty), 40), ZV_DIRTY_PAST_END, 0, 0);
+    REFUSED(zv_check_body(WORDS(too_many_clean), 40), ZV_BAD_COUNT, 0, 0);
+    REFUSED(zv_check_body(WORDS(too_few), 40), ZV_BAD_COUNT, 0, 1);
+    REFUSED(zv_check_body(WORDS(ones_over_pad), 40), ZV_PAD_BIT, 0, 0);
+
+    FINE(zv_body_row(WORDS(forty), 40, 39));
+    SAME("row 39", zv_body_row(WORDS(forty), 40, 39).value, 1);
+    SAME("row 38", zv_body_row(WORDS(forty), 40, 38).value, 0);
+    REFUSED(zv_body_row(WORDS(forty), 40, 40), ZV_BAD_ARGUMENT, 0, 0);
+    FINE(zv_body_count(WORDS(forty), 40));
+    SAME("the count", zv_body_count(WORDS(forty), 40).value, 2);
+    SAME("a refused count", zv_body_count(WORDS(ones_over_pad), 40).value, 0);
+    FINE(zv_body_nth(WORDS(forty), 40, 1));
+    SAME("set row 1", zv_body_nth(WORDS(forty), 40, 1).value, 39);
+    REFUSED(zv_body_nth(WORDS(forty), 40, 2), ZV_BAD_ARGUMENT, 0, 0);
+
+    WROTE(zv_expand(WORDS(forty), 40, WORDS(out)), plain);
+    NOT_WRITTEN(zv_expand(WORDS(forty), 40, out, 1), ZV_NO_ROOM, 0, 2);
+    WROTE(zv_compress(40, WORDS(plain), WORDS(out)), forty);
+    NOT_WRITTEN(zv_compress(40, WORDS(plain), out, 2), ZV_NO_ROOM, 0, 3);
+    NOT_WRITTEN(zv_compress(40, WORDS(over), WORDS(out)), ZV_PAD_BIT, 0, 1);
+    NOT_WRITTEN(zv_compress(65, WORDS(plain), WORDS(out)), ZV_BAD_ARGUMENT, 0, 0);
+}
+
+static void one_index(void)
+{
+    static const uint32_t plain[] = {0xE};
+    zv_part part = zv_bitmap(WORDS(looped), 1);
+
+    FINE(zv_check(WORDS(looped)));
+    FINE(zv_bitmap_refusal(WORDS(looped), 2));
+    REFUSED(zv_bitmap_refusal(WORDS(looped), 3), ZV_BAD_ARGUMENT, 0, 0);
+    FINE(part);
+    SAME("the start", part.start, 11);
+    SAME("the length", part.length, 2);
+    part = zv_bitmap(WORDS(looped), 3);
+    REFUSED(part, ZV_BAD_ARGUMENT, 0, 0);
+    SAME("a refused start", part.start, 0);
+    SAME("a refused length", part.length, 0);
+
+    FINE(zv_row(WORDS(looped), 0, 1));
+    SAME("row 1 of 0", zv_row(WORDS(looped), 0, 1).value, 1);
+    SAME("row 2 of 0", zv_row(WORDS(looped), 0, 2).value, 0);
+    REFUSED(zv_row(WORDS(looped), 0, 4), ZV_BAD_ARGUMENT, 0, 0);
+    FINE(zv_count(WORDS(looped), 1));
+    SAME("the count of 1", zv_count(WORDS(looped), 1).value, 3);
+    FINE(zv_nth(WORDS(looped), 1, 2));
+    SAME("set row 2 of 1", zv_nth(WORDS(looped), 1, 2).value, 3);
+    REFUSED(zv_nth(WORDS(looped), 1, 3), ZV_BAD_ARGUMENT, 0, 0);
+    WROTE(zv_expand_bitmap(WORDS(looped), 1, WORDS(out)), plain);
+    NOT_WRITTEN(zv_expand_bitmap(WORDS(looped), 1, out, 0), ZV_NO_ROOM, 0, 1);
+}
+
+/* each of an index's faults, by one word of LOOPED changed, or by its length */
+static void bad_indexes(void)
+{
+    static const struct {
+        uint32_t place, value;
+        size_t words;
+        uint32_t number, bitmap, word;
+    } faults[] = {
+        {0, 1, 0, ZV_TOO_SHORT, 0, 0},       {0, 1, 8, ZV_TOO_SHORT, 0, 8},
+        {0, 2, 15, ZV_NOT_AN_INDEX, 0, 0},   {1, ZV_MOST_ROWS + 1, 15, ZV_TOO_LARGE, 0, 1},
+        {2, 65, 15, ZV_TOO_LARGE, 0, 2},     {5, 12, 15, ZV_BAD_CONTENTS, 1, 5},
+        {8, 3, 15, ZV_BAD_CONTENTS, 2, 8},   {8, 1, 15, ZV_BAD_CONTENTS, 0, 14},
+        {11, 0x00040000, 15, ZV_DIRTY_PAST_END, 1, 11},
+        {11, 0x00020002, 15, ZV_BAD_COUNT, 1, 11},
+        {12, 0x1E, 15, ZV_PAD_BIT, 1, 12},
+    };
+    uint32_t index[15];
+
+    for (size_t i = 0; i < sizeof(faults) / sizeof(faults[0]); i++) {
+        for (size_t j = 0; j < 15; j++) {
+            index[j] = looped[j];
+        }
+        index[faults[i].place] = faults[i].value;
+        REFUSED(zv_check(index, faults[i].words), faults[i].number, faults[i].bitmap, faults[i].word);
+        REFUSED(zv_count(index, faults[i].words, 0), faults[i].number, faults[i].bitmap, faults[i].word);
+    }
+}
+
+/* 32 and B0 of 8 rows */
+static void two_bitmaps(void)
+{
+    static const uint32_t both[] = {0x00020000, 0x30}, any[] = {0x00020000, 0xB2}, one[] = {0x00020000, 0x82},
+                          first[] = {0x00020000, 0x02}, none[] = {0x00020000, 0xCD};
+
+    WROTE(zv_and(WORDS(eight), 0, 1, WORDS(out)), both);
+    WROTE(zv_or(WORDS(eight), 0, 1, WORDS(out)), any);
+    WROTE(zv_xor(WORDS(eight), 0, 1, WORDS(out)), one);
+    WROTE(zv_and_not(WORDS(eight), 0, 1, WORDS(out)), first);
+    WROTE(zv_not(WORDS(eight), 0, WORDS(out)), none);
+    NOT_WRITTEN(zv_and(WORDS(eight), 0, 2, WORDS(out)), ZV_BAD_ARGUMENT, 0, 0);
+    NOT_WRITTEN(zv_or(WORDS(eight), 2, 0, WORDS(out)), ZV_BAD_ARGUMENT, 0, 0);
+    NOT_WRITTEN(zv_xor(WORDS(eight), 0, 1, out, 1), ZV_NO_ROOM, 0, 2);
+    NOT_WRITTEN(zv_and_not(WORDS(eight), 0, 1, out, 0), ZV_NO_ROOM, 0, 2);
+    NOT_WRITTEN(zv_not(WORDS(eight), 2, WORDS(out)), ZV_BAD_ARGUMENT, 0, 0);
+}
+
+static void answered(int line, zv_answered got, const uint32_t *want, size_t words, uint32_t stretches)
+{
+    refusal(line, got.number, got.bitmap, got.word, 0, 0, 0);
+    same(line, "words", got.words, words);
+    same(line, "stretches", got.stretches, stretches);
+    buffer(line, want, words);
+    clear();
+}
+
+static void not_answered(int line, zv_answered got, uint32_t n, uint32_t b, uint64_t w)
+{
+    refusal(line, got.number, got.bitmap, got.word, n, b, w);
+    same(line, "words", got.words, 0);
+    same(line, "stretches", got.stretches, 0);
+    buffer(line, out, 0);
+}
+
+static void lists(void)
+{
+    static const uint32_t two[] = {0x00020000, 0xA}, exactly_one[] = {0x00020000, 0x5};
+    static const uint32_t table[] = {0, 1, 0, 0}, bad_table[] = {0, 2, 0, 0};
+    static uint32_t counts[65] = {0, 2, 2};
+
+    answered(__LINE__, zv_threshold(WORDS(looped), WORDS(three), 2, WORDS(out)), WORDS(two), 1);
+    not_answered(__LINE__, zv_threshold(WORDS(looped), WORDS(three), 4, WORDS(out)), ZV_BAD_ARGUMENT, 0, 0);
+    not_answered(__LINE__, zv_threshold(WORDS(looped), WORDS(three), 2, out, 1), ZV_NO_ROOM, 0, 2);
+    not_answered(__LINE__, zv_threshold(WORDS(looped), three, 0, 1, WORDS(out)), ZV_BAD_ARGUMENT, 0, 0);
+    answered(__LINE__, zv_symmetric(WORDS(looped), WORDS(three), WORDS(table), WORDS(out)), WORDS(exactly_one), 1);
+    not_answered(__LINE__, zv_symmetric(WORDS(looped), WORDS(three), table, 3, WORDS(out)), ZV_BAD_ARGUMENT, 0, 0);
+    not_answered(__LINE__, zv_symmetric(WORDS(looped), WORDS(three), WORDS(bad_table), WORDS(out)), ZV_BAD_ARGUMENT, 0,
+                 0);
+    not_answered(__LINE__, zv_symmetric(WORDS(looped), WORDS(three), WORDS(table), out, 0), ZV_NO_ROOM, 0, 2);
+    WROTE(zv_histogram(WORDS(looped), WORDS(three), WORDS(out)), counts);
+    WROTE(zv_histogram(WORDS(looped), WORDS(three), out, ZV_HISTOGRAM_WORDS), counts);
+    NOT_WRITTEN(zv_histogram(WORDS(looped), WORDS(three), out, 64), ZV_NO_ROOM, 0, 65);
+    NOT_WRITTEN(zv_histogram(WORDS(looped), three, 0, out, 64), ZV_BAD_ARGUMENT, 0, 0);
+}
+
+int main(void)
+{
+    clear();
+    one_body();
+    one_index();
+    bad_indexes();
+    two_bitmaps();
+    lists();
+    printf("ok\n");
+    return 0;
+}
