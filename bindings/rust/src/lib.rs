@@ -1,0 +1,440 @@
+//! EWAH bitmaps of 32-bit words that answer a question rightly or refuse it.
+//!
+//! Safe calls over a library whose every function is proved to meet its contract: what is returned, and every word of a
+//! buffer afterwards, is settled for every input. Nothing is asked of the words; what is wrong with them is refused,
+//! with a [`Refusal`], and then no word of a buffer changes. No call allocates, keeps anything, or panics.
+//!
+//! An **index** is words: 1, the rows, the number of bitmaps, then for each bitmap where its body starts and how many
+//! words it has, then the bodies. The whole of it is checked for every question. A **body** says which rows of a bitmap
+//! are set, by markers and dirty words. **Plain words** have 32 rows each, the lowest bit first.
+//!
+//! ```
+//! // three bitmaps of four rows: rows 0, 1; rows 1, 2, 3; row 3
+//! let index = [1, 4, 3, 9, 2, 11, 2, 13, 2, 0x20000, 0b0011, 0x20000, 0b1110, 0x20000, 0b1000];
+//! zvonurel::check(&index)?;
+//!
+//! // the rows that at least two of the three have, as a body
+//! let mut out = [0; 12];
+//! let answer = zvonurel::threshold(&index, &[0, 1, 2], 2, &mut out)?;
+//! let body = &out[..answer.words];
+//! assert_eq!(zvonurel::body_count(body, 4)?, 2);
+//! assert!(zvonurel::body_row(body, 4, 1)? && zvonurel::body_row(body, 4, 3)?);
+//!
+//! // there is no way for at least four of three to have a row
+//! assert_eq!(zvonurel::threshold(&index, &[0, 1, 2], 4, &mut out).unwrap_err().number, 8);
+//! # Ok::<(), zvonurel::Refusal>(())
+//! ```
+#![deny(missing_docs)]
+#![deny(unsafe_op_in_unsafe_fn)]
+#![warn(clippy::undocumented_unsafe_blocks)]
+
+mod raw;
+mod refusal;
+
+pub use refusal::Refusal;
+
+/// The most rows that a bitmap can have.
+pub const MOST_ROWS: u32 = 16_777_216;
+
+/// The most bitmaps that an index can have.
+pub const MOST_BITMAPS: u32 = 64;
+
+/// The most words that an index can have.
+pub const MOST_INDEX_WORDS: usize = 67_108_864;
+
+/// The most numbers that a list can have.
+pub const MOST_NAMED: usize = 64;
+
+/// How many numbers a histogram has: one for each number of holders from 0 to [`MOST_NAMED`].
+pub const HISTOGRAM_WORDS: usize = 65;
+
+/// A body that answers a question over a list.
+#[derive(Clone, Copy, Debug, PartialEq, Eq, Hash)]
+pub struct Answer {
+    /// How many words it has, at the front of the buffer.
+    pub words: usize,
+    /// How many stretches it was made of: the number of different segments at which a piece of a named bitmap ends.
+    pub stretches: u32,
+}
+
+/// The library's number 0 says that the call was not refused.
+fn settled<T>(number: u32, bitmap: u32, word: u64, value: T) -> Result<T, Refusal> {
+    if number == 0 {
+        Ok(value)
+    } else {
+        Err(Refusal { number, bitmap, word })
+    }
+}
+
+/// A number of words within a slice that the caller lent, so it fits.
+fn words(n: u64) -> usize {
+    n as usize
+}
+
+// ---- one body alone
+
+/// Whether a body of that many rows is sound.
+///
+/// # Errors
+/// 3 for too many rows; 5, 6 or 7 for the body's first fault.
+///
+/// ```
+/// // rows 0 and 39 of 40
+/// assert!(zvonurel::check_body(&[0x40000, 0x1, 0x80], 40).is_ok());
+/// // a run of ones over the bits behind row 39
+/// assert_eq!(zvonurel::check_body(&[0x5], 40).unwrap_err().number, 7);
+/// ```
+pub fn check_body(body: &[u32], rows: u32) -> Result<(), Refusal> {
+    // SAFETY: each pointer is a slice's, with its length.
+    let told = unsafe { raw::zv_check_body(body.as_ptr(), body.len(), rows) };
+    settled(told.number, told.bitmap, told.word, ())
+}
+
+/// Whether a row of the body is set.
+///
+/// # Errors
+/// 3 for too many rows; 5, 6 or 7 for the body's first fault; 8 where there is no such row.
+///
+/// ```
+/// assert_eq!(zvonurel::body_row(&[0x40000, 0x1, 0x80], 40, 39), Ok(true));
+/// ```
+pub fn body_row(body: &[u32], rows: u32, row: u32) -> Result<bool, Refusal> {
+    // SAFETY: each pointer is a slice's, with its length.
+    let told = unsafe { raw::zv_body_row(body.as_ptr(), body.len(), rows, row) };
+    settled(told.number, told.bitmap, told.word, told.value == 1)
+}
+
+/// How many rows of the body are set.
+///
+/// # Errors
+/// 3 for too many rows; 5, 6 or 7 for the body's first fault.
+///
+/// ```
+/// assert_eq!(zvonurel::body_count(&[0x40000, 0x1, 0x80], 40), Ok(2));
+/// ```
+pub fn body_count(body: &[u32], rows: u32) -> Result<u32, Refusal> {
+    // SAFETY: each pointer is a slice's, with its length.
+    let told = unsafe { raw::zv_body_count(body.as_ptr(), body.len(), rows) };
+    settled(told.number, told.bitmap, told.word, told.value)
+}
+
+/// The nth set row of the body, counted from 0.
+///
+/// # Errors
+/// 3 for too many rows; 5, 6 or 7 for the body's first fault; 8 where n or fewer rows are set.
+///
+/// ```
+/// let body = [0x40000, 0x1, 0x80];
+/// assert_eq!(zvonurel::body_nth(&body, 40, 1), Ok(39));
+/// assert_eq!(zvonurel::body_nth(&body, 40, 2).unwrap_err().number, 8);
+/// ```
+pub fn body_nth(body: &[u32], rows: u32, n: u32) -> Result<u32, Refusal> {
+    // SAFETY: each pointer is a slice's, with its length.
+    let told = unsafe { raw::zv_body_nth(body.as_ptr(), body.len(), rows, n) };
+    settled(told.number, told.bitmap, told.word, told.value)
+}
+
+/// Writes the body's rows as plain words, one for each 32 rows, and returns how many.
+///
+/// # Errors
+/// 3 for too many rows; 5, 6 or 7 for the body's first fault; 9 for a short buffer.
+///
+/// ```
+/// let mut plain = [0; 2];
+/// assert_eq!(zvonurel::expand(&[0x40000, 0x1, 0x80], 40, &mut plain), Ok(2));
+/// assert_eq!(plain, [0x1, 0x80]);
+/// ```
+pub fn expand(body: &[u32], rows: u32, out: &mut [u32]) -> Result<usize, Refusal> {
+    // SAFETY: each pointer is a slice's, with its length.
+    let told = unsafe { raw::zv_expand(body.as_ptr(), body.len(), rows, out.as_mut_ptr(), out.len()) };
+    settled(told.number, told.bitmap, told.word, words(told.words))
+}
+
+/// Writes plain words as a body, in the one form with the fewest words, and returns how many.
+///
+/// # Errors
+/// 3 for too many rows; 8 unless there is one word for each 32 rows; 7 where the last has a bit behind the last row; 9 for
+/// a short buffer.
+///
+/// ```
+/// let mut body = [0; 3];
+/// assert_eq!(zvonurel::compress(40, &[0x1, 0x80], &mut body), Ok(3));
+/// assert_eq!(body, [0x40000, 0x1, 0x80]);
+/// ```
+pub fn compress(rows: u32, plain: &[u32], out: &mut [u32]) -> Result<usize, Refusal> {
+    // SAFETY: each pointer is a slice's, with its length.
+    let told = unsafe { raw::zv_compress(rows, plain.as_ptr(), plain.len(), out.as_mut_ptr(), out.len()) };
+    settled(told.number, told.bitmap, told.word, words(told.words))
+}
+
+// ---- an index
+
+/// Whether an index is sound.
+///
+/// # Errors
+/// 1 to 7 for the index's first fault.
+///
+/// ```
+/// assert!(zvonurel::check(&[1, 0, 0]).is_ok());
+/// assert_eq!(zvonurel::check(&[]).unwrap_err().to_string(), "the index has 0 words, too few for its head and its contents (refusal 1)");
+/// ```
+pub fn check(index: &[u32]) -> Result<(), Refusal> {
+    // SAFETY: each pointer is a slice's, with its length.
+    let told = unsafe { raw::zv_check(index.as_ptr(), index.len()) };
+    settled(told.number, told.bitmap, told.word, ())
+}
+
+/// Why [`bitmap`] is refused; `None` where it is not.
+///
+/// ```
+/// let index = [1, 64, 1, 5, 1, 0x4];
+/// assert_eq!(zvonurel::bitmap_refusal(&index, 0), None);
+/// assert_eq!(zvonurel::bitmap_refusal(&index, 1).unwrap().number, 8);
+/// ```
+pub fn bitmap_refusal(index: &[u32], k: u32) -> Option<Refusal> {
+    // SAFETY: each pointer is a slice's, with its length.
+    let told = unsafe { raw::zv_bitmap_refusal(index.as_ptr(), index.len(), k) };
+    settled(told.number, told.bitmap, told.word, ()).err()
+}
+
+/// The part of the index that is bitmap k's body: the caller's own words.
+///
+/// # Errors
+/// 1 to 7 for the index's first fault; 8 where there is no bitmap k.
+///
+/// ```
+/// let index = [1, 64, 1, 5, 1, 0x4];
+/// assert_eq!(zvonurel::bitmap(&index, 0)?, &index[5..6]);
+/// # Ok::<(), zvonurel::Refusal>(())
+/// ```
+pub fn bitmap(index: &[u32], k: u32) -> Result<&[u32], Refusal> {
+    // SAFETY: each pointer is a slice's, with its length.
+    let told = unsafe { raw::zv_bitmap(index.as_ptr(), index.len(), k) };
+    let (start, length) = (words(told.start), words(told.length));
+    settled(told.number, told.bitmap, told.word, &index[start..start + length])
+}
+
+/// Whether a row of bitmap k is set.
+///
+/// # Errors
+/// 1 to 7 for the index's first fault; 8 where there is no such bitmap or row.
+///
+/// ```
+/// let index = [1, 4, 3, 9, 2, 11, 2, 13, 2, 0x20000, 0x3, 0x20000, 0xE, 0x20000, 0x8];
+/// assert_eq!(zvonurel::row(&index, 0, 1), Ok(true));
+/// ```
+pub fn row(index: &[u32], k: u32, row: u32) -> Result<bool, Refusal> {
+    // SAFETY: each pointer is a slice's, with its length.
+    let told = unsafe { raw::zv_row(index.as_ptr(), index.len(), k, row) };
+    settled(told.number, told.bitmap, told.word, told.value == 1)
+}
+
+/// How many rows of bitmap k are set.
+///
+/// # Errors
+/// 1 to 7 for the index's first fault; 8 where there is no bitmap k.
+///
+/// ```
+/// let index = [1, 4, 3, 9, 2, 11, 2, 13, 2, 0x20000, 0x3, 0x20000, 0xE, 0x20000, 0x8];
+/// assert_eq!(zvonurel::count(&index, 1), Ok(3));
+/// ```
+pub fn count(index: &[u32], k: u32) -> Result<u32, Refusal> {
+    // SAFETY: each pointer is a slice's, with its length.
+    let told = unsafe { raw::zv_count(index.as_ptr(), index.len(), k) };
+    settled(told.number, told.bitmap, told.word, told.value)
+}
+
+/// The nth set row of bitmap k, counted from 0.
+///
+/// # Errors
+/// 1 to 7 for the index's first fault; 8 where there is no bitmap k, or n or fewer of its rows are set.
+///
+/// ```
+/// let index = [1, 4, 3, 9, 2, 11, 2, 13, 2, 0x20000, 0x3, 0x20000, 0xE, 0x20000, 0x8];
+/// assert_eq!(zvonurel::nth(&index, 1, 2), Ok(3));
+/// ```
+pub fn nth(index: &[u32], k: u32, n: u32) -> Result<u32, Refusal> {
+    // SAFETY: each pointer is a slice's, with its length.
+    let told = unsafe { raw::zv_nth(index.as_ptr(), index.len(), k, n) };
+    settled(told.number, told.bitmap, told.word, told.value)
+}
+
+/// Writes the rows of bitmap k as plain words, one for each 32 rows, and returns how many.
+///
+/// # Errors
+/// 1 to 7 for the index's first fault; 8 where there is no bitmap k; 9 for a short buffer.
+///
+/// ```
+/// let index = [1, 4, 3, 9, 2, 11, 2, 13, 2, 0x20000, 0x3, 0x20000, 0xE, 0x20000, 0x8];
+/// let mut plain = [0; 1];
+/// assert_eq!(zvonurel::expand_bitmap(&index, 1, &mut plain), Ok(1));
+/// assert_eq!(plain, [0b1110]);
+/// ```
+pub fn expand_bitmap(index: &[u32], k: u32, out: &mut [u32]) -> Result<usize, Refusal> {
+    // SAFETY: each pointer is a slice's, with its length.
+    let told = unsafe { raw::zv_expand_bitmap(index.as_ptr(), index.len(), k, out.as_mut_ptr(), out.len()) };
+    settled(told.number, told.bitmap, told.word, words(told.words))
+}
+
+// ---- two bitmaps of an index, or one
+
+/// Writes the rows that both bitmaps have. The answer is a body in the one form with the fewest words; returns how many.
+///
+/// # Errors
+/// 1 to 7 for the index's first fault; 8 where one of the bitmaps is not there; 9 for a short buffer.
+///
+/// ```
+/// let index = [1, 8, 2, 7, 2, 9, 2, 0x20000, 0x32, 0x20000, 0xB0];
+/// let mut body = [0; 2];
+/// assert_eq!(zvonurel::and(&index, 0, 1, &mut body), Ok(2));
+/// assert_eq!(body, [0x20000, 0x30]);
+/// ```
+pub fn and(index: &[u32], j: u32, k: u32, out: &mut [u32]) -> Result<usize, Refusal> {
+    // SAFETY: each pointer is a slice's, with its length.
+    let told = unsafe { raw::zv_and(index.as_ptr(), index.len(), j, k, out.as_mut_ptr(), out.len()) };
+    settled(told.number, told.bitmap, told.word, words(told.words))
+}
+
+/// Writes the rows that one or both bitmaps have. The answer is a body in the one form with the fewest words; returns how many.
+///
+/// # Errors
+/// 1 to 7 for the index's first fault; 8 where one of the bitmaps is not there; 9 for a short buffer.
+///
+/// ```
+/// let index = [1, 8, 2, 7, 2, 9, 2, 0x20000, 0x32, 0x20000, 0xB0];
+/// let mut body = [0; 2];
+/// assert_eq!(zvonurel::or(&index, 0, 1, &mut body), Ok(2));
+/// assert_eq!(body, [0x20000, 0xB2]);
+/// ```
+pub fn or(index: &[u32], j: u32, k: u32, out: &mut [u32]) -> Result<usize, Refusal> {
+    // SAFETY: each pointer is a slice's, with its length.
+    let told = unsafe { raw::zv_or(index.as_ptr(), index.len(), j, k, out.as_mut_ptr(), out.len()) };
+    settled(told.number, told.bitmap, told.word, words(told.words))
+}
+
+/// Writes the rows that just one of the two bitmaps has. The answer is a body in the one form with the fewest words; returns how many.
+///
+/// # Errors
+/// 1 to 7 for the index's first fault; 8 where one of the bitmaps is not there; 9 for a short buffer.
+///
+/// ```
+/// let index = [1, 8, 2, 7, 2, 9, 2, 0x20000, 0x32, 0x20000, 0xB0];
+/// let mut body = [0; 2];
+/// assert_eq!(zvonurel::xor(&index, 0, 1, &mut body), Ok(2));
+/// assert_eq!(body, [0x20000, 0x82]);
+/// ```
+pub fn xor(index: &[u32], j: u32, k: u32, out: &mut [u32]) -> Result<usize, Refusal> {
+    // SAFETY: each pointer is a slice's, with its length.
+    let told = unsafe { raw::zv_xor(index.as_ptr(), index.len(), j, k, out.as_mut_ptr(), out.len()) };
+    settled(told.number, told.bitmap, told.word, words(told.words))
+}
+
+/// Writes the rows that bitmap j has and bitmap k has not. The answer is a body in the one form with the fewest words; returns how many.
+///
+/// # Errors
+/// 1 to 7 for the index's first fault; 8 where one of the bitmaps is not there; 9 for a short buffer.
+///
+/// ```
+/// let index = [1, 8, 2, 7, 2, 9, 2, 0x20000, 0x32, 0x20000, 0xB0];
+/// let mut body = [0; 2];
+/// assert_eq!(zvonurel::and_not(&index, 0, 1, &mut body), Ok(2));
+/// assert_eq!(body, [0x20000, 0x02]);
+/// ```
+pub fn and_not(index: &[u32], j: u32, k: u32, out: &mut [u32]) -> Result<usize, Refusal> {
+    // SAFETY: each pointer is a slice's, with its length.
+    let told = unsafe { raw::zv_and_not(index.as_ptr(), index.len(), j, k, out.as_mut_ptr(), out.len()) };
+    settled(told.number, told.bitmap, told.word, words(told.words))
+}
+
+/// Writes the rows that bitmap k has not. The answer is a body in the one form with the fewest words; returns how many.
+///
+/// # Errors
+/// 1 to 7 for the index's first fault; 8 where there is no bitmap k; 9 for a short buffer.
+///
+/// ```
+/// let index = [1, 8, 2, 7, 2, 9, 2, 0x20000, 0x32, 0x20000, 0xB0];
+/// let mut body = [0; 2];
+/// assert_eq!(zvonurel::not(&index, 0, &mut body), Ok(2));
+/// assert_eq!(body, [0x20000, 0xCD]);
+/// ```
+pub fn not(index: &[u32], k: u32, out: &mut [u32]) -> Result<usize, Refusal> {
+    // SAFETY: each pointer is a slice's, with its length.
+    let told = unsafe { raw::zv_not(index.as_ptr(), index.len(), k, out.as_mut_ptr(), out.len()) };
+    settled(told.number, told.bitmap, told.word, words(told.words))
+}
+
+// ---- a list of bitmap numbers, each counted as often as it is named
+
+/// Writes the rows that at least t of the list have, as a body in the one form with the fewest words. Twice the words of the
+/// named bodies is always room enough.
+///
+/// # Errors
+/// 1 to 7 for the index's first fault; 8 for a list of no numbers, more than 64 or one that is no bitmap's, or a t of 0 or
+/// above the list's length; 9 for a short buffer.
+///
+/// ```
+/// let index = [1, 4, 3, 9, 2, 11, 2, 13, 2, 0x20000, 0x3, 0x20000, 0xE, 0x20000, 0x8];
+/// let mut out = [0; 12];
+/// let answer = zvonurel::threshold(&index, &[0, 1, 2], 2, &mut out)?;
+/// assert_eq!((answer.words, answer.stretches), (2, 1));
+/// assert_eq!(out[..2], [0x20000, 0b1010]);
+/// # Ok::<(), zvonurel::Refusal>(())
+/// ```
+pub fn threshold(index: &[u32], list: &[u32], t: u32, out: &mut [u32]) -> Result<Answer, Refusal> {
+    // SAFETY: each pointer is a slice's, with its length.
+    let told = unsafe {
+        raw::zv_threshold(index.as_ptr(), index.len(), list.as_ptr(), list.len(), t, out.as_mut_ptr(), out.len())
+    };
+    settled(told.number, told.bitmap, told.word, Answer { words: words(told.words), stretches: told.stretches })
+}
+
+/// Writes the rows for which the table has a 1 at the number of the list that have the row, as such a body. The table has one
+/// entry, 0 or 1, for each number from 0 to the list's length.
+///
+/// # Errors
+/// 1 to 7 for the index's first fault; 8 for a bad list or table; 9 for a short buffer.
+///
+/// ```
+/// let index = [1, 4, 3, 9, 2, 11, 2, 13, 2, 0x20000, 0x3, 0x20000, 0xE, 0x20000, 0x8];
+/// let mut out = [0; 12];
+/// // just one of the three
+/// let answer = zvonurel::symmetric(&index, &[0, 1, 2], &[0, 1, 0, 0], &mut out)?;
+/// assert_eq!(out[..answer.words], [0x20000, 0b0101]);
+/// # Ok::<(), zvonurel::Refusal>(())
+/// ```
+pub fn symmetric(index: &[u32], list: &[u32], table: &[u32], out: &mut [u32]) -> Result<Answer, Refusal> {
+    // SAFETY: each pointer is a slice's, with its length.
+    let told = unsafe {
+        raw::zv_symmetric(
+            index.as_ptr(),
+            index.len(),
+            list.as_ptr(),
+            list.len(),
+            table.as_ptr(),
+            table.len(),
+            out.as_mut_ptr(),
+            out.len(),
+        )
+    };
+    settled(told.number, told.bitmap, told.word, Answer { words: words(told.words), stretches: told.stretches })
+}
+
+/// For each c from 0 to 64, how many rows exactly c of the list have.
+///
+/// # Errors
+/// 1 to 7 for the index's first fault; 8 for a bad list.
+///
+/// ```
+/// let index = [1, 4, 3, 9, 2, 11, 2, 13, 2, 0x20000, 0x3, 0x20000, 0xE, 0x20000, 0x8];
+/// let counts = zvonurel::histogram(&index, &[0, 1, 2])?;
+/// assert_eq!(counts[..4], [0, 2, 2, 0]);
+/// # Ok::<(), zvonurel::Refusal>(())
+/// ```
+pub fn histogram(index: &[u32], list: &[u32]) -> Result<[u32; HISTOGRAM_WORDS], Refusal> {
+    let mut out = [0; HISTOGRAM_WORDS];
+    // SAFETY: each pointer is a slice's or the array's, with its length.
+    let told = unsafe {
+        raw::zv_histogram(index.as_ptr(), index.len(), list.as_ptr(), list.len(), out.as_mut_ptr(), out.len())
+    };
+    settled(told.number, told.bitmap, told.word, out)
+}

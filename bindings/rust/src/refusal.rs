@@ -1,0 +1,81 @@
+//! Why a call was refused.
+
+use std::error::Error;
+use std::fmt;
+
+use crate::{MOST_BITMAPS, MOST_INDEX_WORDS, MOST_ROWS};
+
+/// Why a call was refused: a number from 1 to 9, and where.
+///
+/// A body that stands alone is bitmap 0, with places counted in the body. As text it is a sentence:
+///
+/// ```
+/// // the marker says that two dirty words follow, and one does
+/// let refusal = zvonurel::check_body(&[0x0004_0000, 1], 40).unwrap_err();
+/// assert_eq!((refusal.number, refusal.bitmap, refusal.word), (5, 0, 0));
+/// assert_eq!(refusal.to_string(), "bitmap 0, word 0: the marker's dirty words pass the body's end (refusal 5)");
+/// ```
+#[derive(Clone, Copy, Debug, PartialEq, Eq, Hash)]
+pub struct Refusal {
+    /// What is wrong:
+    ///
+    /// 1. the index is too short for its head and its contents; `word` is its length
+    /// 2. word 0 of the index isn't 1
+    /// 3. too many words (`word` 0), rows (`word` 1) or bitmaps (`word` 2)
+    /// 4. the contents name a wrong start or length, at `word`, or the index goes on behind the last body, which ends
+    ///    at `word`
+    /// 5. the dirty words of the marker at `word` pass the body's end
+    /// 6. the marker at `word` counts more segments than are left, or the body ends at `word` with segments missing
+    /// 7. the marker or word at `word` sets a bit behind the last row
+    /// 8. a bad argument
+    /// 9. the answer doesn't fit into the buffer; `word` is how many words it has
+    pub number: u32,
+    /// The bitmap that has the fault; 0 where the fault is no bitmap's.
+    pub bitmap: u32,
+    /// The place of the word at fault, or what `number` says.
+    pub word: u64,
+}
+
+impl fmt::Display for Refusal {
+    fn fmt(&self, f: &mut fmt::Formatter<'_>) -> fmt::Result {
+        let Refusal { number, bitmap, word } = *self;
+        match number {
+            1 => write!(f, "the index has {word} words, too few for its head and its contents")?,
+            2 => write!(f, "word 0 is not 1, so this is no index")?,
+            3 => match word {
+                0 => write!(f, "the index has more than {MOST_INDEX_WORDS} words")?,
+                1 => write!(f, "there are more than {MOST_ROWS} rows")?,
+                _ => write!(f, "there are more than {MOST_BITMAPS} bitmaps")?,
+            },
+            4 => contents_fault(f, bitmap, word)?,
+            5 => write!(f, "bitmap {bitmap}, word {word}: the marker's dirty words pass the body's end")?,
+            6 => write!(
+                f,
+                "bitmap {bitmap}, word {word}: the marker counts more segments than are left, or the body ends here with \
+                 segments missing"
+            )?,
+            7 => write!(f, "bitmap {bitmap}, word {word}: a bit behind the last row is set")?,
+            8 => write!(
+                f,
+                "a bad argument: there is no such bitmap, row or set row, or the list, the threshold, the table or the \
+                 number of plain words is not one that can be"
+            )?,
+            9 => write!(f, "the buffer is too short for an answer of {word} words")?,
+            _ => write!(f, "bitmap {bitmap}, word {word}")?,
+        }
+        write!(f, " (refusal {number})")
+    }
+}
+
+/// Entry k's start stands at word 3 + 2k and its length behind it, so an odd place is a start's. With bitmap 0 a place
+/// past its own entry is where the last body ends; word 3 may be either.
+fn contents_fault(f: &mut fmt::Formatter<'_>, bitmap: u32, word: u64) -> fmt::Result {
+    match (bitmap, word) {
+        (0, 3) => write!(f, "word 3: bitmap 0 has the wrong start, or there is no bitmap and the index goes on"),
+        (0, 5..) => write!(f, "word {word}: the last body ends here, and the index goes on"),
+        _ if word % 2 == 1 => write!(f, "bitmap {bitmap}, word {word}: this start is not where the words before end"),
+        _ => write!(f, "bitmap {bitmap}, word {word}: this length passes the index's end"),
+    }
+}
+
+impl Error for Refusal {}
