@@ -140,8 +140,8 @@ zv_number zv_body_nth(const uint32_t *body, size_t body_words, uint32_t rows, ui
 /* The body's rows as plain words, one for each segment. 9: the buffer is shorter. */
 zv_written zv_expand(const uint32_t *body, size_t body_words, uint32_t rows, uint32_t *out, size_t out_words);
 
-/* Plain words as a body, in the one form with the fewest words. 3 (word 1); 8: they are not one for each segment; 7: the
- * last one has a pad bit; 9. */
+/* Plain words as a body, in the one form with the fewest words. 3 (word 1); 8: they are not one for each segment; 7:
+ * the last one has a pad bit; 9. */
 zv_written zv_compress(uint32_t rows, const uint32_t *plain, size_t plain_words, uint32_t *out, size_t out_words);
 
 /* ---- an index. Refusals: 1 to 7, then the call's own. */

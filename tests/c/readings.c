@@ -2,7 +2,8 @@
  * The paper's LOOPED and 8-row readings, and a refusal of each number, through include/zvonurel.h.
  * Writes `ok`, or the first difference, with exit status 1.
  *
- *   gcc -std=c99 -Wall -Wextra -Werror -pedantic -Iinclude tests/c/readings.c target/staticlib/libzvonurel_c.a -o readings
+ *   gcc -std=c99 -Wall -Wextra -Werror -pedantic -Iinclude tests/c/readings.c \
+ *       target/staticlib/libzvonurel_c.a -o target/readings && target/readings
  */
 #include "zvonurel.h"
 
@@ -68,8 +69,27 @@ static void not_written(int line, zv_written got, uint32_t n, uint32_t b, uint64
     buffer(line, out, 0);
 }
 
+static void answered(int line, zv_answered got, const uint32_t *want, size_t words, uint32_t stretches)
+{
+    refusal(line, got.number, got.bitmap, got.word, 0, 0, 0);
+    same(line, "words", got.words, words);
+    same(line, "stretches", got.stretches, stretches);
+    buffer(line, want, words);
+    clear();
+}
+
+static void not_answered(int line, zv_answered got, uint32_t n, uint32_t b, uint64_t w)
+{
+    refusal(line, got.number, got.bitmap, got.word, n, b, w);
+    same(line, "words", got.words, 0);
+    same(line, "stretches", got.stretches, 0);
+    buffer(line, out, 0);
+}
+
 #define WROTE(got, want) wrote(__LINE__, got, WORDS(want))
 #define NOT_WRITTEN(got, n, b, w) not_written(__LINE__, got, n, b, w)
+#define ANSWERED(got, want, stretches) answered(__LINE__, got, WORDS(want), stretches)
+#define NOT_ANSWERED(got, n, b, w) not_answered(__LINE__, got, n, b, w)
 
 /* 40 rows, of which 0 and 39 are set */
 static void one_body(void)
@@ -136,6 +156,28 @@ static void one_index(void)
     NOT_WRITTEN(zv_expand_bitmap(WORDS(looped), 1, out, 0), ZV_NO_ROOM, 0, 1);
 }
 
+/* every question on an index is refused for the index's own fault */
+static void every_index_call(const uint32_t *index, size_t words, uint32_t n, uint32_t b, uint64_t w)
+{
+    static const uint32_t table[] = {0, 1, 0, 0};
+
+    REFUSED(zv_check(index, words), n, b, w);
+    REFUSED(zv_bitmap_refusal(index, words, 0), n, b, w);
+    REFUSED(zv_bitmap(index, words, 0), n, b, w);
+    REFUSED(zv_row(index, words, 0, 0), n, b, w);
+    REFUSED(zv_count(index, words, 0), n, b, w);
+    REFUSED(zv_nth(index, words, 0, 0), n, b, w);
+    NOT_WRITTEN(zv_expand_bitmap(index, words, 0, WORDS(out)), n, b, w);
+    NOT_WRITTEN(zv_and(index, words, 0, 1, WORDS(out)), n, b, w);
+    NOT_WRITTEN(zv_or(index, words, 0, 1, WORDS(out)), n, b, w);
+    NOT_WRITTEN(zv_xor(index, words, 0, 1, WORDS(out)), n, b, w);
+    NOT_WRITTEN(zv_and_not(index, words, 0, 1, WORDS(out)), n, b, w);
+    NOT_WRITTEN(zv_not(index, words, 0, WORDS(out)), n, b, w);
+    NOT_ANSWERED(zv_threshold(index, words, WORDS(three), 2, WORDS(out)), n, b, w);
+    NOT_ANSWERED(zv_symmetric(index, words, WORDS(three), WORDS(table), WORDS(out)), n, b, w);
+    NOT_WRITTEN(zv_histogram(index, words, WORDS(three), WORDS(out)), n, b, w);
+}
+
 /* each of an index's faults, by one word of LOOPED changed, or by its length */
 static void bad_indexes(void)
 {
@@ -159,8 +201,7 @@ static void bad_indexes(void)
             index[j] = looped[j];
         }
         index[faults[i].place] = faults[i].value;
-        REFUSED(zv_check(index, faults[i].words), faults[i].number, faults[i].bitmap, faults[i].word);
-        REFUSED(zv_count(index, faults[i].words, 0), faults[i].number, faults[i].bitmap, faults[i].word);
+        every_index_call(index, faults[i].words, faults[i].number, faults[i].bitmap, faults[i].word);
     }
 }
 
@@ -182,38 +223,20 @@ static void two_bitmaps(void)
     NOT_WRITTEN(zv_not(WORDS(eight), 2, WORDS(out)), ZV_BAD_ARGUMENT, 0, 0);
 }
 
-static void answered(int line, zv_answered got, const uint32_t *want, size_t words, uint32_t stretches)
-{
-    refusal(line, got.number, got.bitmap, got.word, 0, 0, 0);
-    same(line, "words", got.words, words);
-    same(line, "stretches", got.stretches, stretches);
-    buffer(line, want, words);
-    clear();
-}
-
-static void not_answered(int line, zv_answered got, uint32_t n, uint32_t b, uint64_t w)
-{
-    refusal(line, got.number, got.bitmap, got.word, n, b, w);
-    same(line, "words", got.words, 0);
-    same(line, "stretches", got.stretches, 0);
-    buffer(line, out, 0);
-}
-
 static void lists(void)
 {
     static const uint32_t two[] = {0x00020000, 0xA}, exactly_one[] = {0x00020000, 0x5};
     static const uint32_t table[] = {0, 1, 0, 0}, bad_table[] = {0, 2, 0, 0};
     static uint32_t counts[65] = {0, 2, 2};
 
-    answered(__LINE__, zv_threshold(WORDS(looped), WORDS(three), 2, WORDS(out)), WORDS(two), 1);
-    not_answered(__LINE__, zv_threshold(WORDS(looped), WORDS(three), 4, WORDS(out)), ZV_BAD_ARGUMENT, 0, 0);
-    not_answered(__LINE__, zv_threshold(WORDS(looped), WORDS(three), 2, out, 1), ZV_NO_ROOM, 0, 2);
-    not_answered(__LINE__, zv_threshold(WORDS(looped), three, 0, 1, WORDS(out)), ZV_BAD_ARGUMENT, 0, 0);
-    answered(__LINE__, zv_symmetric(WORDS(looped), WORDS(three), WORDS(table), WORDS(out)), WORDS(exactly_one), 1);
-    not_answered(__LINE__, zv_symmetric(WORDS(looped), WORDS(three), table, 3, WORDS(out)), ZV_BAD_ARGUMENT, 0, 0);
-    not_answered(__LINE__, zv_symmetric(WORDS(looped), WORDS(three), WORDS(bad_table), WORDS(out)), ZV_BAD_ARGUMENT, 0,
-                 0);
-    not_answered(__LINE__, zv_symmetric(WORDS(looped), WORDS(three), WORDS(table), out, 0), ZV_NO_ROOM, 0, 2);
+    ANSWERED(zv_threshold(WORDS(looped), WORDS(three), 2, WORDS(out)), two, 1);
+    NOT_ANSWERED(zv_threshold(WORDS(looped), WORDS(three), 4, WORDS(out)), ZV_BAD_ARGUMENT, 0, 0);
+    NOT_ANSWERED(zv_threshold(WORDS(looped), WORDS(three), 2, out, 1), ZV_NO_ROOM, 0, 2);
+    NOT_ANSWERED(zv_threshold(WORDS(looped), three, 0, 1, WORDS(out)), ZV_BAD_ARGUMENT, 0, 0);
+    ANSWERED(zv_symmetric(WORDS(looped), WORDS(three), WORDS(table), WORDS(out)), exactly_one, 1);
+    NOT_ANSWERED(zv_symmetric(WORDS(looped), WORDS(three), table, 3, WORDS(out)), ZV_BAD_ARGUMENT, 0, 0);
+    NOT_ANSWERED(zv_symmetric(WORDS(looped), WORDS(three), WORDS(bad_table), WORDS(out)), ZV_BAD_ARGUMENT, 0, 0);
+    NOT_ANSWERED(zv_symmetric(WORDS(looped), WORDS(three), WORDS(table), out, 0), ZV_NO_ROOM, 0, 2);
     WROTE(zv_histogram(WORDS(looped), WORDS(three), WORDS(out)), counts);
     WROTE(zv_histogram(WORDS(looped), WORDS(three), out, ZV_HISTOGRAM_WORDS), counts);
     NOT_WRITTEN(zv_histogram(WORDS(looped), WORDS(three), out, 64), ZV_NO_ROOM, 0, 65);

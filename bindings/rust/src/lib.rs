@@ -153,8 +153,8 @@ pub fn expand(body: &[u32], rows: u32, out: &mut [u32]) -> Result<usize, Refusal
 /// Writes plain words as a body, in the one form with the fewest words, and returns how many.
 ///
 /// # Errors
-/// 3 for too many rows; 8 unless there is one word for each 32 rows; 7 where the last has a bit behind the last row; 9 for
-/// a short buffer.
+/// 3 for too many rows; 8 unless there is one word for each 32 rows; 7 where the last has a bit behind the last row;
+/// 9 for a short buffer.
 ///
 /// ```
 /// let mut body = [0; 3];
@@ -176,7 +176,8 @@ pub fn compress(rows: u32, plain: &[u32], out: &mut [u32]) -> Result<usize, Refu
 ///
 /// ```
 /// assert!(zvonurel::check(&[1, 0, 0]).is_ok());
-/// assert_eq!(zvonurel::check(&[]).unwrap_err().to_string(), "the index has 0 words, too few for its head and its contents (refusal 1)");
+/// let refusal = zvonurel::check(&[]).unwrap_err();
+/// assert_eq!(refusal.to_string(), "the index has 0 words, too few for its head and its contents (refusal 1)");
 /// ```
 pub fn check(index: &[u32]) -> Result<(), Refusal> {
     // SAFETY: each pointer is a slice's, with its length.
@@ -278,7 +279,7 @@ pub fn expand_bitmap(index: &[u32], k: u32, out: &mut [u32]) -> Result<usize, Re
 
 // ---- two bitmaps of an index, or one
 
-/// Writes the rows that both bitmaps have. The answer is a body in the one form with the fewest words; returns how many.
+/// Writes the rows that both bitmaps have, as a body in the one form with the fewest words, and returns how many words.
 ///
 /// # Errors
 /// 1 to 7 for the index's first fault; 8 where one of the bitmaps is not there; 9 for a short buffer.
@@ -295,7 +296,8 @@ pub fn and(index: &[u32], j: u32, k: u32, out: &mut [u32]) -> Result<usize, Refu
     settled(told.number, told.bitmap, told.word, words(told.words))
 }
 
-/// Writes the rows that one or both bitmaps have. The answer is a body in the one form with the fewest words; returns how many.
+/// Writes the rows that one or both bitmaps have, as a body in the one form with the fewest words, and returns how
+/// many words.
 ///
 /// # Errors
 /// 1 to 7 for the index's first fault; 8 where one of the bitmaps is not there; 9 for a short buffer.
@@ -312,7 +314,8 @@ pub fn or(index: &[u32], j: u32, k: u32, out: &mut [u32]) -> Result<usize, Refus
     settled(told.number, told.bitmap, told.word, words(told.words))
 }
 
-/// Writes the rows that just one of the two bitmaps has. The answer is a body in the one form with the fewest words; returns how many.
+/// Writes the rows that just one of the two bitmaps has, as a body in the one form with the fewest words, and returns
+/// how many words.
 ///
 /// # Errors
 /// 1 to 7 for the index's first fault; 8 where one of the bitmaps is not there; 9 for a short buffer.
@@ -329,7 +332,8 @@ pub fn xor(index: &[u32], j: u32, k: u32, out: &mut [u32]) -> Result<usize, Refu
     settled(told.number, told.bitmap, told.word, words(told.words))
 }
 
-/// Writes the rows that bitmap j has and bitmap k has not. The answer is a body in the one form with the fewest words; returns how many.
+/// Writes the rows that bitmap j has and bitmap k has not, as a body in the one form with the fewest words, and
+/// returns how many words.
 ///
 /// # Errors
 /// 1 to 7 for the index's first fault; 8 where one of the bitmaps is not there; 9 for a short buffer.
@@ -346,7 +350,7 @@ pub fn and_not(index: &[u32], j: u32, k: u32, out: &mut [u32]) -> Result<usize, 
     settled(told.number, told.bitmap, told.word, words(told.words))
 }
 
-/// Writes the rows that bitmap k has not. The answer is a body in the one form with the fewest words; returns how many.
+/// Writes the rows that bitmap k has not, as a body in the one form with the fewest words, and returns how many words.
 ///
 /// # Errors
 /// 1 to 7 for the index's first fault; 8 where there is no bitmap k; 9 for a short buffer.
@@ -365,12 +369,12 @@ pub fn not(index: &[u32], k: u32, out: &mut [u32]) -> Result<usize, Refusal> {
 
 // ---- a list of bitmap numbers, each counted as often as it is named
 
-/// Writes the rows that at least t of the list have, as a body in the one form with the fewest words. Twice the words of the
-/// named bodies is always room enough.
+/// Writes the rows that at least t of the list have, as a body in the one form with the fewest words. Twice the words
+/// of the named bodies is always room enough.
 ///
 /// # Errors
-/// 1 to 7 for the index's first fault; 8 for a list of no numbers, more than 64 or one that is no bitmap's, or a t of 0 or
-/// above the list's length; 9 for a short buffer.
+/// 1 to 7 for the index's first fault; 8 for a list of no numbers, more than 64 or one that is no bitmap's, or a t of
+/// 0 or above the list's length; 9 for a short buffer.
 ///
 /// ```
 /// let index = [1, 4, 3, 9, 2, 11, 2, 13, 2, 0x20000, 0x3, 0x20000, 0xE, 0x20000, 0x8];
@@ -388,8 +392,8 @@ pub fn threshold(index: &[u32], list: &[u32], t: u32, out: &mut [u32]) -> Result
     settled(told.number, told.bitmap, told.word, Answer { words: words(told.words), stretches: told.stretches })
 }
 
-/// Writes the rows for which the table has a 1 at the number of the list that have the row, as such a body. The table has one
-/// entry, 0 or 1, for each number from 0 to the list's length.
+/// Writes the rows for which the table has a 1 at the number of the list that have the row, as such a body. The table
+/// has one entry, 0 or 1, for each number from 0 to the list's length.
 ///
 /// # Errors
 /// 1 to 7 for the index's first fault; 8 for a bad list or table; 9 for a short buffer.

@@ -51,8 +51,8 @@ impl fmt::Display for Refusal {
             5 => write!(f, "bitmap {bitmap}, word {word}: the marker's dirty words pass the body's end")?,
             6 => write!(
                 f,
-                "bitmap {bitmap}, word {word}: the marker counts more segments than are left, or the body ends here with \
-                 segments missing"
+                "bitmap {bitmap}, word {word}: the marker counts more segments than are left, or the body ends here \
+                 with segments missing"
             )?,
             7 => write!(f, "bitmap {bitmap}, word {word}: a bit behind the last row is set")?,
             8 => write!(

@@ -91,14 +91,36 @@ fn one_index() {
     writes(&[0xE], |out| expand_bitmap(&LOOPED, 1, out));
 }
 
+/// What each question on the index is refused with.
+fn refused_by_all(index: &[u32]) -> [Option<Refusal>; 14] {
+    let mut out = [UNTOUCHED; HISTOGRAM_WORDS];
+    let all = [
+        bitmap_refusal(index, 0),
+        bitmap(index, 0).err(),
+        row(index, 0, 0).err(),
+        count(index, 0).err(),
+        nth(index, 0, 0).err(),
+        expand_bitmap(index, 0, &mut out).err(),
+        and(index, 0, 1, &mut out).err(),
+        or(index, 0, 1, &mut out).err(),
+        xor(index, 0, 1, &mut out).err(),
+        and_not(index, 0, 1, &mut out).err(),
+        not(index, 0, &mut out).err(),
+        threshold(index, &ALL, 2, &mut out).err(),
+        symmetric(index, &ALL, &[0, 1, 0, 0], &mut out).err(),
+        histogram(index, &ALL).err(),
+    ];
+    assert_eq!(out, [UNTOUCHED; HISTOGRAM_WORDS]);
+    all
+}
+
 #[test]
 fn bad_indexes() {
     let changed = |place: usize, value: u32| {
         let mut index = LOOPED;
         index[place] = value;
         let told = check(&index).unwrap_err();
-        assert_eq!(bitmap(&index, 0), Err(told));
-        assert_eq!(histogram(&index, &ALL), Err(told));
+        assert!(refused_by_all(&index).iter().all(|r| *r == Some(told)));
         told
     };
     assert_eq!(check(&[]), Err(refusal(1, 0, 0)));

@@ -1,3 +1,4 @@
 pub mod Codes
-pub mod Numbered
+pub mod Copied
 pub mod Lent
+pub mod Numbered

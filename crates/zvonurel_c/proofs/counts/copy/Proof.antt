@@ -1,6 +1,6 @@
 use Prim.Native.Nat.{_≤_, _<_, _-_}
 use denote.Ref.{now}
-use Rattle.zvonurel_c.proofs.Codes.{one-more, rest-kept, all-copied}
+use Rattle.zvonurel_c.proofs.Copied.{one-more, rest-kept, all-copied}
 use mathlib.Core.Path.{_≡_, refl, _∙_}
 use lib.ListN.{length, take, drop, length-set}
 use borrow.Author.Needs.{needs}
