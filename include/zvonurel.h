@@ -39,7 +39,7 @@ extern "C" {
 #define ZV_MOST_BITMAPS 64u
 #define ZV_MOST_INDEX_WORDS 67108864u
 #define ZV_MOST_NAMED 64u
-#define ZV_HISTOGRAM_WORDS 65u
+#define ZV_HISTOGRAM_COUNTS 65u
 
 /*
  * Numbers of refusal, with what `bitmap` and `word` are beside each. The first fault in this order is told: the index's
@@ -123,6 +123,14 @@ typedef struct zv_part {
     uint64_t length;
 } zv_part;
 
+/* How many rows exactly c of the list have, at c, from 0 to 64. All are 0 on a refusal. */
+typedef struct zv_histogram_counts {
+    uint32_t number;
+    uint32_t bitmap;
+    uint64_t word;
+    uint32_t counts[ZV_HISTOGRAM_COUNTS];
+} zv_histogram_counts;
+
 /* ---- one body alone, of `rows` rows. Refusals: 3 (word 1), 5, 6, 7, then the call's own. */
 
 /* The first fault of the body. */
@@ -197,10 +205,8 @@ zv_answered zv_threshold(const uint32_t *index, size_t index_words, const uint32
 zv_answered zv_symmetric(const uint32_t *index, size_t index_words, const uint32_t *list, size_t list_words,
                          const uint32_t *table, size_t table_words, uint32_t *out, size_t out_words);
 
-/* For each c from 0 to 64 the number of rows that exactly c of the list have: 65 words. 8; 9, with 65 as the words
- * needed, where the buffer is shorter. */
-zv_written zv_histogram(const uint32_t *index, size_t index_words, const uint32_t *list, size_t list_words,
-                        uint32_t *out, size_t out_words);
+/* For each c from 0 to 64 the number of rows that exactly c of the list have. 8. */
+zv_histogram_counts zv_histogram(const uint32_t *index, size_t index_words, const uint32_t *list, size_t list_words);
 
 #ifdef __cplusplus
 }

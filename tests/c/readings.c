@@ -86,6 +86,17 @@ static void not_answered(int line, zv_answered got, uint32_t n, uint32_t b, uint
     buffer(line, out, 0);
 }
 
+static const uint32_t zeros[ZV_HISTOGRAM_COUNTS];
+
+static void counted(int line, zv_histogram_counts got, const uint32_t *want, uint32_t n, uint32_t b, uint64_t w)
+{
+    refusal(line, got.number, got.bitmap, got.word, n, b, w);
+    for (size_t c = 0; c < ZV_HISTOGRAM_COUNTS; c++) {
+        same(line, "count", got.counts[c], want[c]);
+    }
+}
+
+#define COUNTED(got, want, n, b, w) counted(__LINE__, got, want, n, b, w)
 #define WROTE(got, want) wrote(__LINE__, got, WORDS(want))
 #define NOT_WRITTEN(got, n, b, w) not_written(__LINE__, got, n, b, w)
 #define ANSWERED(got, want, stretches) answered(__LINE__, got, WORDS(want), stretches)
@@ -175,7 +186,7 @@ static void every_index_call(const uint32_t *index, size_t words, uint32_t n, ui
     NOT_WRITTEN(zv_not(index, words, 0, WORDS(out)), n, b, w);
     NOT_ANSWERED(zv_threshold(index, words, WORDS(three), 2, WORDS(out)), n, b, w);
     NOT_ANSWERED(zv_symmetric(index, words, WORDS(three), WORDS(table), WORDS(out)), n, b, w);
-    NOT_WRITTEN(zv_histogram(index, words, WORDS(three), WORDS(out)), n, b, w);
+    COUNTED(zv_histogram(index, words, WORDS(three)), zeros, n, b, w);
 }
 
 /* each of an index's faults, by one word of LOOPED changed, or by its length */
@@ -227,7 +238,7 @@ static void lists(void)
 {
     static const uint32_t two[] = {0x00020000, 0xA}, exactly_one[] = {0x00020000, 0x5};
     static const uint32_t table[] = {0, 1, 0, 0}, bad_table[] = {0, 2, 0, 0};
-    static uint32_t counts[65] = {0, 2, 2};
+    static const uint32_t counts[ZV_HISTOGRAM_COUNTS] = {0, 2, 2};
 
     ANSWERED(zv_threshold(WORDS(looped), WORDS(three), 2, WORDS(out)), two, 1);
     NOT_ANSWERED(zv_threshold(WORDS(looped), WORDS(three), 4, WORDS(out)), ZV_BAD_ARGUMENT, 0, 0);
@@ -237,10 +248,8 @@ static void lists(void)
     NOT_ANSWERED(zv_symmetric(WORDS(looped), WORDS(three), table, 3, WORDS(out)), ZV_BAD_ARGUMENT, 0, 0);
     NOT_ANSWERED(zv_symmetric(WORDS(looped), WORDS(three), WORDS(bad_table), WORDS(out)), ZV_BAD_ARGUMENT, 0, 0);
     NOT_ANSWERED(zv_symmetric(WORDS(looped), WORDS(three), WORDS(table), out, 0), ZV_NO_ROOM, 0, 2);
-    WROTE(zv_histogram(WORDS(looped), WORDS(three), WORDS(out)), counts);
-    WROTE(zv_histogram(WORDS(looped), WORDS(three), out, ZV_HISTOGRAM_WORDS), counts);
-    NOT_WRITTEN(zv_histogram(WORDS(looped), WORDS(three), out, 64), ZV_NO_ROOM, 0, 65);
-    NOT_WRITTEN(zv_histogram(WORDS(looped), three, 0, out, 64), ZV_BAD_ARGUMENT, 0, 0);
+    COUNTED(zv_histogram(WORDS(looped), WORDS(three)), counts, 0, 0, 0);
+    COUNTED(zv_histogram(WORDS(looped), three, 0), zeros, ZV_BAD_ARGUMENT, 0, 0);
 }
 
 int main(void)

@@ -46,7 +46,7 @@ pub const MOST_INDEX_WORDS: usize = 67_108_864;
 pub const MOST_NAMED: usize = 64;
 
 /// How many numbers a histogram has: one for each number of holders from 0 to [`MOST_NAMED`].
-pub const HISTOGRAM_WORDS: usize = 65;
+pub const HISTOGRAM_COUNTS: usize = 65;
 
 /// A body that answers a question over a list.
 #[derive(Clone, Copy, Debug, PartialEq, Eq, Hash)]
@@ -434,11 +434,8 @@ pub fn symmetric(index: &[u32], list: &[u32], table: &[u32], out: &mut [u32]) ->
 /// assert_eq!(counts[..4], [0, 2, 2, 0]);
 /// # Ok::<(), zvonurel::Refusal>(())
 /// ```
-pub fn histogram(index: &[u32], list: &[u32]) -> Result<[u32; HISTOGRAM_WORDS], Refusal> {
-    let mut out = [0; HISTOGRAM_WORDS];
-    // SAFETY: each pointer is a slice's or the array's, with its length.
-    let told = unsafe {
-        raw::zv_histogram(index.as_ptr(), index.len(), list.as_ptr(), list.len(), out.as_mut_ptr(), out.len())
-    };
-    settled(told.number, told.bitmap, told.word, out)
+pub fn histogram(index: &[u32], list: &[u32]) -> Result<[u32; HISTOGRAM_COUNTS], Refusal> {
+    // SAFETY: each pointer is a slice's, with its length.
+    let told = unsafe { raw::zv_histogram(index.as_ptr(), index.len(), list.as_ptr(), list.len()) };
+    settled(told.number, told.bitmap, told.word, told.counts)
 }

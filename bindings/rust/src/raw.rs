@@ -54,6 +54,14 @@ pub struct Part {
     pub length: u64,
 }
 
+#[repr(C)]
+pub struct HistogramCounts {
+    pub number: u32,
+    pub bitmap: u32,
+    pub word: u64,
+    pub counts: [u32; crate::HISTOGRAM_COUNTS],
+}
+
 type In = *const u32;
 type Out = *mut u32;
 
@@ -95,12 +103,5 @@ extern "C" {
         out: Out,
         out_words: usize,
     ) -> Answered;
-    pub fn zv_histogram(
-        index: In,
-        index_words: usize,
-        list: In,
-        list_words: usize,
-        out: Out,
-        out_words: usize,
-    ) -> Written;
+    pub fn zv_histogram(index: In, index_words: usize, list: In, list_words: usize) -> HistogramCounts;
 }

@@ -93,7 +93,7 @@ fn one_index() {
 
 /// What each question on the index is refused with.
 fn refused_by_all(index: &[u32]) -> [Option<Refusal>; 14] {
-    let mut out = [UNTOUCHED; HISTOGRAM_WORDS];
+    let mut out = [UNTOUCHED; HISTOGRAM_COUNTS];
     let all = [
         bitmap_refusal(index, 0),
         bitmap(index, 0).err(),
@@ -110,7 +110,7 @@ fn refused_by_all(index: &[u32]) -> [Option<Refusal>; 14] {
         symmetric(index, &ALL, &[0, 1, 0, 0], &mut out).err(),
         histogram(index, &ALL).err(),
     ];
-    assert_eq!(out, [UNTOUCHED; HISTOGRAM_WORDS]);
+    assert_eq!(out, [UNTOUCHED; HISTOGRAM_COUNTS]);
     all
 }
 
@@ -163,7 +163,7 @@ fn lists() {
     assert_eq!(by(&[0, 1, 0], &mut [0; 2]), Err(BAD));
     assert_eq!(by(&[0, 2, 0, 0], &mut [0; 2]), Err(BAD));
 
-    let mut want = [0; HISTOGRAM_WORDS];
+    let mut want = [0; HISTOGRAM_COUNTS];
     want[1] = 2;
     want[2] = 2;
     assert_eq!(histogram(&LOOPED, &ALL), Ok(want));

@@ -10,25 +10,24 @@ use lib.ListN.{length, take, drop}
 use lib.Seq.{take-append-seam}
 use mir.Val.{boolByte}
 use Rattle.meaning.specs.Refusal.{Outcome, refused, answer, Verdict}
-use Rattle.meaning.specs.Answer.{fits, bufferAfter, wordsReported, stretchesReported}
+use Rattle.meaning.specs.Answer.{bufferAfter, wordsReported, stretchesReported, histogramReported}
 use Rattle.meaning.specs.Demands.{Demand3}
-use Rattle.ewah.specs.declared.refusal.Refusal.{Refusal}
 use Rattle.ewah.specs.declared.refusal.Checked.{Checked}
+use Rattle.ewah.specs.Told.{verdictOf}
 use Rattle.ewah.specs.declared.refusal.Checked.the-variants as checked
-use Rattle.ewah.specs.Told.{refusedBy}
 use Rattle.questions.specs.declared.answer.Written.{Written}
 use Rattle.questions.specs.declared.answer.Written.the-variants as written
 use Rattle.questions.specs.declared.answer.Answered.{Answered}
 use Rattle.questions.specs.declared.answer.Answered.the-variants as answered
 use Rattle.questions.specs.declared.answer.Histogram.{Histogram}
 use Rattle.questions.specs.Told.{writtenOf, wordsOf, answeredOf, wordsIn, stretchesIn, histogramTold, Wrote, Reported, Counted}
-use Rattle.questions.proofs.Tells.{wrote-refused}
 use Rattle.zvonurel_c.specs.declared.reply.ZvChecked.{ZvChecked}
 use Rattle.zvonurel_c.specs.declared.reply.ZvFlag.{ZvFlag}
 use Rattle.zvonurel_c.specs.declared.reply.ZvNumber.{ZvNumber}
 use Rattle.zvonurel_c.specs.declared.reply.ZvWritten.{ZvWritten}
 use Rattle.zvonurel_c.specs.declared.reply.ZvAnswered.{ZvAnswered}
-use Rattle.zvonurel_c.specs.Exported.{numberIn, bitmapIn, wordIn, flagIn, valueIn, checkedCode, flagCode, numberCode, writtenCode, answeredCode, writtenReply, answeredReply, told, verdictTold, flagTold, numberTold, writtenTold, answeredTold, Checks, Flags, Numbers, Writes, Reports, histogramInto}
+use Rattle.zvonurel_c.specs.declared.reply.ZvHistogram.{ZvHistogram}
+use Rattle.zvonurel_c.specs.Exported.{numberIn, bitmapIn, wordIn, flagIn, valueIn, checkedCode, flagCode, numberCode, writtenCode, answeredCode, writtenReply, answeredReply, told, verdictTold, flagTold, numberTold, writtenTold, answeredTold, Checks, Flags, Numbers, Writes, Reports, Counts, histogramReply, histogramCode, countsTold}
 use Rattle.zvonurel_c.proofs.Numbered.{Numbered, number-of}
 
 -- ---- reading an outcome
@@ -110,22 +109,24 @@ pub demanded : (index list : List ℕ) (t : ℕ) (r : Answered) (s : ZvAnswered)
     → Demand3 index list t out (answeredOf r out′) out′ → Demand3 index list t out (answeredTold s out′) out′
 demanded index list t r s out out′ o e f d = subst (λ (p : Outcome (List ℕ)). Demand3 index list t out p out′) (e ∙ sym f) d
 
--- ---- a histogram, into a buffer
+-- ---- a histogram
 
-into-answer : (room : ℕ) (o : Outcome (List ℕ)) (h : Histogram) → Counted o h → h .checked ≡ checked.Sound → fits room (h .counts) ≡ histogramInto room o
-unfolding histogramTold histogramInto
-into-answer room o h w e = ap (histogramInto room) (ap (λ (k : Checked). histogramTold k (h .counts)) (sym e) ∙ w .told)
+counts-code : (o : Outcome (List ℕ)) (k : Checked) (ns : List ℕ) → histogramTold k ns ≡ o → ns ≡ histogramReported o → histogramReply k ns ≡ histogramCode o
+unfolding histogramTold histogramReported verdictOf numberIn bitmapIn wordIn
+counts-code o checked.Sound ns e f = rw (← e) refl
+counts-code o (checked.Refused r) ns e f =
+    subst (λ (p : Outcome (List ℕ)). ns ≡ histogramReported p → histogramReply (checked.Refused r) ns ≡ histogramCode p) e
+    (λ g. ap (λ (l : List ℕ). record { number = r .number; bitmap = r .bitmap; word = r .word; counts = l }) g)
+    f
 
-into-refused : (room : ℕ) (o : Outcome (List ℕ)) (h : Histogram) (r : Refusal) → Counted o h → h .checked ≡ checked.Refused r → refusedBy r ≡ histogramInto room o
-unfolding histogramTold histogramInto
-into-refused room o h r w e = ap (histogramInto room) (ap (λ (k : Checked). histogramTold k (h .counts)) (sym e) ∙ w .told)
+counts-front : (o : Outcome (List ℕ)) (x : List ℕ) → o ≡ answer x → histogramReported o ≡ x
+unfolding histogramReported
+counts-front o x e = rw e refl
 
-module _ (o : Outcome (List ℕ)) (h : Histogram) (w : Counted o h) (out : List ℕ) where
-  pub none-into : (r : Refusal) → h .checked ≡ checked.Refused r → Wrote (histogramInto (length out) o) (written.Refused r) out out
-  none-into r e = wrote-refused out r (histogramInto (length out) o) (into-refused (length out) o h r w e)
-
-  pub counts-into : (r : Written) (out′ : List ℕ) → h .checked ≡ checked.Sound → Wrote (fits (length out) (h .counts)) r out out′ → Wrote (histogramInto (length out) o) r out out′
-  counts-into r out′ e v = subst (λ (p : Outcome (List ℕ)). Wrote p r out out′) (into-answer (length out) o h w e) v
+pub counts : (o : Outcome (List ℕ)) (h : Histogram) (r : ZvHistogram) → Numbered o → r ≡ histogramReply (h .checked) (h .counts) → Counted o h → Counts o r
+counts o h r n e w =
+    let code = e ∙ counts-code o (h .checked) (h .counts) (w .told) (w .counts-are) in
+    record { code = code; tells = ap countsTold code ∙ told-is o (histogramReported o) n (counts-front o) }
 
 -- ---- a bool as a number
 

@@ -1,4 +1,3 @@
 pub mod Codes
-pub mod Copied
 pub mod Lent
 pub mod Numbered

@@ -15,7 +15,6 @@ use Rattle.meaning.specs.Canonical.{canonical}
 use Rattle.meaning.specs.Index.{bitmapCount, entryPlace, startOf, lengthOf, rowCount, bodyAt, rowsAt, entriesFault, bodiesFault, headFault, indexFault}
 use Rattle.meaning.specs.Question.{intersection, union, symmetricDifference, difference, complement, byTable}
 use Rattle.meaning.specs.Answer as meaning
-use Rattle.zvonurel_c.specs.Exported.{histogramInto}
 
 abbrev Number : ℕ → Type 0
 Number n = (1 ≤ n) × (n ≤ 9)
@@ -216,8 +215,3 @@ module _ (index : List ℕ) where
     pub histogram : Numbered (meaning.histogram index list)
     unfolding meaning.histogram
     histogram = after (meaning.check index) _ (check index) (refuse (meaning.badList index list) 8 0 0 _ (omega arith) (answered _))
-
-pub into : (room : ℕ) (o : Outcome (List ℕ)) → Numbered o → Numbered (histogramInto room o)
-unfolding histogramInto Numbered
-into room (refused n b w) h = h
-into room (answer ws) h = fits room ws

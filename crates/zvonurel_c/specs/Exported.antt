@@ -8,7 +8,9 @@ use lib.Dec.{eqb}
 use lib.ListN.{length, take, drop}
 use Rattle.meaning.specs.Refusal.{Outcome, refused, answer, Verdict}
 use Rattle.meaning.specs.Index.{startOf, lengthOf}
-use Rattle.meaning.specs.Answer.{fits, bufferAfter, wordsReported, stretchesReported, bitmap, bitmapRefusal, partOf}
+use Rattle.meaning.specs.Answer.{bufferAfter, wordsReported, stretchesReported, histogramReported, bitmap, bitmapRefusal, partOf}
+use Rattle.ewah.specs.declared.refusal.Checked.{Checked}
+use Rattle.ewah.specs.Told.{verdictOf}
 use Rattle.questions.specs.declared.answer.Written.{Written}
 use Rattle.questions.specs.declared.answer.Written.the-variants as written
 use Rattle.questions.specs.declared.answer.Answered.{Answered}
@@ -19,6 +21,7 @@ use Rattle.zvonurel_c.specs.declared.reply.ZvNumber.{ZvNumber}
 use Rattle.zvonurel_c.specs.declared.reply.ZvWritten.{ZvWritten}
 use Rattle.zvonurel_c.specs.declared.reply.ZvAnswered.{ZvAnswered}
 use Rattle.zvonurel_c.specs.declared.reply.ZvPart.{ZvPart}
+use Rattle.zvonurel_c.specs.declared.reply.ZvHistogram.{ZvHistogram}
 
 -- ---- the fields, for an outcome: a refusal's three numbers, or three zeros and the value
 
@@ -75,6 +78,10 @@ partCode index k =
       length = ifAnswered (bitmapRefusal index k) (lengthOf index k);
     }
 
+-- the 65 numbers, zeros on a refusal
+abbrev pub histogramCode : Outcome (List ℕ) → ZvHistogram
+histogramCode o = record { number = numberIn o; bitmap = bitmapIn o; word = wordIn o; counts = histogramReported o }
+
 -- ---- the same of an answer in code that writes: it holds how many words, and not which
 
 unfoldable pub writtenReply : Written → ZvWritten
@@ -87,6 +94,9 @@ answeredReply (answered.Refused r) = record { number = r .number; bitmap = r .bi
 
 abbrev pub partReply : (number bitmap word start length : ℕ) → ZvPart
 partReply n b w s l = record { number = n; bitmap = b; word = w; start = s; length = l }
+
+abbrev pub histogramReply : Checked → (counts : List ℕ) → ZvHistogram
+histogramReply k counts = record { number = numberIn (verdictOf k); bitmap = bitmapIn (verdictOf k); word = wordIn (verdictOf k); counts = counts }
 
 -- ---- the outcome that a caller reads from what is returned: number 0 says that the call was not refused
 
@@ -112,6 +122,9 @@ answeredTold r buffer′ = told (r .number) (r .bitmap) (r .word) (take (r .word
 
 abbrev pub partTold : ZvPart → (index : List ℕ) → Outcome (List ℕ)
 partTold r index = told (r .number) (r .bitmap) (r .word) (take (r .length) (drop (r .start) index))
+
+abbrev pub countsTold : ZvHistogram → Outcome (List ℕ)
+countsTold r = told (r .number) (r .bitmap) (r .word) (r .counts)
 
 -- ---- the contracts, for the outcome o of a call: every field is settled, and the caller reads o from them
 
@@ -144,9 +157,6 @@ pub record Lends (index : List ℕ) (k : ℕ) (r : ZvPart) : Type 0 where
   pub within : r .start + r .length ≤ length index
   pub part : take (r .length) (drop (r .start) index) ≡ partOf (bitmap index k)
 
--- ---- the histogram, into a lent buffer: refused with 9 and 65, the words needed, where the buffer is shorter
-
-unfoldable pub histogramInto : (room : ℕ) → Outcome (List ℕ) → Outcome (List ℕ)
-unfolding fits
-histogramInto room (refused number bitmap word) = refused number bitmap word
-histogramInto room (answer counts) = fits room counts
+pub record Counts (o : Outcome (List ℕ)) (r : ZvHistogram) : Type 0 where
+  pub code : r ≡ histogramCode o
+  pub tells : countsTold r ≡ o

@@ -5,18 +5,17 @@
 ghost use lib.ListN.{length};
 ghost use Rattle.meaning.specs.Answer as meaning;
 ghost use Rattle.meaning.specs.Demands.{Asked, Demand3};
-ghost use Rattle.zvonurel_c.specs.Exported.{Checks, Flags, Numbers, Writes, Reports, Lends, answeredTold, histogramInto};
+ghost use Rattle.zvonurel_c.specs.Exported.{Checks, Flags, Numbers, Writes, Reports, Lends, Counts, answeredTold};
 use index::contents;
 pub use reply::ZvAnswered;
 pub use reply::ZvChecked;
 pub use reply::ZvFlag;
+pub use reply::ZvHistogram;
 pub use reply::ZvNumber;
 pub use reply::ZvPart;
 pub use reply::ZvWritten;
 use zvonurel::Checked;
-use zvonurel::Written;
 
-mod counts;
 mod reply;
 
 // ---- one body alone: bitmap 0, with places counted in the body
@@ -178,16 +177,9 @@ pub extern "C" fn zv_symmetric(
     reply::answered(zvonurel::symmetric(index, list, table, out))
 }
 
-// The 65 numbers at the front of the buffer. A shorter one is refused with 9, after 8.
 #[no_mangle]
-pub extern "C" fn zv_histogram(index: &[u32], list: &[u32], out: &mut [u32]) -> ZvWritten
-    ensures { λ r. ⌜ Writes (histogramInto (length (now (out .entry))) (meaning.histogram (now (index .entry)) (now (list .entry)))) r (now (out .entry)) (now (out .exit)) ⌝ }
+pub extern "C" fn zv_histogram(index: &[u32], list: &[u32]) -> ZvHistogram
+    ensures { λ r. ⌜ Counts (meaning.histogram (now (index .entry)) (now (list .entry))) r ⌝ }
 {
-    let told = zvonurel::histogram(index, list);
-    let checked = told.checked;
-    let numbers = told.counts;
-    match checked {
-        Checked::Refused(refusal) => reply::written(Written::Refused(refusal)),
-        Checked::Sound => reply::written(counts::write(numbers, out)),
-    }
+    reply::histogram(zvonurel::histogram(index, list))
 }

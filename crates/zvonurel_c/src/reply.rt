@@ -3,10 +3,11 @@
 ghost use mathlib.Core.Path.{_≡_};
 ghost use Rattle.ewah.specs.Told.{verdictOf};
 ghost use Rattle.questions.specs.Told.{flagOf, numberOf};
-ghost use Rattle.zvonurel_c.specs.Exported.{checkedCode, flagCode, numberCode, writtenReply, answeredReply, partReply};
+ghost use Rattle.zvonurel_c.specs.Exported.{checkedCode, flagCode, numberCode, writtenReply, answeredReply, partReply, histogramReply};
 use zvonurel::Answered;
 use zvonurel::Checked;
 use zvonurel::Flag;
+use zvonurel::Histogram;
 use zvonurel::Number;
 use zvonurel::Refusal;
 use zvonurel::Written;
@@ -60,6 +61,15 @@ pub struct ZvPart {
     pub word: u64,
     pub start: u64,
     pub length: u64,
+}
+
+// `counts` has for each c from 0 to 64 how many rows exactly c of the list have; all 0 on a refusal.
+#[repr(C)]
+pub struct ZvHistogram {
+    pub number: u32,
+    pub bitmap: u32,
+    pub word: u64,
+    pub counts: [u32; 65],
 }
 
 pub fn checked(told: Checked) -> ZvChecked
@@ -178,5 +188,19 @@ pub fn part(start: usize, length: usize) -> ZvPart
         word: 0,
         start: start as u64,
         length: length as u64,
+    }
+}
+
+pub fn histogram(told: Histogram) -> ZvHistogram
+    ensures { λ r. ⌜ r ≡ histogramReply (told .checked) (told .counts) ⌝ }
+{
+    let was = told.checked;
+    let code = checked(was);
+    let counts = told.counts;
+    ZvHistogram {
+        number: code.number,
+        bitmap: code.bitmap,
+        word: code.word,
+        counts: counts,
     }
 }
