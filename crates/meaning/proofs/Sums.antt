@@ -25,6 +25,11 @@ unfolding sumBelow
 sum-le zero f h = omega arith
 sum-le (suc n) f h = omega (arith, sum-le n f (λ i l. h i (omega arith)), h n (omega arith))
 
+pub sum-mono : (n : ℕ) (f g : ℕ → ℕ) → ((i : ℕ) → f i ≤ g i) → sumBelow n f ≤ sumBelow n g
+unfolding sumBelow
+sum-mono zero f g h = omega arith
+sum-mono (suc n) f g h = omega (arith, sum-mono n f g h, h n)
+
 pub sum-add : (n : ℕ) (f g : ℕ → ℕ) → sumBelow n (λ i. f i + g i) ≡ sumBelow n f + sumBelow n g
 unfolding sumBelow
 sum-add zero f g = refl

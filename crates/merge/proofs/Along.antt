@@ -6,24 +6,28 @@ use mathlib.Core.List.{List}
 use native.Mathlib.Omega.{arith}
 use lib.ListN.{length, getD}
 use Rattle.meaning.specs.Limits.{mostRows, mostSegments}
-use Rattle.meaning.specs.Segment.{segmentCount}
+use Rattle.meaning.specs.Segment.{segmentCount, bitAt}
 use Rattle.meaning.specs.Index.{rowCount}
 use Rattle.meaning.specs.Laws.{IndexFacts, SoundFacts}
 use Rattle.meaning.specs.Ahead.{StretchAt}
-use Rattle.meaning.proofs.Sums.{sum-le}
+use Rattle.meaning.proofs.Sums.{sum-le, sum-add, sum-mono}
 use Rattle.ewah.specs.declared.cursor.Piece as code
 use Rattle.ewah.specs.declared.cursor.Piece.the-variants.{Clean, Dirty}
 use Rattle.ewah.specs.Cursors.{ValueLow, leftOf}
 use Rattle.words.specs.Counters.{countAt}
 use Rattle.merge.specs.declared.survey.Survey.{Survey}
 use Rattle.merge.specs.Queries.{cursorOf, Standing, Listed, placeBody}
-use Rattle.merge.specs.Surveys.{onesIn, Surveyed, MovedAll}
+use Rattle.merge.specs.Surveys.{onesIn, dirtyIn, bitIn, Surveyed, MovedAll}
 use Rattle.merge.specs.Merges.{bodiesOf}
 use Rattle.merge.proofs.Stretched.{stretch, least-some, least-low, least-left}
 
-one-most : (p : code.Piece) → ValueLow p → onesIn p ≤ 1
-one-most (Clean v n) h = omega arith
-one-most (Dirty x) h = omega arith
+piece-most : (p : code.Piece) → ValueLow p → onesIn p + dirtyIn p ≤ 1
+piece-most (Clean v n) h = omega arith
+piece-most (Dirty x) h = omega arith
+
+bit-most : (p : code.Piece) (j : ℕ) → bitIn p j ≤ dirtyIn p
+bit-most (Clean v n) j = omega arith
+bit-most (Dirty x) j = unfold bitAt in omega arith
 
 pub segments-few : (R : ℕ) → R ≤ mostRows → segmentCount 32 R ≤ mostSegments
 segments-few R h = unfold segmentCount in omega arith
@@ -46,13 +50,28 @@ module _ (index list : List ℕ) where
   along-none ns s st n su = record { here = omega arith; standing = st; long = n; surveyed = su }
 
   module _ (f : IndexFacts index) (li : Listed index list) (some : 1 ≤ length list) (ns : List ℕ) (s : Survey) (o : ℕ) (g : Along ns s o) where
-    pub ones-low : s .ones ≤ 64
-    ones-low =
+    -- a row of a piece is one of a run of ones or of a dirty word, and only a dirty word is counted by rows
+    pub held-low : s .ones + s .dirty ≤ 64
+    held-low =
         omega (
           arith,
           g .surveyed .ones-is,
+          g .surveyed .dirty-is,
           li .most,
-          sum-le (length list) (λ i. onesIn (cursorOf ns i .piece)) (λ i h. one-most (cursorOf ns i .piece) (g .standing i h .in-order .value-low)),
+          sum-add (length list) (λ i. onesIn (cursorOf ns i .piece)) (λ i. dirtyIn (cursorOf ns i .piece)),
+          sum-le (length list) (λ i. onesIn (cursorOf ns i .piece) + dirtyIn (cursorOf ns i .piece)) (λ i h. piece-most (cursorOf ns i .piece) (g .standing i h .in-order .value-low)),
+        )
+
+    pub ones-low : s .ones ≤ 64
+    ones-low = omega (arith, held-low)
+
+    pub counts-low : (j : ℕ) → j < 32 → countAt (s .planes) j ≤ s .dirty
+    counts-low j h =
+        omega (
+          arith,
+          g .surveyed .counts j h,
+          g .surveyed .dirty-is,
+          sum-mono (length list) (λ i. bitIn (cursorOf ns i .piece) j) (λ i. dirtyIn (cursorOf ns i .piece)) (λ i. bit-most (cursorOf ns i .piece) j),
         )
 
     -- ---- one stretch more

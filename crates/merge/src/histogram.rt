@@ -1,13 +1,14 @@
 // The histogram of a list: for each number, how many rows exactly so many of the list have, stretch by stretch.
 ghost use mathlib.Core.Path.{_≡_};
 ghost use mathlib.Core.List.{map};
-ghost use Prim.Native.Nat.{ℕ, _≤_, _<_};
+ghost use Prim.Native.Nat.{ℕ, _+_, _≤_, _<_};
 ghost use lib.ListN.{length, getD};
 ghost use Rattle.meaning.specs.Limits.{mostRows};
 ghost use Rattle.meaning.specs.Ewah.{rowsOf};
 ghost use Rattle.meaning.specs.Index.{rowCount, bodyAt};
 ghost use Rattle.meaning.specs.Laws.{IndexFacts};
 ghost use Rattle.meaning.specs.Question.{histogramOf};
+ghost use Rattle.words.specs.Counters.{countAt};
 ghost use Rattle.merge.specs.Queries.{Listed};
 ghost use Rattle.merge.specs.Tallies.{Tallied};
 use crate::evaluate;
@@ -20,14 +21,15 @@ use words::rows;
 
 // The numbers with the rows of a stretch counted in, of whose last segment the mask has the rows.
 fn count_stretch(counts: [u32; 65], s: Survey, mask: u32) -> [u32; 65]
-    requires { ⌜ (s .ones ≤ 64) × (1 ≤ s .least) × (s .least ≤ 65535) × ((c : ℕ) → c < 65 → getD counts c 0 ≤ mostRows) ⌝ }
+    requires { ⌜ (s .ones + s .dirty ≤ 64) × (1 ≤ s .least) × (s .least ≤ 65535) × ((c : ℕ) → c < 65 → getD counts c 0 ≤ mostRows) × ((j : ℕ) → j < 32 → countAt (s .planes) j ≤ s .dirty) ⌝ }
     ensures { λ r. ⌜ Tallied counts s mask r ⌝ }
 {
     let n = s.least;
     let base = s.ones;
-    if s.dirty != 0 {
+    let dirty = s.dirty;
+    if dirty != 0 {
         let planes = s.planes;
-        return counters::add_to_histogram(counts, planes, base, mask, 1);
+        return counters::add_to_histogram(counts, planes, base, dirty, mask, 1);
     }
     let mut r = counts;
     let k = base as usize;

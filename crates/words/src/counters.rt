@@ -76,21 +76,24 @@ pub fn by_table(planes: [u32; 7], base: u32, table: &[u32]) -> u32
     r
 }
 
-// How many rows have each count, with each row of the mask counted so many times more, where base more bitmaps have every row.
+// How many rows have each count, with each row of the mask counted so many times more, where base more bitmaps have every row and no
+// counter passes `most`: only the counts from base to base + most can grow.
 pub fn add_to_histogram(
     counts: [u32; 65],
     planes: [u32; 7],
     base: u32,
+    most: u32,
     mask: u32,
     times: u32,
 ) -> [u32; 65]
-    requires { ⌜ (base ≤ 64) × (times ≤ 524288) × ((c : ℕ) → c < 65 → getD counts c 0 ≤ 16777216) ⌝ }
+    requires { ⌜ (base + most ≤ 64) × (times ≤ 524288) × ((c : ℕ) → c < 65 → getD counts c 0 ≤ 16777216) × ((j : ℕ) → j < 32 → countAt planes j ≤ most) ⌝ }
     ensures { λ r. ⌜ (length r ≡ 65) × ((c : ℕ) → c < 65 → getD r c 0 ≡ getD counts c 0 + times * countBelow 32 (λ j. isSet mask j && eqb (base + countAt planes j) c)) ⌝ }
 {
     let mut r = counts;
     let from = base as usize;
+    let end = from + most as usize + 1;
     let mut c = from;
-    while c < 65 {
+    while c < end {
         let rows = mask & equals(planes, (c - from) as u32);
         r[c] = r[c] + times * bits::count(rows);
         c += 1;

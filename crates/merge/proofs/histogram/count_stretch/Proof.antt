@@ -13,7 +13,7 @@ add-to-histogram-requires c κs = search needs
 
 returns : tie.Need-returns
 returns c =
-    let s = c .before .before .before .before in
+    let s = c .before .before .before in
     tallied-mixed (s .args .counts) (s .args .s) (s .args .mask) (λ z. omega arith) _ (c .add-to-histogram .ensures .0) (c .add-to-histogram .ensures .1)
 
 cast-k : tie.Need-cast-k
@@ -35,11 +35,11 @@ count-requires : tie.Need-count-requires
 count-requires c κs = search needs
 
 add-r : tie.Need-add-r
-add-r c = omega (arith, c .count .ensures, count-le 32 (isSet (c .before .before .before .args .mask)))
+add-r c = omega (arith, c .count .ensures, count-le 32 (isSet (c .before .before .args .mask)))
 
 add-r-2 : tie.Need-add-r-2
 add-r-2 c =
-    let s = c .before .before .before in
+    let s = c .before .before in
     omega (arith, c .count .ensures, count-le 32 (isSet (s .args .mask)), s .pre .3 (s .args .s .ones) (omega arith))
 
 mul-r-3 : tie.Need-mul-r-3
@@ -50,8 +50,8 @@ array-write-r c = search needs
 
 returns-2 : tie.Need-returns-2
 returns-2 c =
-    let s = c .before .before .before in
-    rw (c .count .ensures) (tallied-clean (s .args .counts) (s .args .s) (s .args .mask) (search needs) (s .pre .0) (omega arith))
+    let s = c .before .before in
+    rw (c .count .ensures) (tallied-clean (s .args .counts) (s .args .s) (s .args .mask) (search needs) (omega (arith, s .pre .0)) (omega arith))
 
 pub count-stretch-spec : {M : Type 1} → statement M
 count-stretch-spec =

@@ -9,7 +9,7 @@ use Rattle.meaning.specs.Segment.{segmentCount}
 use Rattle.meaning.specs.Index.{rowCount}
 use Rattle.merge.specs.Surveys.{Surveyed}
 use Rattle.merge.specs.Parts.{MaskOf}
-use Rattle.merge.proofs.Along.{along-none, segments-few, ones-low, is-stretch, n-some, n-low, n-left}
+use Rattle.merge.proofs.Along.{along-none, segments-few, held-low, counts-low, is-stretch, n-some, n-low, n-left}
 use Rattle.merge.proofs.Tallying.{Tallying, tallying-none, tallying-more, tallying-all, tally-low}
 use native.Mathlib.Omega.{arith}
 use Rattle.merge.proofs.histogram.histogram.Statement.{statement}
@@ -91,10 +91,11 @@ count-stretch-requires c κs =
     let l = i .before .loop in
     let s = i .before .before .before .before .before .before .before .before in
     let a = s .args in (
-      ones-low (now (a .index)) (now (a .list)) (s .pre .0) (s .pre .1 .0) (s .pre .1 .1) (l .q .numbers) (l .s) (l .o) (l .inv .along),
+      held-low (now (a .index)) (now (a .list)) (s .pre .0) (s .pre .1 .0) (s .pre .1 .1) (l .q .numbers) (l .s) (l .o) (l .inv .along),
       some-of i,
       low-of i,
       tally-low (now (a .index)) (now (a .list)) (l .q .numbers) (l .s) (l .counts) (l .o) (l .inv) (s .pre .0 .head .few-rows),
+      counts-low (now (a .index)) (now (a .list)) (s .pre .0) (s .pre .1 .0) (s .pre .1 .1) (l .q .numbers) (l .s) (l .o) (l .inv .along),
     )
 
 advance-requires : tie.Need-advance-requires Inv-loop μ-loop

@@ -1,9 +1,10 @@
 -- `words::counters::add_to_histogram` meets its contract. The invariant: the counts below c have grown, the others are as they were.
 -- Assumes nothing.
+use native.Mathlib.Decide.{decLe}
 use mathlib.Core.Bool.{Bool, _&&_, and-false}
 use mathlib.Core.List.{List}
 use mathlib.Core.Path.{_≡_, ap, ap₂, _∙_}
-use Prim.Native.Nat.{ℕ, _+_, _-_, _*_, _≤_, _<_}
+use Prim.Native.Nat.{ℕ, suc, _+_, _-_, _*_, _≤_, _<_}
 use native.Mathlib.Nat.{le-refl, mul-le-mul}
 use borrow.Author.Tests.{ne-eqb}
 use lib.Bits.{bitAnd}
@@ -32,6 +33,12 @@ rows-none planes base mask c h =
     count-none 32 (λ j. isSet mask j && eqb (base + countAt planes j) c)
     (λ j l. ap (λ (b : Bool). isSet mask j && b) (ne-eqb (base + countAt planes j) c (omega arith)) ∙ and-false (isSet mask j))
 
+-- nor above base and the most
+rows-past : (planes : List ℕ) (base most mask c : ℕ) → ((j : ℕ) → j < 32 → countAt planes j ≤ most) → base + most < c → rowsAt planes base mask c ≡ 0
+rows-past planes base most mask c low h =
+    count-none 32 (λ j. isSet mask j && eqb (base + countAt planes j) c)
+    (λ j l. ap (λ (b : Bool). isSet mask j && b) (ne-eqb (base + countAt planes j) c (omega (arith, low j l))) ∙ and-false (isSet mask j))
+
 -- the rows of the mask whose counter is c less base
 rows-are : (planes : List ℕ) (base mask x c : ℕ) → base ≤ c → ((j : ℕ) → j < 32 → isSet x j ≡ eqb (countAt planes j) (c - base))
     → countBelow 32 (isSet (bitAnd mask x)) ≡ rowsAt planes base mask c
@@ -44,11 +51,17 @@ abbrev grown : (counts planes : List ℕ) (base mask times c : ℕ) → ℕ
 grown counts planes base mask times c = getD counts c 0 + times * rowsAt planes base mask c
 
 abbrev Inv-loop : tie.InvT-loop
-Inv-loop planes base mask times r₀ from c₀ r c =
-    (base ≤ c) × (c ≤ 65) × Filled (grown r₀ planes base mask times) r₀ r c
+Inv-loop planes base most mask times r₀ from end c₀ r c =
+    (base ≤ c) × (c ≤ base + most + 1) × Filled (grown r₀ planes base mask times) r₀ r c
 
 abbrev μ-loop : tie.MeasureT-loop
-μ-loop planes base mask times r₀ from c₀ r c = 65 - c
+μ-loop planes base most mask times r₀ from end c₀ r c = base + most + 1 - c
+
+add-end : tie.Need-add-end Inv-loop μ-loop
+add-end c = search needs
+
+add-end-2 : tie.Need-add-end-2 Inv-loop μ-loop
+add-end-2 c = search needs
 
 loop-holds : tie.Need-loop-holds Inv-loop μ-loop
 loop-holds c =
@@ -113,10 +126,22 @@ loop-again c =
           (ap₂ (λ (x y : ℕ). x + a .times * y) (h .inv .2 .rest (h .c) (le-refl (h .c))) rows) (h .inv .2),
     )
 
+-- past the last count that can grow
+past : (planes counts r : List ℕ) (base most mask times c i : ℕ) → ((j : ℕ) → j < 32 → countAt planes j ≤ most) → Filled (grown counts planes base mask times) counts r c
+    → base + most < c → c ≤ i → getD r i 0 ≡ grown counts planes base mask times i
+past planes counts r base most mask times c i low f h g = f .rest i g ∙ rw (rows-past planes base most mask i low (omega arith)) (omega arith)
+
 returns : tie.Need-returns Inv-loop μ-loop
 returns c =
     let h = c .before .loop in
-    (search needs, λ i l. h .inv .2 .done i (omega arith))
+    let a = c .before .before .args in
+    let low = c .before .before .pre .3 in (
+      search needs,
+      λ i l. elim (decLe (suc i) (h .c)) [
+        | yes g ↦ h .inv .2 .done i g
+        | no g ↦ past (a .planes) (a .counts) (h .r) (a .base) (a .most) (a .mask) (a .times) (h .c) i low (h .inv .2) (omega arith) (omega arith)
+      ],
+    )
 
 pub add-to-histogram-spec : {M : Type 1} → statement M
 add-to-histogram-spec =
@@ -124,6 +149,8 @@ add-to-histogram-spec =
     (tie.spec
     Inv-loop
     μ-loop
+    add-end
+    add-end-2
     loop-holds
     sub-equals
     cast-equals
