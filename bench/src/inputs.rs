@@ -1,0 +1,159 @@
+//! The inputs: the same words in every run.
+
+#[derive(Debug, Clone, Copy, PartialEq, Eq)]
+pub enum Kind {
+    /// Runs of thousands of segments, a mixed one between them now and then.
+    Quiet,
+    /// Runs of 10 to 100 segments, one to four mixed ones between them.
+    Calm,
+    /// Every segment mixed.
+    Dense,
+}
+
+impl Kind {
+    pub const ALL: [Kind; 3] = [Kind::Quiet, Kind::Calm, Kind::Dense];
+
+    pub fn name(self) -> &'static str {
+        match self {
+            Kind::Quiet => "quiet",
+            Kind::Calm => "calm",
+            Kind::Dense => "dense",
+        }
+    }
+}
+
+/// splitmix64
+struct Random(u64);
+
+impl Random {
+    fn next(&mut self) -> u64 {
+        self.0 = self.0.wrapping_add(0x9E37_79B9_7F4A_7C15);
+        let mut z = self.0;
+        z = (z ^ (z >> 30)).wrapping_mul(0xBF58_476D_1CE4_E5B9);
+        z = (z ^ (z >> 27)).wrapping_mul(0x94D0_49BB_1331_11EB);
+        z ^ (z >> 31)
+    }
+
+    fn between(&mut self, low: u64, high: u64) -> usize {
+        (low + self.next() % (high - low + 1)) as usize
+    }
+
+    /// About half of the bits set, never clean: bit 0 is set and bit 1 is not.
+    fn mixed(&mut self) -> u32 {
+        (self.next() as u32 & !2) | 1
+    }
+}
+
+pub struct Data {
+    pub kind: Kind,
+    pub rows: u32,
+    pub bitmaps: usize,
+    /// The plain words of all bitmaps, one bitmap behind the other.
+    plain: Vec<u32>,
+    /// The index of them all.
+    pub index: Vec<u32>,
+    /// All bitmaps, named once.
+    pub list: Vec<u32>,
+    pub t: u32,
+    /// Yes where a third of the numbers are, 1, 4, 7 and so on.
+    pub table: Vec<u32>,
+}
+
+impl Data {
+    pub fn new(kind: Kind, rows: u32, bitmaps: usize) -> Data {
+        let mut plain = Vec::new();
+        let mut bodies = Vec::new();
+        for k in 0..bitmaps {
+            let words = bitmap(kind, rows, 1_000 + k as u64);
+            bodies.push(body(rows, &words));
+            plain.extend(words);
+        }
+        let t = match bitmaps {
+            12 => 5,
+            other => (other / 2).max(1),
+        };
+        Data {
+            kind,
+            rows,
+            index: index(rows, &bodies),
+            bitmaps,
+            plain,
+            list: (0..bitmaps as u32).collect(),
+            t: t as u32,
+            table: (0..=bitmaps).map(|c| u32::from(c % 3 == 1)).collect(),
+        }
+    }
+
+    pub fn segments(&self) -> usize {
+        (self.rows as usize).div_ceil(32)
+    }
+
+    /// The plain words of a bitmap.
+    pub fn plain(&self, k: usize) -> &[u32] {
+        &self.plain[k * self.segments()..][..self.segments()]
+    }
+
+    /// The plain words of one bitmap after the other.
+    pub fn plains(&self) -> impl Iterator<Item = &[u32]> {
+        self.plain.chunks_exact(self.segments())
+    }
+
+    /// How many stretches the bitmaps make together.
+    pub fn stretches(&self) -> u32 {
+        let mut out = vec![0; 2 * self.segments() + 2];
+        let answer = zvonurel::threshold(&self.index, &self.list, self.t, &mut out);
+        answer.expect("a sound question").stretches
+    }
+
+    /// Words of all bodies.
+    pub fn words(&self) -> usize {
+        self.index.len() - 3 - 2 * self.bitmaps
+    }
+
+    /// A bitmap's body as a part of the index.
+    pub fn body(&self, k: usize) -> &[u32] {
+        let start = self.index[3 + 2 * k] as usize;
+        &self.index[start..start + self.index[4 + 2 * k] as usize]
+    }
+}
+
+/// Plain words of one bitmap.
+fn bitmap(kind: Kind, rows: u32, seed: u64) -> Vec<u32> {
+    let segments = (rows as usize).div_ceil(32);
+    let mut random = Random(seed);
+    let mut words = Vec::with_capacity(segments);
+    while words.len() < segments {
+        let (run, mixed) = match kind {
+            Kind::Quiet => (random.between(1_000, 8_000), random.between(0, 1)),
+            Kind::Calm => (random.between(10, 100), random.between(1, 4)),
+            Kind::Dense => (0, segments),
+        };
+        let value = if random.next().is_multiple_of(2) { 0 } else { u32::MAX };
+        let run = run.min(segments - words.len());
+        words.extend(std::iter::repeat_n(value, run));
+        let mixed = mixed.min(segments - words.len());
+        words.extend((0..mixed).map(|_| random.mixed()));
+    }
+    if !rows.is_multiple_of(32) {
+        words[segments - 1] &= (1 << (rows % 32)) - 1;
+    }
+    words
+}
+
+fn body(rows: u32, plain: &[u32]) -> Vec<u32> {
+    let mut out = vec![0; 2 * plain.len() + 2];
+    let words = zvonurel::compress(rows, plain, &mut out).expect("room for any body");
+    out.truncate(words);
+    out
+}
+
+fn index(rows: u32, bodies: &[Vec<u32>]) -> Vec<u32> {
+    let mut words = vec![1, rows, bodies.len() as u32];
+    let mut start = 3 + 2 * bodies.len();
+    for body in bodies {
+        words.extend([start as u32, body.len() as u32]);
+        start += body.len();
+    }
+    words.extend(bodies.iter().flatten());
+    words
+}

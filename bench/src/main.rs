@@ -1,0 +1,137 @@
+//! Times of the library's calls beside plain programs over plain words.
+
+mod baseline;
+mod calls;
+mod growth;
+mod inputs;
+mod timing;
+
+use std::hint::black_box;
+use std::process::ExitCode;
+
+use crate::baseline::Plain;
+use crate::calls::{baselines, measured_call, plain_answer, Call, CALLS};
+use crate::growth::{growth, Figure};
+use crate::inputs::{Data, Kind};
+use crate::timing::best_seconds;
+
+const HELP: &str = "\
+bench            1,000,000 and 16,000,000 rows; 3, 12 and 64 bitmaps (minutes)
+bench --quick    1,000,000 rows, 12 bitmaps
+bench --one CALL KIND ROWS BITMAPS REPEATS
+                 one call so many times, nothing else timed
+
+CALL   check count body_count expand expand_bitmap compress and threshold
+       symmetric histogram
+KIND   quiet (runs of 1,000 to 8,000 segments), calm (runs of 10 to 100
+       segments, one to four mixed ones between them), dense (all mixed)
+
+T is 5 for 12 bitmaps, else half of them. The table of symmetric says yes at
+1, 4, 7 and so on. Each figure is the best of several runs; `x` is the plain
+program's time divided by the library's, so above 1 the library is faster. The
+library checks the whole index in every call that takes one; plain programs
+check nothing.
+
+Instruction counts of one call (build with --release):
+  valgrind --tool=callgrind --toggle-collect='*measured_call*' \\
+      target/release/bench --one threshold calm 1000000 12 1
+Making the input is then left out. Divide by REPEATS and by the rows.";
+
+fn main() -> ExitCode {
+    let args: Vec<String> = std::env::args().skip(1).collect();
+    let args: Vec<&str> = args.iter().map(String::as_str).collect();
+    match args[..] {
+        [] => table(&[1_000_000, 16_000_000], &[3, 12, 64]),
+        ["--quick"] => table(&[1_000_000], &[12]),
+        ["--one", call, kind, rows, bitmaps, repeats] => {
+            if one(call, kind, rows, bitmaps, repeats).is_none() {
+                println!("{HELP}");
+                return ExitCode::from(2);
+            }
+        }
+        _ => {
+            println!("{HELP}");
+            return ExitCode::from(2);
+        }
+    }
+    ExitCode::SUCCESS
+}
+
+/// Room for any answer of these rows.
+fn buffer(data: &Data) -> Vec<u32> {
+    vec![0; 2 * data.segments() + 2]
+}
+
+/// One call and nothing else, for a profiler.
+fn one(call: &str, kind: &str, rows: &str, bitmaps: &str, repeats: &str) -> Option<()> {
+    let call = Call::named(call)?;
+    let kind = Kind::ALL.into_iter().find(|k| k.name() == kind)?;
+    let rows: u32 = rows.parse().ok().filter(|r| (1..=16_777_216).contains(r))?;
+    let bitmaps: usize = bitmaps.parse().ok().filter(|n| (2..=64).contains(n))?;
+    let repeats: u32 = repeats.parse().ok()?;
+    let data = Data::new(kind, rows, bitmaps);
+    let mut out = buffer(&data);
+    for _ in 0..repeats {
+        let result = measured_call(call, &data, black_box(&mut out));
+        black_box(result).expect("a sound question");
+    }
+    println!("{} {} rows {rows} bitmaps {bitmaps} words {}: {repeats} times", call.name(), kind.name(), data.words());
+    Some(())
+}
+
+/// All calls on all inputs.
+fn table(rows: &[u32], bitmaps: &[usize]) {
+    let mut figures = Vec::new();
+    println!("ns are per row; x is plain time / library time");
+    for &rows in rows {
+        for kind in Kind::ALL {
+            for &bitmaps in bitmaps {
+                let first = figures.iter().all(|f: &Figure| f.rows != rows || f.kind != kind);
+                let data = Data::new(kind, rows, bitmaps);
+                println!(
+                    "\n{} input, {rows} rows, {bitmaps} bitmaps, {} words, {} stretches, T {}",
+                    kind.name(),
+                    data.words(),
+                    data.stretches(),
+                    data.t
+                );
+                for (call, _) in CALLS {
+                    if first || !call.lone() {
+                        figures.push(line(call, &data));
+                    }
+                }
+            }
+        }
+    }
+    growth(&figures);
+}
+
+/// Times one call and its plain programs, and prints the line.
+fn line(call: Call, data: &Data) -> Figure {
+    let mut out = buffer(data);
+    let expected = plain_answer(call, data, &mut out);
+    let seconds = best_seconds(|| {
+        let result = measured_call(call, data, black_box(&mut out));
+        black_box(result).expect("a sound question");
+    });
+    let per_row = |seconds: f64| seconds * 1e9 / f64::from(data.rows);
+    let mut text = format!("  {:14}{:12.2} us {:10.5} ns", call.name(), seconds * 1e6, per_row(seconds));
+    for (name, plain) in baselines(call) {
+        let mut out = Plain::new(data.segments());
+        let plain_seconds = best_seconds(|| plain(black_box(data), black_box(&mut out)));
+        if let Some(expected) = &expected {
+            assert!(*expected == out, "{name} disagrees with {}", call.name());
+        }
+        text += &format!(" | {name} {:.5} ns, x {:.2}", per_row(plain_seconds), plain_seconds / seconds);
+    }
+    println!("{text}");
+    Figure {
+        call,
+        kind: data.kind,
+        rows: data.rows,
+        bitmaps: data.bitmaps,
+        words: data.words(),
+        stretches: data.stretches(),
+        seconds,
+    }
+}

@@ -1,0 +1,315 @@
+//! Every question on an input, with good and bad arguments.
+
+use crate::ask::words_needed;
+use crate::encode::{last_mask, segments_of};
+use crate::generate::{Effort, Form, Input};
+use crate::question::{Call, Question};
+use crate::random::Random;
+use crate::session::Session;
+
+/// A buffer is never made longer than this just to be long.
+const LONGEST: usize = 200_000;
+
+const PAIRS: [Call; 4] = [Call::And, Call::Or, Call::Xor, Call::AndNot];
+
+pub fn ask_all(session: &mut Session, input: &Input, random: &mut Random) {
+    let before = fingerprint(&input.words);
+    let mut asker = Asker { session, input, random };
+    match input.form {
+        Form::Index => asker.index(),
+        Form::Body => asker.body(),
+    }
+    if before != fingerprint(&input.words) {
+        println!("DIFFERENCE  the lent words of a case were changed");
+        std::process::exit(1);
+    }
+}
+
+fn fingerprint(words: &[u32]) -> u64 {
+    words.iter().fold(0, |sum: u64, &word| sum.wrapping_mul(0x9E37_79B9_7F4A_7C15) ^ u64::from(word))
+}
+
+struct Asker<'a> {
+    session: &'a mut Session,
+    input: &'a Input,
+    random: &'a mut Random,
+}
+
+impl Asker<'_> {
+    fn ask(&mut self, question: Question) {
+        self.session.ask(&self.input.words, question);
+    }
+
+    /// All of these, or two of them where the effort is small.
+    fn thin<T: Copy>(&mut self, mut from: Vec<T>) -> Vec<T> {
+        if self.input.effort == Effort::Few {
+            while from.len() > 2 {
+                from.swap_remove(self.random.below(from.len()));
+            }
+        }
+        from
+    }
+
+    // ---- buffers ----
+
+    /// The same question with buffers of several lengths.
+    fn ask_rooms(&mut self, words: &[u32], question: Question) {
+        let need = words_needed(words, &question);
+        let twice = 2 * self.named_words(&question.list);
+        let all = [need.saturating_sub(1), need, need + 1, 0, twice.min(LONGEST), need + 20 + self.random.below(20)];
+        let rooms = match self.input.effort {
+            Effort::Full => all.to_vec(),
+            _ => vec![self.random.pick(&all[..2]), self.random.pick(&all)],
+        };
+        for (place, &room) in rooms.iter().enumerate() {
+            if !rooms[..place].contains(&room) {
+                self.session.ask(words, question.clone().room(room));
+            }
+        }
+    }
+
+    /// Words of the bodies named, by the contents.
+    fn named_words(&self, list: &[u32]) -> usize {
+        let words = &self.input.words;
+        let length = |&k: &u32| words.get(4 + 2 * k as usize).copied().unwrap_or(0);
+        let lengths = list.iter().map(|k| length(k).min(words.len() as u32));
+        lengths.map(|length| length as usize).sum()
+    }
+
+    /// A buffer for questions that are refused before it matters.
+    fn any_room(&mut self) -> usize {
+        self.random.pick(&[0, 1, 5, 30])
+    }
+
+    // ---- arguments ----
+
+    fn good(&mut self) -> u32 {
+        self.random.below(self.input.bitmaps as usize) as u32
+    }
+
+    fn bad(&mut self) -> u32 {
+        let n = self.input.bitmaps;
+        self.random.pick(&[n, n, n + 1, u32::MAX])
+    }
+
+    fn numbers(&mut self) -> Vec<u32> {
+        let n = self.input.bitmaps;
+        let some = self.good();
+        let mut numbers = vec![some, 0, n.wrapping_sub(1), n, n + 1, u32::MAX];
+        numbers.dedup();
+        self.thin(numbers)
+    }
+
+    fn row_numbers(&mut self) -> Vec<u32> {
+        let rows = self.input.rows;
+        let inside = self.random.below(rows as usize) as u32;
+        let last = rows.wrapping_sub(1);
+        self.thin(vec![inside, 0, last, rows, rows.wrapping_add(1), u32::MAX])
+    }
+
+    /// Numbers for nth on bitmap `k`.
+    fn nth_numbers(&mut self, k: u32) -> Vec<u32> {
+        let plain = self.input.plain.get(k as usize);
+        let set = plain.map_or(0, |words| words.iter().map(|w| w.count_ones()).sum());
+        let inside = self.random.below(set as usize) as u32;
+        let last = u32::wrapping_sub(set, 1);
+        self.thin(vec![inside, 0, last, set, set + 1, u32::MAX])
+    }
+
+    // ---- a lone body ----
+
+    fn body(&mut self) {
+        let rows = self.input.rows;
+        self.ask(Question::new(Call::CheckBody).rows(rows));
+        self.ask(Question::new(Call::BodyCount).rows(rows));
+        for row in self.row_numbers() {
+            self.ask(Question::new(Call::BodyRow).rows(rows).number(row));
+        }
+        for n in self.nth_numbers(0) {
+            self.ask(Question::new(Call::BodyNth).rows(rows).number(n));
+        }
+        let words = self.input.words.clone();
+        self.ask_rooms(&words, Question::new(Call::Expand).rows(rows));
+        if let Some(plain) = self.input.plain.first() {
+            self.compress(plain, rows);
+        }
+    }
+
+    /// Good plain words, pad bits set, too few, too many, other rows.
+    fn compress(&mut self, plain: &[u32], rows: u32) {
+        let question = |rows| Question::new(Call::Compress).rows(rows);
+        self.ask_rooms(plain, question(rows));
+        let mut other = plain.to_vec();
+        if let Some(last) = other.last_mut() {
+            let pads = !last_mask(rows);
+            let some = pads & self.random.word();
+            *last |= self.random.pick(&[pads, some, 1 << 31]);
+        }
+        self.ask_rooms(&other, question(rows));
+        other.pop();
+        let room = plain.len() + 2;
+        self.session.ask(&other, question(rows).room(room));
+        other.extend([0, self.random.word()]);
+        self.session.ask(&other, question(rows).room(room));
+        let anything = self.random.word();
+        for wrong in [16_777_217, u32::MAX, anything, rows ^ 1] {
+            let room = self.any_room();
+            self.session.ask(plain, question(wrong).room(room));
+        }
+        let whole = 32 * plain.len() as u32;
+        if segments_of(whole) == plain.len() {
+            self.ask_rooms(plain, question(whole));
+        }
+    }
+
+    // ---- an index ----
+
+    fn index(&mut self) {
+        self.ask(Question::new(Call::Check));
+        for k in self.numbers() {
+            self.ask(Question::new(Call::Bitmap).list(&[k]));
+            self.ask(Question::new(Call::BitmapRefusal).list(&[k]));
+            self.ask(Question::new(Call::Count).list(&[k]));
+        }
+        self.rows_and_nths();
+        self.one_bitmap(Call::ExpandBitmap);
+        self.one_bitmap(Call::Not);
+        for call in PAIRS {
+            self.two_bitmaps(call);
+        }
+        self.lists();
+    }
+
+    fn rows_and_nths(&mut self) {
+        let k = self.good();
+        for row in self.row_numbers() {
+            self.ask(Question::new(Call::Row).list(&[k]).number(row));
+        }
+        for n in self.nth_numbers(k) {
+            self.ask(Question::new(Call::Nth).list(&[k]).number(n));
+        }
+        let bad = self.bad();
+        for number in [0, self.input.rows] {
+            self.ask(Question::new(Call::Row).list(&[bad]).number(number));
+            self.ask(Question::new(Call::Nth).list(&[bad]).number(number));
+        }
+    }
+
+    fn one_bitmap(&mut self, call: Call) {
+        let words = &self.input.words;
+        let k = self.good();
+        self.ask_rooms(words, Question::new(call).list(&[k]));
+        let (bad, room) = (self.bad(), self.any_room());
+        self.ask(Question::new(call).list(&[bad]).room(room));
+    }
+
+    fn two_bitmaps(&mut self, call: Call) {
+        let words = &self.input.words;
+        let (j, k) = (self.good(), self.good());
+        self.ask_rooms(words, Question::new(call).list(&[j, k]));
+        if self.random.one_in(4) {
+            self.ask_rooms(words, Question::new(call).list(&[j, j]));
+        }
+        let bad = self.bad();
+        for pair in [[bad, k], [j, bad], [bad, bad]] {
+            let room = self.any_room();
+            self.ask(Question::new(call).list(&pair).room(room));
+        }
+    }
+
+    // ---- lists ----
+
+    fn some_list(&mut self, length: usize) -> Vec<u32> {
+        (0..length).map(|_| self.good()).collect()
+    }
+
+    fn lists(&mut self) {
+        let long = self.input.effort == Effort::Full && self.random.one_in(5);
+        let length = self.random.between(2, if long { 63 } else { 9 });
+        let some = self.some_list(length);
+        self.good_list(&some);
+        if self.input.effort != Effort::Few {
+            let one = self.some_list(1);
+            self.good_list(&one);
+        }
+        if self.random.one_in(2) {
+            let all: Vec<u32> = (0..self.input.bitmaps).collect();
+            self.good_list(&all);
+        }
+        if self.random.one_in(4) && self.input.effort != Effort::Few {
+            let most = self.some_list(64);
+            self.good_list(&most);
+        }
+        let mut wrong = some.clone();
+        let at = self.random.below(wrong.len());
+        wrong[at] = self.bad();
+        let over = self.some_list(65);
+        let far = self.some_list(300);
+        for list in [&[][..], &wrong, &over, &far] {
+            self.bad_list(list);
+        }
+    }
+
+    /// Threshold, symmetric and tally with this list, which is a good one
+    /// unless the index has no bitmaps.
+    fn good_list(&mut self, list: &[u32]) {
+        let words = &self.input.words;
+        let length = list.len() as u32;
+        self.ask(Question::new(Call::Histogram).list(list));
+        let threshold = Question::new(Call::Threshold).list(list);
+        let inside = 1 + self.random.below(list.len()) as u32;
+        let mut good = self.thin(vec![inside, 1, length]);
+        good.dedup();
+        for t in good {
+            self.ask_rooms(words, threshold.clone().number(t));
+        }
+        for t in [0, length + 1, u32::MAX] {
+            let room = self.any_room();
+            self.ask(threshold.clone().number(t).room(room));
+        }
+        let symmetric = Question::new(Call::Symmetric).list(list);
+        for _ in 0..2 {
+            let table = self.some_table(list.len() + 1);
+            self.ask_rooms(words, symmetric.clone().table(&table));
+        }
+        for table in self.bad_tables(list.len()) {
+            let room = self.any_room();
+            self.ask(symmetric.clone().table(&table).room(room));
+        }
+    }
+
+    /// A good table; half of them say yes at 0.
+    fn some_table(&mut self, length: usize) -> Vec<u32> {
+        let rare = self.random.one_in(3);
+        let entry = |random: &mut Random| match rare {
+            true => u32::from(random.one_in(6)),
+            false => u32::from(random.one_in(2)),
+        };
+        let mut table: Vec<u32> = (0..length).map(|_| entry(self.random)).collect();
+        if self.random.one_in(4) {
+            table.fill(self.random.pick(&[0, 1]));
+        }
+        table
+    }
+
+    fn bad_tables(&mut self, length: usize) -> Vec<Vec<u32>> {
+        let mut entry = self.some_table(length + 1);
+        let at = self.random.below(entry.len());
+        entry[at] = self.random.pick(&[2, 2, 3, 256, u32::MAX]);
+        let mut long_entry = self.some_table(length + 2);
+        long_entry[length + 1] = 2;
+        vec![self.some_table(length), self.some_table(length + 2), Vec::new(), self.some_table(400), entry, long_entry]
+    }
+
+    fn bad_list(&mut self, list: &[u32]) {
+        let room = self.any_room();
+        self.ask(Question::new(Call::Histogram).list(list));
+        let t = self.random.pick(&[1, list.len() as u32, 0]);
+        let threshold = Question::new(Call::Threshold).list(list).room(room);
+        self.ask(threshold.number(t));
+        let length = list.len() + self.random.pick(&[1, 1, 1, 0, 2]);
+        let table = self.some_table(length);
+        let symmetric = Question::new(Call::Symmetric).list(list).room(room);
+        self.ask(symmetric.table(&table));
+    }
+}

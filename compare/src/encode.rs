@@ -1,0 +1,111 @@
+//! Plain words, and bodies and indexes made of them.
+
+use crate::random::Random;
+
+const MOST_CLEAN: usize = 65_535;
+const MOST_DIRTY: usize = 32_767;
+
+pub fn segments_of(rows: u32) -> usize {
+    (rows as usize).div_ceil(32)
+}
+
+/// The bits of the last segment that are rows.
+pub fn last_mask(rows: u32) -> u32 {
+    match rows % 32 {
+        0 => u32::MAX,
+        used => !(u32::MAX << used),
+    }
+}
+
+pub fn marker(value: bool, clean: usize, dirty: usize) -> u32 {
+    u32::from(value) | (clean as u32) << 1 | (dirty as u32) << 17
+}
+
+fn is_clean(word: u32) -> bool {
+    word == 0 || word == u32::MAX
+}
+
+/// How many equal clean words stand at the front.
+fn clean_run(plain: &[u32]) -> usize {
+    match plain.first() {
+        Some(&first) if is_clean(first) => plain.iter().take_while(|&&w| w == first).count(),
+        _ => 0,
+    }
+}
+
+fn mixed_run(plain: &[u32]) -> usize {
+    plain.iter().take_while(|&&w| !is_clean(w)).count()
+}
+
+/// The settled body of these words.
+pub fn settled(plain: &[u32]) -> Vec<u32> {
+    let mut body = Vec::new();
+    let mut rest = plain;
+    while !rest.is_empty() {
+        let run = clean_run(rest);
+        let clean = run.min(MOST_CLEAN);
+        let value = clean > 0 && rest[0] == u32::MAX;
+        rest = &rest[clean..];
+        let dirty = match run > clean {
+            true => 0,
+            false => mixed_run(rest).min(MOST_DIRTY),
+        };
+        body.push(marker(value, clean, dirty));
+        body.extend(&rest[..dirty]);
+        rest = &rest[dirty..];
+    }
+    body
+}
+
+/// A sound body of these words that takes more room than it has to: idle
+/// markers, cut runs, clean segments under dirty words.
+pub fn wasteful(plain: &[u32], random: &mut Random) -> Vec<u32> {
+    let mut body = Vec::new();
+    let mut rest = plain;
+    while !rest.is_empty() || random.one_in(6) {
+        if random.one_in(8) {
+            body.push(marker(random.one_in(2), 0, 0));
+            continue;
+        }
+        let run = clean_run(rest).min(MOST_CLEAN);
+        let clean = match random.below(4) {
+            0 => 0,
+            1 => random.between(0, run),
+            _ => run,
+        };
+        let value = match clean {
+            0 => random.one_in(2),
+            _ => rest[0] == u32::MAX,
+        };
+        rest = &rest[clean..];
+        let dirty = some_dirty(rest, random);
+        body.push(marker(value, clean, dirty));
+        body.extend(&rest[..dirty]);
+        rest = &rest[dirty..];
+    }
+    body
+}
+
+/// How many words the next marker takes as dirty ones.
+fn some_dirty(rest: &[u32], random: &mut Random) -> usize {
+    let mixed = mixed_run(rest);
+    let wanted = match random.below(4) {
+        0 => random.between(0, mixed),
+        1 => mixed + random.below(4),
+        _ => mixed,
+    };
+    wanted.min(rest.len()).min(MOST_DIRTY)
+}
+
+/// The index of these bodies, with its contents right.
+pub fn index_of(rows: u32, bodies: &[Vec<u32>]) -> Vec<u32> {
+    let mut words = vec![1, rows, bodies.len() as u32];
+    let mut start = 3 + 2 * bodies.len();
+    for body in bodies {
+        words.push(start as u32);
+        words.push(body.len() as u32);
+        start += body.len();
+    }
+    words.extend(bodies.iter().flatten());
+    words
+}

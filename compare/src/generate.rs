@@ -1,0 +1,255 @@
+//! Makes the input of a case.
+
+use crate::encode::{index_of, last_mask, segments_of, settled, wasteful};
+use crate::random::Random;
+use crate::tear::{tear_body, tear_index, tear_rows};
+
+#[derive(Debug, Clone, Copy, PartialEq, Eq)]
+pub enum Form {
+    Index,
+    Body,
+}
+
+/// How many questions a case can afford.
+#[derive(Debug, Clone, Copy, PartialEq, Eq)]
+pub enum Effort {
+    /// Every kind of argument with every kind of buffer.
+    Full,
+    /// Every kind of argument, one or two buffers each.
+    Some,
+    /// Every call and every kind of buffer, few arguments: long inputs.
+    Few,
+}
+
+pub struct Input {
+    pub form: Form,
+    pub words: Vec<u32>,
+    /// What the questions take for R and N. A torn index may say otherwise.
+    pub rows: u32,
+    pub bitmaps: u32,
+    /// The plain words that the bodies were made of.
+    pub plain: Vec<Vec<u32>>,
+    pub effort: Effort,
+}
+
+#[derive(Clone, Copy, PartialEq, Eq)]
+enum Style {
+    Settled,
+    Wasteful,
+    Torn,
+}
+
+/// The input of a case.
+pub fn generate(random: &mut Random, long: bool) -> Input {
+    let style =
+        random.pick(&[Style::Settled, Style::Settled, Style::Wasteful, Style::Wasteful, Style::Torn, Style::Torn]);
+    if long {
+        let rows = random.between(100_000, 400_000) as u32;
+        return made(random, Form::Index, style, rows, 64, Effort::Few);
+    }
+    if random.one_in(400) {
+        return long_runs(random, style);
+    }
+    let form = match random.below(10) {
+        0..=2 => Form::Body,
+        _ => Form::Index,
+    };
+    let bitmaps = match form {
+        Form::Body => 1,
+        Form::Index => some_bitmaps(random),
+    };
+    let rows = some_rows(random, bitmaps);
+    let effort = match bitmaps * segments_of(rows) {
+        0..=150 => Effort::Full,
+        _ => Effort::Some,
+    };
+    made(random, form, style, rows, bitmaps, effort)
+}
+
+fn some_bitmaps(random: &mut Random) -> usize {
+    match random.below(40) {
+        0 => 0,
+        1..=22 => random.between(1, 4),
+        23..=35 => random.between(5, 12),
+        36..=38 => random.between(13, 63),
+        _ => 64,
+    }
+}
+
+/// Small numbers mostly, smaller ones where there are many bitmaps.
+fn some_rows(random: &mut Random, bitmaps: usize) -> u32 {
+    let most = match random.below(20) {
+        0..=3 => 40,
+        4..=12 => 200,
+        13..=17 => 700,
+        18 => 2_000,
+        _ if bitmaps > 8 => 1_000,
+        _ => 8_000,
+    };
+    match random.below(8) {
+        0 => (random.below(most) as u32 / 32) * 32,
+        _ => random.between(0, most) as u32,
+    }
+}
+
+/// Bodies at the limits of a marker's two counts. The first bitmap has the
+/// long run or the many dirty words; a second one lies beside it in an index.
+fn long_runs(random: &mut Random, style: Style) -> Input {
+    let form = random.pick(&[Form::Body, Form::Index]);
+    let mut plain = Vec::new();
+    for _ in 0..random.below(3) {
+        plain.push(some_word(random));
+    }
+    if random.one_in(2) {
+        let value = random.pick(&[0, u32::MAX]);
+        let run = random.pick(&[65_534, 65_535, 65_536, 65_537, 131_069, 131_070, 131_071, 196_605]);
+        plain.extend(std::iter::repeat_n(value, run));
+    } else {
+        let dirty = random.pick(&[32_766, 32_767, 32_768, 32_769, 65_533, 65_534, 65_535]);
+        plain.extend((0..dirty).map(|_| 1 << random.below(32)));
+    }
+    for _ in 0..random.below(4) {
+        plain.push(some_word(random));
+    }
+    let rows = (32 * plain.len() - random.below(32)) as u32;
+    mask_last(&mut plain, rows);
+    let mut all = vec![plain];
+    if form == Form::Index && random.one_in(2) {
+        let other = derived(&all, rows, random);
+        all.push(other);
+    }
+    finish(random, form, style, rows, all, Effort::Few)
+}
+
+fn made(random: &mut Random, form: Form, style: Style, rows: u32, bitmaps: usize, effort: Effort) -> Input {
+    let mut plain: Vec<Vec<u32>> = Vec::new();
+    for _ in 0..bitmaps {
+        let next = match plain.is_empty() || random.below(3) > 0 {
+            true => spelled(rows, random),
+            false => derived(&plain, rows, random),
+        };
+        plain.push(next);
+    }
+    finish(random, form, style, rows, plain, effort)
+}
+
+/// The words of the input, torn where the style says so.
+fn finish(random: &mut Random, form: Form, style: Style, rows: u32, plain: Vec<Vec<u32>>, effort: Effort) -> Input {
+    let mut bodies: Vec<Vec<u32>> = Vec::new();
+    for words in &plain {
+        bodies.push(some_body(words, rows, style, random));
+    }
+    let torn = style == Style::Torn;
+    let mut claimed = rows;
+    let words = match form {
+        Form::Index => torn_index(rows, bodies, torn, random),
+        Form::Body => {
+            let mut body = bodies.swap_remove(0);
+            if torn && random.one_in(4) {
+                claimed = tear_rows(rows, random);
+            } else if torn {
+                tear_body(&mut body, random);
+            }
+            body
+        }
+    };
+    Input { form, words, rows: claimed, bitmaps: plain.len() as u32, plain, effort }
+}
+
+/// A body of these words. A few of those that will be torn have pad bits.
+fn some_body(words: &[u32], rows: u32, style: Style, random: &mut Random) -> Vec<u32> {
+    let torn = style == Style::Torn;
+    let words = match torn && random.one_in(12) {
+        true => &with_pads(words, rows, random),
+        false => words,
+    };
+    let waste = style == Style::Wasteful || torn && random.one_in(2);
+    match waste {
+        true => wasteful(words, random),
+        false => settled(words),
+    }
+}
+
+/// The same words with pad bits set, which makes a body of them unsound.
+fn with_pads(words: &[u32], rows: u32, random: &mut Random) -> Vec<u32> {
+    let mut words = words.to_vec();
+    let some = random.word();
+    if let Some(last) = words.last_mut() {
+        *last |= random.pick(&[u32::MAX, !last_mask(rows), !last_mask(rows) & some]);
+    }
+    words
+}
+
+/// Half of the torn ones have a torn body under contents that are right.
+fn torn_index(rows: u32, mut bodies: Vec<Vec<u32>>, torn: bool, random: &mut Random) -> Vec<u32> {
+    let inside = torn && !bodies.is_empty() && random.one_in(2);
+    if inside {
+        let k = random.below(bodies.len());
+        tear_body(&mut bodies[k], random);
+    }
+    let mut words = index_of(rows, &bodies);
+    if torn && (!inside || random.one_in(4)) {
+        tear_index(&mut words, random);
+    }
+    words
+}
+
+// ---- plain words ----
+
+fn mask_last(plain: &mut [u32], rows: u32) {
+    if let Some(last) = plain.last_mut() {
+        *last &= last_mask(rows);
+    }
+}
+
+/// Any word: clean, nearly clean, or just anything.
+pub fn some_word(random: &mut Random) -> u32 {
+    match random.below(8) {
+        0 => 0,
+        1 => u32::MAX,
+        2 => 1 << random.below(32),
+        3 => !(1 << random.below(32)),
+        4 => random.word() & random.word() & random.word(),
+        5 => u32::MAX >> random.below(32),
+        _ => random.word(),
+    }
+}
+
+/// Plain words of one bitmap: runs and mixed words by a taste of its own.
+fn spelled(rows: u32, random: &mut Random) -> Vec<u32> {
+    let segments = segments_of(rows);
+    let longest = random.pick(&[1, 3, 10, 40, segments.max(1)]);
+    let mixed_share = random.below(5);
+    let mut plain = Vec::new();
+    while plain.len() < segments {
+        let length = random.between(1, longest).min(segments - plain.len());
+        if random.below(4) < mixed_share {
+            plain.extend((0..length).map(|_| some_word(random)));
+        } else {
+            let value = random.pick(&[0, 0, u32::MAX]);
+            plain.extend(std::iter::repeat_n(value, length));
+        }
+    }
+    mask_last(&mut plain, rows);
+    plain
+}
+
+/// A relative of an earlier bitmap, so that answers have clean parts too.
+fn derived(earlier: &[Vec<u32>], rows: u32, random: &mut Random) -> Vec<u32> {
+    let mut plain = earlier[random.below(earlier.len())].clone();
+    let other = &earlier[random.below(earlier.len())];
+    match random.below(4) {
+        0 => plain.iter_mut().for_each(|word| *word = !*word),
+        1 => plain.iter_mut().zip(other).for_each(|(a, b)| *a &= !b),
+        2 => plain.iter_mut().zip(other).for_each(|(a, b)| *a |= b),
+        _ => {}
+    }
+    for _ in 0..random.below(3) {
+        let at = random.below(plain.len());
+        if let Some(word) = plain.get_mut(at) {
+            *word = some_word(random);
+        }
+    }
+    mask_last(&mut plain, rows);
+    plain
+}

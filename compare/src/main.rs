@@ -1,0 +1,194 @@
+//! Compares the library with the reference on made-up inputs.
+
+mod ask;
+mod choose;
+mod encode;
+mod fixed;
+mod generate;
+mod places;
+mod program;
+mod question;
+mod random;
+mod readings;
+mod session;
+mod shrink;
+mod tear;
+
+use std::process::ExitCode;
+use std::time::Instant;
+
+use reference::Mistake;
+
+use crate::ask::Value;
+use crate::choose::ask_all;
+use crate::generate::generate;
+use crate::random::Random;
+use crate::session::{Difference, Session};
+use crate::shrink::shrink;
+
+const HELP: &str = "\
+compare SEED CASES [--mutate] [--long] [--only CASE] [--program PATH]
+
+Makes CASES indexes and bodies, always the same for one SEED, asks every
+question of the library and of the reference, and compares the results and the
+whole buffers. Then come the paper's readings and a few fixed cases, and a
+table of the refusals that were reached. Exit code 1: a difference, or a
+refusal never reached.
+
+--mutate     builds one mistake after another into the reference; each has to
+             show as a difference within CASES cases
+--long       inputs of 64 bitmaps and 100,000 to 400,000 rows (some seconds each)
+--only CASE  this one case alone, without the fixed ones and the table
+--program PATH  gives the cases' indexes to the program at PATH, and compares
+             what it writes with the reference";
+
+struct Options {
+    seed: u64,
+    cases: u64,
+    first: u64,
+    mutate: bool,
+    long: bool,
+    only: bool,
+    program: Option<String>,
+}
+
+fn options() -> Option<Options> {
+    let args: Vec<String> = std::env::args().skip(1).collect();
+    let mut options = Options {
+        seed: args.first()?.parse().ok()?,
+        cases: args.get(1)?.parse().ok()?,
+        first: 0,
+        mutate: false,
+        long: false,
+        only: false,
+        program: None,
+    };
+    let mut rest = args[2..].iter();
+    while let Some(arg) = rest.next() {
+        match arg.as_str() {
+            "--mutate" => options.mutate = true,
+            "--long" => options.long = true,
+            "--program" => options.program = Some(rest.next()?.clone()),
+            "--only" => {
+                options.first = rest.next()?.parse().ok()?;
+                options.cases = options.first + 1;
+                options.only = true;
+            }
+            _ => return None,
+        }
+    }
+    Some(options)
+}
+
+fn main() -> ExitCode {
+    let Some(options) = options() else {
+        println!("{HELP}");
+        return ExitCode::from(2);
+    };
+    // Panics are caught and shown as results.
+    std::panic::set_hook(Box::new(|_| {}));
+    let good = match (&options.program, options.mutate) {
+        (Some(path), _) => program::run(path, options.seed, options.cases),
+        (None, true) => mutate(&options),
+        (None, false) => compare(&options),
+    };
+    match good {
+        true => ExitCode::SUCCESS,
+        false => ExitCode::FAILURE,
+    }
+}
+
+/// Asks all of one case.
+fn run_case(session: &mut Session, options: &Options, case: u64) {
+    let mut random = Random::for_case(options.seed, case);
+    let input = generate(&mut random, options.long);
+    ask_all(session, &input, &mut random);
+}
+
+/// The first case with a difference.
+fn first_difference(session: &mut Session, options: &Options) -> Option<u64> {
+    (options.first..options.cases).find(|&case| {
+        run_case(session, options, case);
+        session.difference.is_some()
+    })
+}
+
+fn compare(options: &Options) -> bool {
+    let begun = Instant::now();
+    let mut session = Session::new(None);
+    let mut found = first_difference(&mut session, options).map(|case| case.to_string());
+    let ordinary = begun.elapsed().as_secs_f64();
+    if found.is_none() && !options.only {
+        fixed::run(&mut session);
+        found = session.difference.as_ref().map(|_| "fixed".to_string());
+    }
+    if let Some(case) = found {
+        let difference = session.difference.take().expect("there is one");
+        println!("DIFFERENCE  seed {}, case {case}", options.seed);
+        print_difference(&shrink(difference, None));
+        return false;
+    }
+    println!(
+        "seed {}, {} cases in {ordinary:.1} s, with the fixed ones {:.1} s: \
+         {} comparisons, no difference",
+        options.seed,
+        options.cases - options.first,
+        begun.elapsed().as_secs_f64(),
+        session.comparisons
+    );
+    options.only || readings::run() & session.reached.print()
+}
+
+/// Every mistake of the reference has to be noticed.
+fn mutate(options: &Options) -> bool {
+    let mut all = true;
+    for &mistake in Mistake::ALL {
+        let mut session = Session::new(Some(mistake));
+        match first_difference(&mut session, options) {
+            Some(case) => {
+                let difference = session.difference.expect("there is one");
+                let call = difference.question.call;
+                let name = format!("{mistake:?}");
+                let asked = session.comparisons;
+                let how = match difference.reference.result {
+                    Ok(Value::Panicked(_)) => ", by a panic",
+                    _ => "",
+                };
+                println!("{name:20} case {case:>5}, comparison {asked:>7}, by {call:?}{how}");
+            }
+            None => {
+                println!("NOT CAUGHT  {mistake:?} in {} cases", options.cases);
+                all = false;
+            }
+        }
+    }
+    all
+}
+
+fn print_difference(difference: &Difference) {
+    let (library, reference) = (&difference.library, &difference.reference);
+    println!("call       {}", difference.question.text());
+    println!("words      {}", hexadecimal(&difference.words));
+    println!("library    {:?}", library.result);
+    println!("reference  {:?}", reference.result);
+    let mut pairs = library.buffer.iter().zip(&reference.buffer);
+    if let Some(at) = pairs.position(|(a, b)| a != b) {
+        println!("the buffers differ from word {at} on");
+        println!("library    {}", hexadecimal(&library.buffer[at..]));
+        println!("reference  {}", hexadecimal(&reference.buffer[at..]));
+    }
+}
+
+/// Words in hexadecimal, equal ones taken together, a long row cut short.
+fn hexadecimal(words: &[u32]) -> String {
+    let mut text = format!("({})", words.len());
+    let runs = words.chunk_by(|a, b| a == b);
+    for (shown, run) in runs.enumerate() {
+        text += &match run.len() {
+            _ if shown == 200 => return text + " ..",
+            1 => format!(" {:x}", run[0]),
+            length => format!(" {:x}*{length}", run[0]),
+        };
+    }
+    text
+}

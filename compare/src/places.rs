@@ -1,0 +1,242 @@
+//! Which line of the paper's table a refusal belongs to, and how often each
+//! line was reached by each call.
+
+use crate::ask::Refused;
+use crate::question::{Call, Question};
+
+#[derive(Debug, Clone, Copy, PartialEq, Eq)]
+pub enum Place {
+    Answered,
+    ShortHead,
+    ShortContents,
+    WordZero,
+    TooLong,
+    Rows,
+    Bitmaps,
+    Start,
+    Length,
+    FinalEnd,
+    PastBody,
+    PastSegments,
+    Missing,
+    OnesOverPads,
+    PadInDirty,
+    PadInPlain,
+    BadNumber,
+    BadSecond,
+    BadRow,
+    BadNth,
+    ListEmpty,
+    ListLong,
+    ListNumber,
+    ThresholdZero,
+    ThresholdHigh,
+    TableShort,
+    TableLong,
+    TableEntry,
+    PlainFew,
+    PlainMany,
+    Several,
+    NoRoom,
+}
+
+use Place::*;
+
+const ALL: [(Place, &str); 32] = [
+    (Answered, "- answered"),
+    (ShortHead, "1 index below 3 words"),
+    (ShortContents, "1 index below 3 + 2N words"),
+    (WordZero, "2 word 0 isn't 1"),
+    (TooLong, "3 index too long"),
+    (Rows, "3 rows too many"),
+    (Bitmaps, "3 N too large"),
+    (Start, "4 wrong start"),
+    (Length, "4 length past the end"),
+    (FinalEnd, "4 last end before the end"),
+    (PastBody, "5 dirty words pass the body"),
+    (PastSegments, "6 marker passes the segments"),
+    (Missing, "6 segments missing at the end"),
+    (OnesOverPads, "7 ones run over pad bits"),
+    (PadInDirty, "7 pad bit in a dirty word"),
+    (PadInPlain, "7 pad bit in a plain word"),
+    (BadNumber, "8 bitmap number (first)"),
+    (BadSecond, "8 bitmap number (second)"),
+    (BadRow, "8 row number"),
+    (BadNth, "8 nth past the count"),
+    (ListEmpty, "8 list of 0"),
+    (ListLong, "8 list of more than 64"),
+    (ListNumber, "8 bitmap number in a list"),
+    (ThresholdZero, "8 T of 0"),
+    (ThresholdHigh, "8 T above the list"),
+    (TableShort, "8 table too short"),
+    (TableLong, "8 table too long"),
+    (TableEntry, "8 table entry not 0 or 1"),
+    (PlainFew, "8 plain words too few"),
+    (PlainMany, "8 plain words too many"),
+    (Several, "8 several of these at once"),
+    (NoRoom, "9 answer doesn't fit"),
+];
+
+/// Can this call be refused so?
+fn possible(place: Place, call: Call) -> bool {
+    let body = call.of_body() || call.of_index();
+    match place {
+        Answered => true,
+        ShortHead | ShortContents | WordZero | TooLong | Bitmaps => call.of_index(),
+        Start | Length | FinalEnd => call.of_index(),
+        Rows => true,
+        PastBody | PastSegments | Missing | OnesOverPads | PadInDirty => body,
+        PadInPlain | PlainFew | PlainMany => call == Call::Compress,
+        BadNumber => call.of_index() && !call.of_list() && call != Call::Check,
+        BadSecond => call.of_two(),
+        BadRow => matches!(call, Call::BodyRow | Call::Row),
+        BadNth => matches!(call, Call::BodyNth | Call::Nth),
+        ListEmpty | ListLong | ListNumber => call.of_list(),
+        ThresholdZero | ThresholdHigh => call == Call::Threshold,
+        TableShort | TableLong | TableEntry => call == Call::Symmetric,
+        Several => call.of_two() || matches!(call, Call::Row | Call::Threshold | Call::Symmetric),
+        NoRoom => call.writes(),
+    }
+}
+
+// ---- finding the place ----
+
+/// The place of this result. `words` are those the question was asked of.
+pub fn place_of(words: &[u32], question: &Question, refused: Option<Refused>) -> Place {
+    let Some((number, bitmap, word)) = refused else {
+        return Answered;
+    };
+    let word = word as usize;
+    match number {
+        1 if word < 3 => ShortHead,
+        1 => ShortContents,
+        2 => WordZero,
+        3 if !question.call.of_index() || word == 1 => Rows,
+        3 if word == 0 => TooLong,
+        3 => Bitmaps,
+        4 if word >= 3 + 2 * words[2] as usize => FinalEnd,
+        4 if word % 2 == 1 => Start,
+        4 => Length,
+        5 => PastBody,
+        6 | 7 if question.call == Call::Compress => PadInPlain,
+        6 | 7 => in_body(words, question, number, bitmap as usize, word),
+        8 => bad_argument(words, question),
+        _ => NoRoom,
+    }
+}
+
+fn in_body(words: &[u32], question: &Question, number: u32, bitmap: usize, word: usize) -> Place {
+    let (start, end) = match question.call.of_index() {
+        true => {
+            let start = words[3 + 2 * bitmap] as usize;
+            (start, start + words[4 + 2 * bitmap] as usize)
+        }
+        false => (0, words.len()),
+    };
+    if number == 6 {
+        return if word == end { Missing } else { PastSegments };
+    }
+    let mut marker = start;
+    while marker < word {
+        marker += 1 + (words[marker] >> 17) as usize;
+    }
+    match marker == word {
+        true => OnesOverPads,
+        false => PadInDirty,
+    }
+}
+
+/// The one thing that is wrong with the arguments, or `Several`.
+fn bad_argument(words: &[u32], question: &Question) -> Place {
+    let mut faults = match question.call.of_index() {
+        true => bad_numbers(words, question),
+        false => Vec::new(),
+    };
+    faults.extend(bad_others(words, question));
+    match faults[..] {
+        [one] => one,
+        _ => Several,
+    }
+}
+
+/// Those of these places whose condition holds.
+fn holding<const N: usize>(all: [(bool, Place); N]) -> Vec<Place> {
+    let bad = all.into_iter().filter(|(bad, _)| *bad);
+    bad.map(|(_, place)| place).collect()
+}
+
+/// What is wrong with the bitmap numbers and the row asked of an index.
+fn bad_numbers(words: &[u32], question: &Question) -> Vec<Place> {
+    let (call, list, n) = (question.call, &question.list, words[2]);
+    let bad = |at: usize| list.get(at).is_some_and(|&k| k >= n);
+    holding([
+        (!call.of_list() && bad(0), BadNumber),
+        (call.of_two() && bad(1), BadSecond),
+        (call == Call::Row && question.number >= words[1], BadRow),
+        (call == Call::Nth && !bad(0), BadNth),
+        (call.of_list() && list.is_empty(), ListEmpty),
+        (call.of_list() && list.len() > 64, ListLong),
+        (call.of_list() && list.iter().any(|&k| k >= n), ListNumber),
+    ])
+}
+
+/// What is wrong with other arguments.
+fn bad_others(words: &[u32], question: &Question) -> Vec<Place> {
+    let (call, table) = (question.call, &question.table);
+    let (length, t) = (question.list.len(), question.number as usize);
+    let segments = (question.rows as usize).div_ceil(32);
+    // No T fits an empty list, so there it is the list that counts.
+    let threshold = call == Call::Threshold && length > 0;
+    let symmetric = call == Call::Symmetric;
+    let compress = call == Call::Compress;
+    holding([
+        (call == Call::BodyRow, BadRow),
+        (call == Call::BodyNth, BadNth),
+        (compress && words.len() < segments, PlainFew),
+        (compress && words.len() > segments, PlainMany),
+        (threshold && t == 0, ThresholdZero),
+        (threshold && t > length, ThresholdHigh),
+        (symmetric && table.len() < length + 1, TableShort),
+        (symmetric && table.len() > length + 1, TableLong),
+        (symmetric && table.iter().any(|&e| e > 1), TableEntry),
+    ])
+}
+
+// ---- counting ----
+
+/// Comparisons by place and call.
+pub struct Reached([[u64; Call::ALL.len()]; ALL.len()]);
+
+impl Reached {
+    pub fn new() -> Reached {
+        Reached([[0; Call::ALL.len()]; ALL.len()])
+    }
+
+    pub fn add(&mut self, place: Place, call: Call) {
+        self.0[place as usize][call as usize] += 1;
+    }
+
+    /// Prints the table; true if every place was reached by every call that can.
+    pub fn print(&self) -> bool {
+        println!("{:32} {:>12}  calls", "refusal", "comparisons");
+        let mut missed = Vec::new();
+        for (place, name) in ALL {
+            let counts = &self.0[place as usize];
+            let can: Vec<Call> = Call::ALL.into_iter().filter(|&c| possible(place, c)).collect();
+            let did = can.iter().filter(|&&c| counts[c as usize] > 0).count();
+            let total: u64 = counts.iter().sum();
+            println!("{name:32} {total:>12}  {did} of {}", can.len());
+            let never = can.into_iter().filter(|&c| counts[c as usize] == 0);
+            missed.extend(never.map(|c| format!("{name}: never by {c:?}")));
+        }
+        let writers = Call::ALL.into_iter().filter(|c| c.writes());
+        for call in writers {
+            let refused = self.0[NoRoom as usize][call as usize];
+            println!("{:32} {refused:>12}", format!("9 by {call:?}"));
+        }
+        for line in &missed {
+            println!("NOT REACHED  {line}");
+        }
+        missed.is_empty()
+    }
+}

@@ -1,0 +1,111 @@
+//! Runs the program on many inputs and compares its output, byte for byte, with the reference's.
+
+use std::collections::BTreeMap;
+use std::io::Write;
+use std::process::{Command, Stdio};
+use std::time::Instant;
+
+use crate::fixed::LOOPED;
+use crate::generate::{generate, Form};
+use crate::random::Random;
+
+/// What the program writes for this input.
+fn output(program: &str, input: &[u8]) -> Vec<u8> {
+    let mut child =
+        Command::new(program).stdin(Stdio::piped()).stdout(Stdio::piped()).spawn().expect("the program starts");
+    let mut stdin = child.stdin.take().expect("it has an input");
+    let bytes = input.to_vec();
+    // Input that it leaves unread is no fault.
+    let feeder = std::thread::spawn(move || stdin.write_all(&bytes).ok());
+    let told = child.wait_with_output().expect("it ends").stdout;
+    feeder.join().expect("the input was fed");
+    told
+}
+
+/// T and an index, lowest byte first.
+fn question(t: u32, index: &[u32]) -> Vec<u8> {
+    std::iter::once(&t).chain(index).flat_map(|word| word.to_le_bytes()).collect()
+}
+
+/// One bitmap with this body.
+fn single(rows: u32, body: &[u32]) -> Vec<u32> {
+    [&[1, rows, 1, 5, body.len() as u32], body].concat()
+}
+
+/// Idle markers before a body, so that the whole input has so many bytes.
+fn padded(bytes: usize) -> Vec<u8> {
+    let body = [&vec![0; bytes / 4 - 6 - 2][..], &[0x0002_0000, 0x5]].concat();
+    question(1, &single(4, &body))
+}
+
+/// All rows of the longest bitmap there can be.
+fn all_rows() -> Vec<u8> {
+    let markers = [&[0x0001_FFFF; 8][..], &[0x0000_0011]].concat();
+    question(1, &single(16_777_216, &markers))
+}
+
+/// Inputs that every run tries.
+fn fixed() -> Vec<Vec<u8>> {
+    let mut inputs: Vec<Vec<u8>> = (0..=5).map(|n| vec![1; n]).collect();
+    inputs.extend((0..=4).map(|t| question(t, &LOOPED)));
+    for at in 0..LOOPED.len() {
+        for to in [0, 1, LOOPED[at].wrapping_sub(1), LOOPED[at] + 1, 0x10_0000_00, u32::MAX] {
+            let mut words = LOOPED;
+            words[at] = to;
+            inputs.push(question(2, &words));
+        }
+    }
+    inputs.extend((0..LOOPED.len()).map(|n| question(2, &LOOPED[..n])));
+    inputs.extend([
+        question(1, &[1, 7, 0]),
+        question(0, &[1, 7, 0]),
+        question(1, &single(0, &[])),
+        question(1, &single(0, &[0])),
+    ]);
+    inputs.extend([65_532, 65_536].map(padded));
+    inputs.extend([65_537, 65_540, 200_000].map(|n| vec![0; n]));
+    inputs.extend([65_535, 65_534].map(|n| padded(65_536)[..n].to_vec()));
+    inputs.push(all_rows());
+    inputs
+}
+
+/// The first word of a refusal's line, or what an answer begins with.
+fn kind(told: &[u8]) -> String {
+    let line = told.split(|b| *b == b'\n').next().unwrap_or(&[]);
+    let text = String::from_utf8_lossy(line).into_owned();
+    match text.split(' ').collect::<Vec<_>>()[..] {
+        ["refused", number, ..] => format!("refused {number}"),
+        _ => "answered".to_string(),
+    }
+}
+
+/// The indexes of a seed's cases, and the fixed inputs. Fails on a difference, or if a refusal from 1 to 8 was not reached.
+pub fn run(program: &str, seed: u64, cases: u64) -> bool {
+    let begun = Instant::now();
+    let mut inputs = fixed();
+    for case in 0..cases {
+        let mut random = Random::for_case(seed, case);
+        let input = generate(&mut random, false);
+        let t = random.between(0, input.bitmaps as usize + 1) as u32;
+        if input.form == Form::Index {
+            inputs.push(question(t, &input.words));
+        }
+    }
+    let mut reached = BTreeMap::new();
+    for (i, input) in inputs.iter().enumerate() {
+        let (told, expected) = (output(program, input), reference::program(input));
+        if told != expected {
+            println!("DIFFERENCE  input {i} of {} bytes: {:?}", input.len(), &input[..input.len().min(200)]);
+            println!("program    {:?}", String::from_utf8_lossy(&told[..told.len().min(200)]));
+            println!("reference  {:?}", String::from_utf8_lossy(&expected[..expected.len().min(200)]));
+            return false;
+        }
+        *reached.entry(kind(&told)).or_insert(0) += 1;
+    }
+    println!(
+        "{} inputs of the program in {:.1} s, no difference: {reached:?}",
+        inputs.len(),
+        begun.elapsed().as_secs_f64()
+    );
+    (1..=8).all(|number| reached.contains_key(&format!("refused {number}"))) && reached.contains_key("answered")
+}

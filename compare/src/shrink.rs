@@ -1,0 +1,111 @@
+//! Makes a difference smaller while it stays a difference.
+
+use reference::Mistake;
+
+use crate::ask::{ask_library, ask_reference, Outcome, Value};
+use crate::question::Question;
+use crate::session::Difference;
+
+/// Tries in all.
+const TRIES: usize = 4_000;
+
+/// Answered, panicked, or the number of the refusal.
+fn sort(outcome: &Outcome) -> u32 {
+    match outcome.result {
+        Ok(Value::Panicked(_)) => 10,
+        Ok(_) => 0,
+        Err((number, _, _)) => number,
+    }
+}
+
+/// Asks again; the difference if there still is one of the same sort.
+fn again(old: &Difference, new: Candidate, mistake: Option<Mistake>) -> Option<Difference> {
+    let (words, question) = new;
+    let library = ask_library(&words, &question);
+    let reference = ask_reference(&words, &question, mistake);
+    let same = sort(&library) == sort(&old.library) && sort(&reference) == sort(&old.reference);
+    (same && library != reference).then_some(Difference { words, question, library, reference })
+}
+
+/// One thing after another left out or set to zero.
+pub fn shrink(mut difference: Difference, mistake: Option<Mistake>) -> Difference {
+    let mut tries = TRIES;
+    loop {
+        let smaller = candidates(&difference)
+            .into_iter()
+            .take(tries)
+            .inspect(|_| tries -= 1)
+            .find_map(|candidate| again(&difference, candidate, mistake));
+        match smaller {
+            Some(found) => difference = found,
+            None => return difference,
+        }
+    }
+}
+
+type Candidate = (Vec<u32>, Question);
+
+fn candidates(difference: &Difference) -> Vec<Candidate> {
+    let (words, question) = (&difference.words, &difference.question);
+    let mut all = Vec::new();
+    if question.call.of_list() {
+        for at in 0..question.list.len() {
+            let mut less = question.clone();
+            less.list.remove(at);
+            less.number = less.number.min(less.list.len() as u32);
+            less.table.truncate(less.list.len() + 1);
+            all.push((words.clone(), less));
+        }
+    }
+    if words.len() > 2_000 {
+        return all;
+    }
+    if question.call.of_index() {
+        let n = words.get(2).copied().unwrap_or(0).min(64);
+        all.extend((0..n).filter_map(|k| without_bitmap(words, question, k as usize)));
+    } else {
+        all.extend((0..words.len()).map(|at| without(words, question, at)));
+    }
+    for at in (0..words.len()).rev().filter(|&at| words[at] != 0) {
+        let mut zeroed = words.clone();
+        zeroed[at] = 0;
+        all.push((zeroed, question.clone()));
+    }
+    all
+}
+
+/// One word left out of a lone body, or of plain words with their rows.
+fn without(words: &[u32], question: &Question, at: usize) -> Candidate {
+    let mut less = words.to_vec();
+    less.remove(at);
+    let mut question = question.clone();
+    question.rows = question.rows.saturating_sub(32);
+    (less, question)
+}
+
+/// A bitmap that isn't named left out of an index, if its contents allow.
+fn without_bitmap(words: &[u32], question: &Question, k: usize) -> Option<Candidate> {
+    if question.list.contains(&(k as u32)) {
+        return None;
+    }
+    let n = words[2] as usize;
+    let start = *words.get(3 + 2 * k)? as usize;
+    let length = *words.get(4 + 2 * k)?;
+    let end = start.checked_add(length as usize)?;
+    if start < 3 + 2 * n || end > words.len() {
+        return None;
+    }
+    let mut less = words.to_vec();
+    less.drain(start..end);
+    less.drain(3 + 2 * k..5 + 2 * k);
+    less[2] -= 1;
+    for other in 0..n - 1 {
+        let by = if other < k { 2 } else { 2 + length };
+        less[3 + 2 * other] = less[3 + 2 * other].wrapping_sub(by);
+    }
+    let mut question = question.clone();
+    for number in question.list.iter_mut().filter(|number| **number > k as u32) {
+        *number -= 1;
+    }
+    Some((less, question))
+}

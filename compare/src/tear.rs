@@ -1,0 +1,137 @@
+//! Spoils sound bodies and indexes.
+
+use crate::random::Random;
+
+const EXTREMES: [u32; 16] = [
+    0,
+    1,
+    2,
+    3,
+    64,
+    65,
+    0x0001_FFFE,
+    0x0001_FFFF,
+    0x0002_0000,
+    0x0100_0000,
+    0x0100_0001,
+    0x7FFF_FFFF,
+    0x8000_0000,
+    0xFFFE_0000,
+    0xFFFF_FFFE,
+    0xFFFF_FFFF,
+];
+
+/// The same word, a little or entirely different.
+fn other_word(word: u32, random: &mut Random) -> u32 {
+    match random.below(11) {
+        0 => word.wrapping_add(1),
+        1 => word.wrapping_sub(1),
+        2 => word.wrapping_add(2),
+        3 => word.wrapping_sub(2),
+        4 => word.wrapping_add(1 << 17),
+        5 => word.wrapping_sub(1 << 17),
+        6 => word ^ (1 << random.below(32)),
+        7 => word | (1 << 31),
+        8 => word ^ 1,
+        9 => random.word(),
+        _ => random.pick(&EXTREMES),
+    }
+}
+
+fn change(words: &mut [u32], random: &mut Random) {
+    let at = random.below(words.len());
+    if let Some(word) = words.get_mut(at) {
+        *word = other_word(*word, random);
+    }
+}
+
+fn cut(words: &mut Vec<u32>, random: &mut Random) {
+    let by = match random.below(4) {
+        0 => random.between(0, words.len()),
+        _ => random.between(1, 3),
+    };
+    words.truncate(words.len().saturating_sub(by));
+}
+
+fn append(words: &mut Vec<u32>, random: &mut Random) {
+    for _ in 0..random.between(1, 3) {
+        let word = random.word();
+        words.push(random.pick(&[0, 1, 2, word, u32::MAX]));
+    }
+}
+
+/// One to three faults in a body. It may turn out sound all the same.
+pub fn tear_body(words: &mut Vec<u32>, random: &mut Random) {
+    for _ in 0..random.pick(&[1, 1, 2, 3]) {
+        match random.below(10) {
+            0..=5 => change(words, random),
+            6 => cut(words, random),
+            7 => append(words, random),
+            8 if !words.is_empty() => {
+                words.remove(random.below(words.len()));
+            }
+            _ => words.insert(random.between(0, words.len()), random.word()),
+        }
+    }
+}
+
+/// One to three faults anywhere in an index.
+pub fn tear_index(words: &mut Vec<u32>, random: &mut Random) {
+    for _ in 0..random.pick(&[1, 1, 2, 3]) {
+        match random.below(12) {
+            0 => head(words, 0, random),
+            1 => head(words, 1, random),
+            2 => head(words, 2, random),
+            3..=5 => entry(words, random),
+            6 => cut(words, random),
+            7 => append(words, random),
+            _ => change(words, random),
+        }
+    }
+}
+
+/// Word 0, the rows or N changed.
+fn head(words: &mut [u32], at: usize, random: &mut Random) {
+    if let Some(word) = words.get_mut(at) {
+        *word = match at {
+            1 => tear_rows(*word, random),
+            _ => other_word(*word, random),
+        };
+    }
+}
+
+/// A start, a length or both changed by one, or to something extreme.
+fn entry(words: &mut [u32], random: &mut Random) {
+    let end = words.len().min(3 + 2 * *words.get(2).unwrap_or(&0) as usize);
+    if end <= 3 {
+        return;
+    }
+    let at = random.between(3, end - 1);
+    words[at] = other_place(words[at], random);
+    if at % 2 == 1 && at + 1 < end && random.one_in(3) {
+        words[at + 1] = other_place(words[at + 1], random);
+    }
+}
+
+fn other_place(word: u32, random: &mut Random) -> u32 {
+    match random.below(4) {
+        0 => word.wrapping_add(1),
+        1 => word.wrapping_sub(1),
+        2 => u32::MAX - random.below(80) as u32,
+        _ => random.pick(&EXTREMES),
+    }
+}
+
+/// Other rows, near or far.
+pub fn tear_rows(rows: u32, random: &mut Random) -> u32 {
+    match random.below(8) {
+        0 => rows.wrapping_add(1),
+        1 => rows.wrapping_sub(1),
+        2 => rows.wrapping_add(32),
+        3 => rows.wrapping_sub(32),
+        4 => rows ^ (1 << random.below(6)),
+        5 => 16_777_217 + random.below(2) as u32 * random.word() / 2,
+        6 => random.word(),
+        _ => random.pick(&EXTREMES),
+    }
+}

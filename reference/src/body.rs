@@ -1,0 +1,353 @@
+//! One body: checking, reading, writing.
+
+use crate::mistakes::{mistaken, Mistake};
+use crate::refusal::{bad_argument, must_fit, refusal, too_many_rows, Refusal};
+
+pub(crate) const MOST_ROWS: u32 = 16_777_216;
+const MOST_CLEAN: usize = 65_535;
+const MOST_DIRTY: usize = 32_767;
+
+// ---- markers ----
+
+struct Marker {
+    value: bool,
+    clean: usize,
+    dirty: usize,
+}
+
+/// Bit 0, bits 1 to 16, bits 17 to 31.
+fn marker_of(word: u32) -> Marker {
+    Marker { value: word & 1 == 1, clean: ((word >> 1) & 0xFFFF) as usize, dirty: (word >> 17) as usize }
+}
+
+/// The fields are added up, so that a count too large spills as it would.
+fn word_of(marker: Marker) -> u32 {
+    let sum = u64::from(marker.value) + ((marker.clean as u64) << 1) + ((marker.dirty as u64) << 17);
+    sum as u32
+}
+
+// ---- shapes ----
+
+/// S, the number of segments of `rows` rows.
+pub(crate) fn segments_of(rows: u32) -> usize {
+    (rows as usize).div_ceil(32)
+}
+
+/// The pad bits of the last segment; zero where it has none.
+fn pad_mask(rows: u32) -> u32 {
+    match rows % 32 {
+        0 => 0,
+        used => u32::MAX << used,
+    }
+}
+
+// ---- checking ----
+
+/// Checks the words of one body. `base` is the place of its first word and
+/// `bitmap` its number, for the refusal only. The rows are known to be few enough.
+pub(crate) fn check_words(body: &[u32], rows: u32, bitmap: u32, base: usize) -> Result<(), Refusal> {
+    let fault = |number, place: usize| Err(refusal(number, bitmap, base + place));
+    let pads = pad_mask(rows);
+    let mut left = segments_of(rows);
+    let mut at = 0;
+    while at < body.len() {
+        let marker = marker_of(body[at]);
+        let past_body = at + 1 + marker.dirty > body.len();
+        let past_segments = marker.clean + marker.dirty > left;
+        if mistaken(Mistake::SixBeforeFive) && past_segments {
+            return fault(6, at);
+        }
+        if past_body {
+            return fault(5, at);
+        }
+        if past_segments {
+            return fault(6, at);
+        }
+        if mistaken(Mistake::IdleMarkerRefused) && marker.clean == 0 && marker.dirty == 0 {
+            return fault(6, at);
+        }
+        let covers_last = marker.clean > 0 && marker.clean == left;
+        if marker.value && covers_last && pads != 0 && !mistaken(Mistake::OnesRunOverPads) {
+            return fault(7, at);
+        }
+        at += 1;
+        left -= marker.clean;
+        for _ in 0..marker.dirty {
+            if left == 1 && body[at] & pads != 0 {
+                return fault(7, at);
+            }
+            at += 1;
+            left -= 1;
+        }
+    }
+    if left > 0 {
+        if mistaken(Mistake::MissingAtLastWord) {
+            return fault(6, body.len().saturating_sub(1));
+        }
+        return fault(6, body.len());
+    }
+    Ok(())
+}
+
+/// Checks a body that stands alone.
+pub fn check_body(body: &[u32], rows: u32) -> Result<(), Refusal> {
+    if rows > MOST_ROWS {
+        return Err(too_many_rows());
+    }
+    check_words(body, rows, 0, 0)
+}
+
+// ---- reading ----
+
+/// A run, or a dirty word by itself.
+pub(crate) struct Piece {
+    /// The segment at which it ends.
+    pub last: usize,
+    pub dirty: bool,
+}
+
+/// A sound body, taken apart.
+pub(crate) struct Body {
+    /// One bool a row.
+    pub rows: Vec<bool>,
+    pub pieces: Vec<Piece>,
+}
+
+/// Takes a sound body apart.
+pub(crate) fn read(body: &[u32], rows: u32) -> Body {
+    let mut bits = Vec::new();
+    let mut pieces = Vec::new();
+    let mut segment = 0;
+    let mut at = 0;
+    while at < body.len() {
+        let marker = marker_of(body[at]);
+        at += 1;
+        if marker.clean > 0 {
+            bits.extend(std::iter::repeat_n(marker.value, 32 * marker.clean));
+            segment += marker.clean;
+            pieces.push(Piece { last: segment - 1, dirty: false });
+        }
+        for _ in 0..marker.dirty {
+            let word = body[at];
+            at += 1;
+            bits.extend((0..32).map(|bit| (word >> bit) & 1 == 1));
+            segment += 1;
+            pieces.push(Piece { last: segment - 1, dirty: true });
+        }
+    }
+    // Pads are no rows. The mistake keeps them, set where a ones run lies there.
+    if !mistaken(Mistake::OnesRunOverPads) {
+        bits.truncate(rows as usize);
+    }
+    Body { rows: bits, pieces }
+}
+
+/// A lone body, checked and then taken apart.
+fn read_alone(body: &[u32], rows: u32) -> Result<Body, Refusal> {
+    check_body(body, rows)?;
+    Ok(read(body, rows))
+}
+
+// ---- questions on one body's rows ----
+
+pub(crate) fn row_in(bits: &[bool], rows: u32, row: u32) -> Result<bool, Refusal> {
+    if row == rows && mistaken(Mistake::RowPastEndFalse) {
+        return Ok(false);
+    }
+    if row >= rows {
+        return Err(bad_argument());
+    }
+    Ok(bits[row as usize])
+}
+
+pub(crate) fn count_in(bits: &[bool]) -> u32 {
+    bits.iter().filter(|&&set| set).count() as u32
+}
+
+pub(crate) fn nth_in(bits: &[bool], n: u32) -> Result<u32, Refusal> {
+    let mut set = (0..bits.len()).filter(|&row| bits[row]);
+    if mistaken(Mistake::NthPastGivesLast) && n >= count_in(bits) {
+        return set.next_back().map(|row| row as u32).ok_or(bad_argument());
+    }
+    set.nth(n as usize).map(|row| row as u32).ok_or(bad_argument())
+}
+
+/// Plain words of rows; bits past the last row are zero.
+pub(crate) fn plain_words(bits: &[bool]) -> Vec<u32> {
+    let word = |rows: &[bool]| (0..rows.len()).filter(|&bit| rows[bit]).map(|bit| 1 << bit).sum();
+    bits.chunks(32).map(word).collect()
+}
+
+pub(crate) fn expand_rows(bits: &[bool], rows: u32, room: usize) -> Result<Vec<u32>, Refusal> {
+    must_fit(segments_of(rows), room)?;
+    Ok(plain_words(bits))
+}
+
+/// Has a lone body this row?
+pub fn body_row(body: &[u32], rows: u32, row: u32) -> Result<bool, Refusal> {
+    row_in(&read_alone(body, rows)?.rows, rows, row)
+}
+
+/// How many rows a lone body has.
+pub fn body_count(body: &[u32], rows: u32) -> Result<u32, Refusal> {
+    Ok(count_in(&read_alone(body, rows)?.rows))
+}
+
+/// The nth set row of a lone body, from 0.
+pub fn body_nth(body: &[u32], rows: u32, n: u32) -> Result<u32, Refusal> {
+    nth_in(&read_alone(body, rows)?.rows, n)
+}
+
+/// A lone body as plain words.
+pub fn expand(body: &[u32], rows: u32, room: usize) -> Result<Vec<u32>, Refusal> {
+    expand_rows(&read_alone(body, rows)?.rows, rows, room)
+}
+
+// ---- writing ----
+
+#[derive(Debug, Clone, Copy, PartialEq, Eq)]
+pub(crate) enum Segment {
+    Clean(bool),
+    Mixed(u32),
+}
+
+pub(crate) fn segment_of(word: u32) -> Segment {
+    match word {
+        0 => Segment::Clean(false),
+        u32::MAX => Segment::Clean(true),
+        _ => Segment::Mixed(word),
+    }
+}
+
+/// The settled body of these segments.
+pub(crate) fn settle(segments: &[Segment]) -> Vec<u32> {
+    let most_clean = if mistaken(Mistake::RunCarries) { MOST_CLEAN + 1 } else { MOST_CLEAN };
+    let most_dirty = if mistaken(Mistake::FullMarkerOneMore) { MOST_DIRTY + 1 } else { MOST_DIRTY };
+    settle_within(segments, most_clean, most_dirty)
+}
+
+/// The same for any two limits of a marker's counts.
+fn settle_within(segments: &[Segment], most_clean: usize, most_dirty: usize) -> Vec<u32> {
+    let mut words = Vec::new();
+    let mut at = 0;
+    while at < segments.len() {
+        // The longest clean run from here; none where the body begins mixed.
+        let (value, mut run) = clean_run(&segments[at..]);
+        at += run;
+        let mixed = mixed_words(&segments[at..]);
+        at += mixed.len();
+
+        // The run's markers; the last one carries what it can of the dirty words.
+        while run > most_clean {
+            words.push(word_of(Marker { value, clean: most_clean, dirty: 0 }));
+            run -= most_clean;
+        }
+        let (carried, further) = mixed.split_at(mixed.len().min(most_dirty));
+        words.push(word_of(Marker { value, clean: run, dirty: carried.len() }));
+        words.extend(carried);
+
+        // The rest under markers without clean segments.
+        for part in further.chunks(most_dirty) {
+            words.push(word_of(Marker { value: false, clean: 0, dirty: part.len() }));
+            words.extend(part);
+        }
+    }
+    words
+}
+
+/// Value and length of the clean run at the front; (false, 0) if there is none.
+fn clean_run(segments: &[Segment]) -> (bool, usize) {
+    match segments[0] {
+        Segment::Mixed(_) => (false, 0),
+        Segment::Clean(value) => {
+            let same = segments.iter().take_while(|&&s| s == Segment::Clean(value));
+            (value, same.count())
+        }
+    }
+}
+
+/// The mixed segments at the front.
+fn mixed_words(segments: &[Segment]) -> Vec<u32> {
+    let mut words = Vec::new();
+    for segment in segments {
+        match segment {
+            Segment::Mixed(word) => words.push(*word),
+            Segment::Clean(_) => break,
+        }
+    }
+    words
+}
+
+/// The settled body of plain words.
+pub fn compress(rows: u32, plain: &[u32], room: usize) -> Result<Vec<u32>, Refusal> {
+    if rows > MOST_ROWS {
+        return Err(too_many_rows());
+    }
+    if plain.len() != segments_of(rows) {
+        return Err(bad_argument());
+    }
+    if let Some(last) = plain.last() {
+        if last & pad_mask(rows) != 0 {
+            return Err(refusal(7, 0, plain.len() - 1));
+        }
+    }
+    let segments: Vec<Segment> = plain.iter().map(|&word| segment_of(word)).collect();
+    let words = settle(&segments);
+    must_fit(words.len(), room)?;
+    Ok(words)
+}
+
+#[cfg(test)]
+mod tests {
+    use super::*;
+
+    /// The fewest words of any body that spells these segments, by trying
+    /// every first marker.
+    fn fewest(segments: &[Segment], most_clean: usize, most_dirty: usize) -> usize {
+        let n = segments.len();
+        let mut best = vec![usize::MAX; n + 1];
+        best[n] = 0;
+        for at in (0..n).rev() {
+            for value in [false, true] {
+                for clean in 0..=most_clean.min(n - at) {
+                    if segments[at..at + clean].iter().any(|&s| s != Segment::Clean(value)) {
+                        break;
+                    }
+                    for dirty in 0..=most_dirty.min(n - at - clean) {
+                        if clean + dirty > 0 {
+                            let rest = best[at + clean + dirty];
+                            best[at] = best[at].min(1 + dirty + rest);
+                        }
+                    }
+                }
+            }
+        }
+        best[0]
+    }
+
+    #[test]
+    fn settled_has_the_fewest_words_of_all() {
+        let kinds = [Segment::Clean(false), Segment::Clean(true), Segment::Mixed(6)];
+        let limits = [(1, 1), (1, 2), (2, 1), (2, 2), (3, 2), (2, 3), (5, 3), (65_535, 32_767)];
+        for length in 0..=8u32 {
+            for code in 0..3usize.pow(length) {
+                let segments: Vec<Segment> = (0..length).map(|place| kinds[code / 3usize.pow(place) % 3]).collect();
+                for (clean, dirty) in limits {
+                    let settled = settle_within(&segments, clean, dirty);
+                    assert_eq!(settled.len(), fewest(&segments, clean, dirty), "{segments:?}");
+                }
+            }
+        }
+    }
+
+    #[test]
+    fn marker_fields() {
+        let m = marker_of(0xFFFE_0000);
+        assert_eq!((m.value, m.clean, m.dirty), (false, 0, 32_767));
+        let m = marker_of(0x0001_FFFF);
+        assert_eq!((m.value, m.clean, m.dirty), (true, 65_535, 0));
+        for word in [0, 1, 2, 0x2_0000, 0x1_FFFE, 0xFFFE_0001, u32::MAX, 0x1234_5678] {
+            assert_eq!(word_of(marker_of(word)), word);
+        }
+    }
+}

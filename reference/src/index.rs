@@ -1,0 +1,123 @@
+//! The index: contents, then bodies.
+
+use std::ops::Range;
+
+use crate::body::{self, check_words, count_in, expand_rows, nth_in, row_in, Body, MOST_ROWS};
+use crate::mistakes::{mistaken, Mistake};
+use crate::refusal::{bad_argument, refusal, too_many_rows, Refusal};
+
+const MOST_WORDS: usize = 67_108_864;
+const MOST_BITMAPS: u32 = 64;
+
+/// A sound index.
+pub(crate) struct Index<'a> {
+    pub rows: u32,
+    words: &'a [u32],
+    parts: Vec<Range<usize>>,
+}
+
+impl Index<'_> {
+    /// Where bitmap `k` lies.
+    pub fn part(&self, k: u32) -> Result<Range<usize>, Refusal> {
+        self.parts.get(k as usize).cloned().ok_or(bad_argument())
+    }
+
+    /// Bitmap `k`, taken apart.
+    pub fn body(&self, k: u32) -> Result<Body, Refusal> {
+        Ok(body::read(&self.words[self.part(k)?], self.rows))
+    }
+
+    pub fn bitmaps(&self) -> u32 {
+        self.parts.len() as u32
+    }
+}
+
+/// Checks everything, in the order the refusals have.
+pub(crate) fn open(words: &[u32]) -> Result<Index<'_>, Refusal> {
+    let length = words.len();
+    if length > MOST_WORDS {
+        return Err(refusal(3, 0, 0));
+    }
+    if length < 3 {
+        return Err(refusal(1, 0, length));
+    }
+    if words[0] != 1 {
+        return Err(refusal(2, 0, 0));
+    }
+    let rows = words[1];
+    if rows > MOST_ROWS {
+        return Err(too_many_rows());
+    }
+    if words[2] > MOST_BITMAPS {
+        return Err(refusal(3, 0, 2));
+    }
+    let bitmaps = words[2] as usize;
+    if length < 3 + 2 * bitmaps {
+        return Err(refusal(1, 0, length));
+    }
+    let parts = contents(words, bitmaps)?;
+    for (k, part) in parts.iter().enumerate() {
+        check_words(&words[part.clone()], rows, k as u32, part.start)?;
+    }
+    Ok(Index { rows, words, parts })
+}
+
+/// The bodies' places, entry by entry.
+fn contents(words: &[u32], bitmaps: usize) -> Result<Vec<Range<usize>>, Refusal> {
+    let mut parts = Vec::new();
+    let mut end = 3 + 2 * bitmaps;
+    for k in 0..bitmaps {
+        let start_place = 3 + 2 * k;
+        let length_place = start_place + 1;
+        let start = words[start_place] as usize;
+        let length = words[length_place] as usize;
+        let too_long = end as u64 + length as u64 > words.len() as u64;
+        if mistaken(Mistake::LengthBeforeStart) && too_long {
+            return Err(refusal(4, k as u32, length_place));
+        }
+        if start != end {
+            return Err(refusal(4, k as u32, start_place));
+        }
+        if too_long {
+            return Err(refusal(4, k as u32, length_place));
+        }
+        end += length;
+        parts.push(start..end);
+    }
+    if end < words.len() && !mistaken(Mistake::FinalEndUnchecked) {
+        return Err(refusal(4, 0, end));
+    }
+    Ok(parts)
+}
+
+/// Checks a whole index.
+pub fn check(index: &[u32]) -> Result<(), Refusal> {
+    open(index).map(|_| ())
+}
+
+/// The places of bitmap `k`'s body in the index.
+pub fn bitmap(index: &[u32], k: u32) -> Result<Range<usize>, Refusal> {
+    open(index)?.part(k)
+}
+
+/// Has bitmap `k` this row?
+pub fn row(index: &[u32], k: u32, row: u32) -> Result<bool, Refusal> {
+    let index = open(index)?;
+    row_in(&index.body(k)?.rows, index.rows, row)
+}
+
+/// How many rows bitmap `k` has.
+pub fn count(index: &[u32], k: u32) -> Result<u32, Refusal> {
+    Ok(count_in(&open(index)?.body(k)?.rows))
+}
+
+/// The nth set row of bitmap `k`, from 0.
+pub fn nth(index: &[u32], k: u32, n: u32) -> Result<u32, Refusal> {
+    nth_in(&open(index)?.body(k)?.rows, n)
+}
+
+/// Bitmap `k` as plain words.
+pub fn expand_bitmap(index: &[u32], k: u32, room: usize) -> Result<Vec<u32>, Refusal> {
+    let index = open(index)?;
+    expand_rows(&index.body(k)?.rows, index.rows, room)
+}

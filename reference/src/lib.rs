@@ -1,0 +1,20 @@
+//! A plain second program for compressed bitmap indexes.
+//!
+//! Everything is worked out on one bool a row. Nothing here is meant to be
+//! fast; it is meant to be easy to hold against the rules.
+
+#![forbid(unsafe_code)]
+
+mod body;
+mod index;
+pub mod mistakes;
+mod program;
+mod questions;
+mod refusal;
+
+pub use body::{body_count, body_nth, body_row, check_body, compress, expand};
+pub use index::{bitmap, check, count, expand_bitmap, nth, row};
+pub use mistakes::{with_mistake, Mistake};
+pub use program::program;
+pub use questions::{and, and_not, histogram, not, or, symmetric, threshold, xor, Answer};
+pub use refusal::Refusal;

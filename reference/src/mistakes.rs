@@ -1,0 +1,103 @@
+//! Wrong readings that can be switched on, one at a time, to see whether a
+//! comparison notices them. All are off unless `with_mistake` is running.
+
+use std::cell::Cell;
+
+#[derive(Debug, Clone, Copy, PartialEq, Eq, Hash)]
+pub enum Mistake {
+    /// A symmetric table with a yes at 0 sets the pad bits.
+    TableFillsPads,
+    /// A ones run over pad bits passes and is worth 32 rows in that segment.
+    OnesRunOverPads,
+    /// Clean counts go up to 65,536, which spills into the dirty count.
+    RunCarries,
+    /// Room is judged by twice the named words.
+    RoomByBound,
+    /// An nth too large is answered with the highest row of all.
+    NthPastGivesLast,
+    /// A threshold asks for more than T.
+    ThresholdAboveT,
+    /// A bitmap named twice counts once.
+    RepeatCountsOnce,
+    /// Piece ends at one segment are counted once for each bitmap.
+    StretchPerBitmap,
+    /// AND-NOT takes its operands the other way round.
+    AndNotSwapped,
+    /// The tally takes the last segment for 32 rows.
+    TallyCountsPads,
+    /// An answer segment under a dirty word stays a dirty word, even if clean.
+    CleanKeptDirty,
+    /// A full marker takes 32,768 dirty words.
+    FullMarkerOneMore,
+    /// NOT sets the pad bits.
+    NotFillsPads,
+    /// Words after the last body are let through.
+    FinalEndUnchecked,
+    /// At a marker, refusal 6 is tried before 5.
+    SixBeforeFive,
+    /// In a contents entry, the length is tried before the start.
+    LengthBeforeStart,
+    /// Missing segments are reported at the body's last word.
+    MissingAtLastWord,
+    /// Row R is answered "not set".
+    RowPastEndFalse,
+    /// A table entry of 2 passes for yes.
+    TableTwoIsYes,
+    /// T above the list's length has an empty answer.
+    HighThresholdEmpty,
+    /// A marker with both counts zero is refused (as a 6 at the marker).
+    IdleMarkerRefused,
+    /// Refusal 9 tells the buffer's length.
+    NoRoomTellsBuffer,
+}
+
+impl Mistake {
+    pub const ALL: &'static [Mistake] = &[
+        Mistake::TableFillsPads,
+        Mistake::OnesRunOverPads,
+        Mistake::RunCarries,
+        Mistake::RoomByBound,
+        Mistake::NthPastGivesLast,
+        Mistake::ThresholdAboveT,
+        Mistake::RepeatCountsOnce,
+        Mistake::StretchPerBitmap,
+        Mistake::AndNotSwapped,
+        Mistake::TallyCountsPads,
+        Mistake::CleanKeptDirty,
+        Mistake::FullMarkerOneMore,
+        Mistake::NotFillsPads,
+        Mistake::FinalEndUnchecked,
+        Mistake::SixBeforeFive,
+        Mistake::LengthBeforeStart,
+        Mistake::MissingAtLastWord,
+        Mistake::RowPastEndFalse,
+        Mistake::TableTwoIsYes,
+        Mistake::HighThresholdEmpty,
+        Mistake::IdleMarkerRefused,
+        Mistake::NoRoomTellsBuffer,
+    ];
+}
+
+thread_local! {
+    static CURRENT: Cell<Option<Mistake>> = const { Cell::new(None) };
+}
+
+/// Puts the earlier setting back, also after a panic.
+struct Restore(Option<Mistake>);
+
+impl Drop for Restore {
+    fn drop(&mut self) {
+        CURRENT.with(|current| current.set(self.0));
+    }
+}
+
+/// Runs `f` on this thread with the mistake `m` switched on.
+pub fn with_mistake<T>(m: Mistake, f: impl FnOnce() -> T) -> T {
+    let _restore = Restore(CURRENT.with(|current| current.replace(Some(m))));
+    f()
+}
+
+/// Is this mistake switched on here and now?
+pub(crate) fn mistaken(m: Mistake) -> bool {
+    CURRENT.with(|current| current.get()) == Some(m)
+}

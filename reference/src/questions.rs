@@ -1,0 +1,204 @@
+//! Answers over two bitmaps, one, or a list.
+
+use std::collections::BTreeSet;
+
+use crate::body::{plain_words, segment_of, settle, Segment};
+use crate::index::{open, Index};
+use crate::mistakes::{mistaken, Mistake};
+use crate::refusal::{bad_argument, must_fit, Refusal};
+
+#[derive(Debug, Clone, PartialEq, Eq)]
+pub struct Answer {
+    pub words: Vec<u32>,
+    pub stretches: u32,
+}
+
+/// What is kept of the named bodies besides their rows.
+#[derive(Default)]
+struct Named {
+    /// Words of their bodies, repeats added again.
+    words: usize,
+    /// Where pieces end, each segment once.
+    ends: BTreeSet<usize>,
+    /// All pieces, for a mistake only.
+    pieces: usize,
+    /// The segments under some dirty word, for a mistake only.
+    dirty: BTreeSet<usize>,
+}
+
+impl Named {
+    /// Names bitmap `k`; gives its rows.
+    fn name(&mut self, index: &Index, k: u32) -> Result<Vec<bool>, Refusal> {
+        let mut body = index.body(k)?;
+        self.words += index.part(k)?.len();
+        self.pieces += body.pieces.len();
+        for piece in &body.pieces {
+            self.ends.insert(piece.last);
+            if piece.dirty {
+                self.dirty.insert(piece.last);
+            }
+        }
+        body.rows.truncate(index.rows as usize);
+        Ok(body.rows)
+    }
+
+    fn stretches(&self) -> u32 {
+        if mistaken(Mistake::StretchPerBitmap) {
+            return self.pieces as u32;
+        }
+        self.ends.len() as u32
+    }
+
+    /// The settled body of the answer's rows, if it fits.
+    fn write(&self, rows: &[bool], room: usize) -> Result<Vec<u32>, Refusal> {
+        let plain = plain_words(rows);
+        let mut segments: Vec<Segment> = plain.iter().map(|&word| segment_of(word)).collect();
+        if mistaken(Mistake::CleanKeptDirty) {
+            for &at in &self.dirty {
+                segments[at] = Segment::Mixed(plain[at]);
+            }
+        }
+        let words = settle(&segments);
+        if mistaken(Mistake::RoomByBound) {
+            must_fit(2 * self.words, room)?;
+        }
+        must_fit(words.len(), room)?;
+        Ok(words)
+    }
+}
+
+/// Sets every pad of the last segment: what some mistakes do.
+fn fill_pads(rows: &mut Vec<bool>) {
+    let whole = rows.len().next_multiple_of(32);
+    rows.resize(whole, true);
+}
+
+// ---- two bitmaps, or one ----
+
+fn of_two(index: &[u32], j: u32, k: u32, room: usize, rule: fn(bool, bool) -> bool) -> Result<Vec<u32>, Refusal> {
+    let index = open(index)?;
+    let mut named = Named::default();
+    let first = named.name(&index, j)?;
+    let second = named.name(&index, k)?;
+    let answer: Vec<bool> = (0..index.rows as usize).map(|r| rule(first[r], second[r])).collect();
+    named.write(&answer, room)
+}
+
+pub fn and(index: &[u32], j: u32, k: u32, room: usize) -> Result<Vec<u32>, Refusal> {
+    of_two(index, j, k, room, |a, b| a && b)
+}
+
+pub fn or(index: &[u32], j: u32, k: u32, room: usize) -> Result<Vec<u32>, Refusal> {
+    of_two(index, j, k, room, |a, b| a || b)
+}
+
+pub fn xor(index: &[u32], j: u32, k: u32, room: usize) -> Result<Vec<u32>, Refusal> {
+    of_two(index, j, k, room, |a, b| a != b)
+}
+
+/// The rows of bitmap `j` that bitmap `k` has not.
+pub fn and_not(index: &[u32], j: u32, k: u32, room: usize) -> Result<Vec<u32>, Refusal> {
+    if mistaken(Mistake::AndNotSwapped) {
+        return of_two(index, j, k, room, |a, b| b && !a);
+    }
+    of_two(index, j, k, room, |a, b| a && !b)
+}
+
+pub fn not(index: &[u32], k: u32, room: usize) -> Result<Vec<u32>, Refusal> {
+    let index = open(index)?;
+    let mut named = Named::default();
+    let mut answer: Vec<bool> = named.name(&index, k)?.iter().map(|&set| !set).collect();
+    if mistaken(Mistake::NotFillsPads) {
+        fill_pads(&mut answer);
+    }
+    named.write(&answer, room)
+}
+
+// ---- a list ----
+
+/// The list itself: 1 to 64 numbers, each of a bitmap that is there.
+fn check_list(index: &Index, list: &[u32]) -> Result<(), Refusal> {
+    let good = (1..=64).contains(&list.len()) && list.iter().all(|&k| k < index.bitmaps());
+    if good {
+        Ok(())
+    } else {
+        Err(bad_argument())
+    }
+}
+
+/// For each row, how many of the list hold it.
+fn holders(index: &Index, list: &[u32], named: &mut Named) -> Result<Vec<usize>, Refusal> {
+    let mut held = vec![0; index.rows as usize];
+    for (place, &k) in list.iter().enumerate() {
+        let rows = named.name(index, k)?;
+        if mistaken(Mistake::RepeatCountsOnce) && list[..place].contains(&k) {
+            continue;
+        }
+        for r in 0..held.len() {
+            if rows[r] {
+                held[r] += 1;
+            }
+        }
+    }
+    Ok(held)
+}
+
+/// The threshold answer, and its rows one by one.
+pub(crate) fn threshold_rows(index: &[u32], list: &[u32], t: u32, room: usize) -> Result<(Answer, Vec<bool>), Refusal> {
+    let index = open(index)?;
+    check_list(&index, list)?;
+    let t = t as usize;
+    if t == 0 || (t > list.len() && !mistaken(Mistake::HighThresholdEmpty)) {
+        return Err(bad_argument());
+    }
+    let mut named = Named::default();
+    let held = holders(&index, list, &mut named)?;
+    let enough = |c: usize| {
+        if mistaken(Mistake::ThresholdAboveT) {
+            c > t
+        } else {
+            c >= t
+        }
+    };
+    let rows: Vec<bool> = held.iter().map(|&c| enough(c)).collect();
+    let words = named.write(&rows, room)?;
+    Ok((Answer { words, stretches: named.stretches() }, rows))
+}
+
+/// Rows with `t` holders or more.
+pub fn threshold(index: &[u32], list: &[u32], t: u32, room: usize) -> Result<Answer, Refusal> {
+    Ok(threshold_rows(index, list, t, room)?.0)
+}
+
+/// The rows at whose number of holders the table says yes.
+pub fn symmetric(index: &[u32], list: &[u32], table: &[u32], room: usize) -> Result<Answer, Refusal> {
+    let index = open(index)?;
+    check_list(&index, list)?;
+    let most = if mistaken(Mistake::TableTwoIsYes) { 2 } else { 1 };
+    if table.len() != list.len() + 1 || table.iter().any(|&entry| entry > most) {
+        return Err(bad_argument());
+    }
+    let mut named = Named::default();
+    let held = holders(&index, list, &mut named)?;
+    let mut rows: Vec<bool> = held.iter().map(|&c| table[c] != 0).collect();
+    if mistaken(Mistake::TableFillsPads) && table[0] == 1 {
+        fill_pads(&mut rows);
+    }
+    let words = named.write(&rows, room)?;
+    Ok(Answer { words, stretches: named.stretches() })
+}
+
+/// Entry c: how many rows have c holders.
+pub fn histogram(index: &[u32], list: &[u32]) -> Result<[u32; 65], Refusal> {
+    let index = open(index)?;
+    check_list(&index, list)?;
+    let held = holders(&index, list, &mut Named::default())?;
+    let mut tally = [0; 65];
+    for &c in &held {
+        tally[c] += 1;
+    }
+    if mistaken(Mistake::TallyCountsPads) {
+        tally[0] += index.rows.next_multiple_of(32) - index.rows;
+    }
+    Ok(tally)
+}

@@ -1,0 +1,121 @@
+//! Each mistake changes the result of some hand-made input.
+
+mod common;
+use common::*;
+use reference::*;
+
+const ANY: usize = usize::MAX;
+
+/// A result in words, the case chosen for this mistake.
+fn case(m: Mistake) -> String {
+    let list = [0, 1, 2];
+    let padded = index_of(40, &[&[4], &FORTY]);
+    let ninety_six = index_of(96, &[&[6], &FIVE_64]);
+    match m {
+        Mistake::TableFillsPads => format!("{:x?}", symmetric(&padded, &[0], &[1, 0], ANY)),
+        Mistake::OnesRunOverPads => format!("{:?}", body_count(&[5], 40)),
+        Mistake::RunCarries => format!("{:x?}", compress(2_097_152, &vec![0; 65_536], ANY)),
+        Mistake::RoomByBound => format!("{:x?}", threshold(&LOOPED, &list, 2, 2)),
+        Mistake::NthPastGivesLast => format!("{:?}", nth(&LOOPED, 0, 2)),
+        Mistake::ThresholdAboveT => format!("{:x?}", threshold(&LOOPED, &list, 2, ANY)),
+        Mistake::RepeatCountsOnce => format!("{:x?}", threshold(&LOOPED, &[0, 0], 2, ANY)),
+        Mistake::StretchPerBitmap => format!("{:x?}", threshold(&ninety_six, &[0, 1], 1, ANY)),
+        Mistake::AndNotSwapped => format!("{:x?}", and_not(&LOOPED, 0, 1, ANY)),
+        Mistake::TallyCountsPads => format!("{:?}", &histogram(&LOOPED, &list).unwrap()[..4]),
+        Mistake::CleanKeptDirty => format!("{:x?}", and(&LOOPED, 0, 2, ANY)),
+        Mistake::FullMarkerOneMore => {
+            let words = compress(1_048_576, &vec![1; 32_768], ANY).unwrap();
+            format!("{} {:x}", words.len(), words[0])
+        }
+        Mistake::NotFillsPads => format!("{:x?}", not(&padded, 0, ANY)),
+        Mistake::FinalEndUnchecked => format!("{:?}", check(&[1, 32, 1, 5, 1, 2, 2])),
+        Mistake::SixBeforeFive => format!("{:?}", check_body(&[0x0004_0000, 1], 32)),
+        Mistake::LengthBeforeStart => format!("{:?}", check(&[1, 32, 1, 6, 2, 2])),
+        Mistake::MissingAtLastWord => format!("{:?}", check_body(&[2], 64)),
+        Mistake::RowPastEndFalse => format!("{:?}", row(&LOOPED, 0, 4)),
+        Mistake::TableTwoIsYes => format!("{:x?}", symmetric(&LOOPED, &list, &[0, 0, 2, 0], ANY)),
+        Mistake::HighThresholdEmpty => format!("{:x?}", threshold(&LOOPED, &list, 4, ANY)),
+        Mistake::IdleMarkerRefused => format!("{:?}", check(&index_of(32, &[&[0, 2]]))),
+        Mistake::NoRoomTellsBuffer => format!("{:?}", threshold(&LOOPED, &list, 2, 1)),
+    }
+}
+
+const FORTY: [u32; 3] = [0x0004_0000, 1, 0x80];
+
+fn refused(number: u32, bitmap: u32, word: u64) -> String {
+    format!("Err({:?})", no(number, bitmap, word))
+}
+
+fn answer(words: &str, stretches: u32) -> String {
+    format!("Ok(Answer {{ words: [{words}], stretches: {stretches} }})")
+}
+
+/// (without, with) as they should be.
+fn expected(m: Mistake) -> (String, String) {
+    let bad = || refused(8, 0, 0);
+    let text = |s: &str| s.to_string();
+    match m {
+        Mistake::TableFillsPads => (answer("20003, ff", 1), answer("5", 1)),
+        Mistake::OnesRunOverPads => (refused(7, 0, 0), text("Ok(64)")),
+        Mistake::RunCarries => (text("Ok([1fffe, 2])"), text("Ok([20000])")),
+        // "c" is twelve: twice the six named words.
+        Mistake::RoomByBound => (answer("20000, a", 1), text("Err(Refusal { number: 9, bitmap: 0, word: c })")),
+        Mistake::NthPastGivesLast => (bad(), text("Ok(1)")),
+        Mistake::ThresholdAboveT => (answer("20000, a", 1), answer("2", 1)),
+        Mistake::RepeatCountsOnce => (answer("20000, 3", 1), answer("2", 1)),
+        Mistake::StretchPerBitmap => (answer("20000, 20, 20002, 1", 3), answer("20000, 20, 20002, 1", 4)),
+        Mistake::AndNotSwapped => (text("Ok([20000, 1])"), text("Ok([20000, c])")),
+        Mistake::TallyCountsPads => (text("[0, 2, 2, 0]"), text("[28, 2, 2, 0]")),
+        Mistake::CleanKeptDirty => (text("Ok([2])"), text("Ok([20000, 0])")),
+        Mistake::FullMarkerOneMore => (text("32770 fffe0000"), text("32769 0")),
+        Mistake::NotFillsPads => (text("Ok([20003, ff])"), text("Ok([5])")),
+        Mistake::FinalEndUnchecked => (refused(4, 0, 6), text("Ok(())")),
+        Mistake::SixBeforeFive => (refused(5, 0, 0), refused(6, 0, 0)),
+        Mistake::LengthBeforeStart => (refused(4, 0, 3), refused(4, 0, 4)),
+        Mistake::MissingAtLastWord => (refused(6, 0, 1), refused(6, 0, 0)),
+        Mistake::RowPastEndFalse => (bad(), text("Ok(false)")),
+        Mistake::TableTwoIsYes => (bad(), answer("20000, a", 1)),
+        Mistake::HighThresholdEmpty => (bad(), answer("2", 1)),
+        Mistake::IdleMarkerRefused => (text("Ok(())"), refused(6, 0, 5)),
+        Mistake::NoRoomTellsBuffer => (refused(9, 0, 2), refused(9, 0, 1)),
+    }
+}
+
+#[test]
+fn each_mistake_shows() {
+    assert_eq!(Mistake::ALL.len(), 22);
+    for (place, &m) in Mistake::ALL.iter().enumerate() {
+        assert!(!Mistake::ALL[..place].contains(&m));
+        let before = case(m);
+        let during = with_mistake(m, || case(m));
+        let after = case(m);
+        assert_ne!(before, during, "{m:?}");
+        assert_eq!(before, after, "{m:?}");
+        assert_eq!((before, during), expected(m), "{m:?}");
+    }
+}
+
+/// A mistake touches its own case and few others; none shows in all of them.
+#[test]
+fn no_mistake_shows_everywhere() {
+    for &m in Mistake::ALL {
+        let shown = Mistake::ALL.iter().filter(|&&c| with_mistake(m, || case(c)) != case(c)).count();
+        assert!((1..6).contains(&shown), "{m:?} {shown}");
+    }
+}
+
+#[test]
+fn switched_off_after_a_panic() {
+    let caught = std::panic::catch_unwind(|| with_mistake(Mistake::AndNotSwapped, || panic!("on purpose")));
+    assert!(caught.is_err());
+    assert_eq!(case(Mistake::AndNotSwapped), "Ok([20000, 1])");
+}
+
+#[test]
+fn other_threads_are_free_of_it() {
+    with_mistake(Mistake::AndNotSwapped, || {
+        let there = std::thread::spawn(|| case(Mistake::AndNotSwapped)).join().unwrap();
+        assert_eq!(there, "Ok([20000, 1])");
+        assert_eq!(case(Mistake::AndNotSwapped), "Ok([20000, c])");
+    });
+}

@@ -1,0 +1,162 @@
+//! What has to hold of any sound index, tried on thrown ones.
+
+mod common;
+use common::*;
+use reference::*;
+
+const ANY: usize = usize::MAX;
+
+/// A sound body, often wasteful, with the plain words it spells.
+fn throw_body(dice: &mut Dice, rows: u32) -> (Vec<u32>, Vec<u32>) {
+    let segments = rows.div_ceil(32) as usize;
+    let last_mask = match rows % 32 {
+        0 => u32::MAX,
+        used => (1 << used) - 1,
+    };
+    let mut body = Vec::new();
+    let mut plain = Vec::new();
+    while plain.len() < segments || dice.below(4) == 0 {
+        let left = (segments - plain.len()) as u32;
+        let mut clean = dice.below(left.min(4) + 1);
+        let dirty = dice.below((left - clean).min(3) + 1);
+        let value = dice.below(2);
+        if value == 1 && clean == left && last_mask != u32::MAX {
+            clean = clean.saturating_sub(1);
+        }
+        body.push(value | clean << 1 | dirty << 17);
+        plain.extend(vec![value * u32::MAX; clean as usize]);
+        for _ in 0..dirty {
+            let mut word = match dice.below(4) {
+                0 => 0,
+                1 => u32::MAX,
+                _ => dice.below(1 << 30) << dice.below(8),
+            };
+            if plain.len() + 1 == segments {
+                word &= last_mask;
+            }
+            body.push(word);
+            plain.push(word);
+        }
+    }
+    (body, plain)
+}
+
+fn bit(plain: &[u32], r: u32) -> bool {
+    (plain[(r / 32) as usize] >> (r % 32)) & 1 == 1
+}
+
+#[test]
+fn lone_bodies() {
+    let mut dice = Dice(1);
+    for _ in 0..2000 {
+        let rows = dice.below(400);
+        let (body, plain) = throw_body(&mut dice, rows);
+        assert_eq!(check_body(&body, rows), Ok(()));
+        assert_eq!(expand(&body, rows, plain.len()).as_ref(), Ok(&plain));
+        let set: Vec<u32> = (0..rows).filter(|&r| bit(&plain, r)).collect();
+        assert_eq!(body_count(&body, rows), Ok(set.len() as u32));
+        for (n, r) in set.iter().enumerate() {
+            assert_eq!(body_nth(&body, rows, n as u32), Ok(*r));
+            assert_eq!(body_row(&body, rows, *r), Ok(true));
+        }
+        let settled = compress(rows, &plain, ANY).unwrap();
+        assert!(settled.len() <= body.len());
+        assert_eq!(check_body(&settled, rows), Ok(()));
+        assert_eq!(expand(&settled, rows, ANY).as_ref(), Ok(&plain));
+    }
+}
+
+#[test]
+fn lists() {
+    let mut dice = Dice(2);
+    for _ in 0..600 {
+        let rows = dice.below(300);
+        let thrown: Vec<_> = (0..1 + dice.below(6)).map(|_| throw_body(&mut dice, rows)).collect();
+        let bodies: Vec<&[u32]> = thrown.iter().map(|(body, _)| &body[..]).collect();
+        let index = index_of(rows, &bodies);
+        let n = thrown.len() as u32;
+        let list: Vec<u32> = (0..1 + dice.below(7)).map(|_| dice.below(n)).collect();
+        let named: usize = list.iter().map(|&k| bodies[k as usize].len()).sum();
+        let held = |r: u32| list.iter().filter(|&&k| bit(&thrown[k as usize].1, r)).count();
+
+        let tally = histogram(&index, &list).unwrap();
+        assert_eq!(tally.iter().sum::<u32>(), rows);
+        for (c, &rows_there) in tally.iter().enumerate() {
+            assert_eq!(rows_there as usize, (0..rows).filter(|&r| held(r) == c).count());
+        }
+        for t in 1..=list.len() {
+            let answer = threshold(&index, &list, t as u32, ANY).unwrap();
+            assert!(answer.stretches as usize <= named);
+            assert!(answer.words.len() <= 2 * answer.stretches as usize);
+            assert_eq!(check_body(&answer.words, rows), Ok(()));
+            for r in 0..rows {
+                assert_eq!(body_row(&answer.words, rows, r), Ok(held(r) >= t));
+            }
+            let table: Vec<u32> = (0..=list.len()).map(|c| u32::from(c >= t)).collect();
+            assert_eq!(symmetric(&index, &list, &table, ANY).as_ref(), Ok(&answer));
+            let need = answer.words.len();
+            if need > 0 {
+                assert_eq!(threshold(&index, &list, t as u32, need - 1), Err(no(9, 0, need as u64)));
+            }
+        }
+        let (j, k) = (list[0], list[list.len() - 1]);
+        let same = |table: &[u32]| symmetric(&index, &[j, k], table, ANY).unwrap().words;
+        assert_eq!(and(&index, j, k, ANY), Ok(same(&[0, 0, 1])));
+        assert_eq!(or(&index, j, k, ANY), Ok(same(&[0, 1, 1])));
+        assert_eq!(xor(&index, j, k, ANY), Ok(same(&[0, 1, 0])));
+        assert_eq!(not(&index, k, ANY), Ok(symmetric(&index, &[k], &[1, 0], ANY).unwrap().words));
+        let difference = and_not(&index, j, k, ANY).unwrap();
+        for r in 0..rows {
+            let due = bit(&thrown[j as usize].1, r) && !bit(&thrown[k as usize].1, r);
+            assert_eq!(body_row(&difference, rows, r), Ok(due));
+        }
+    }
+}
+
+/// Random words must not bring any call down, with or without a mistake.
+#[test]
+fn nothing_panics() {
+    let mut dice = Dice(3);
+    let ask_all = |index: &[u32], list: &[u32], t: u32, room: usize| {
+        let _ = (check(index), bitmap(index, t), row(index, t, t), count(index, 0));
+        let _ = (nth(index, 0, t), expand_bitmap(index, 0, room), and(index, 0, 1, room));
+        let _ = (or(index, 0, 1, room), xor(index, 1, 0, room), and_not(index, 0, 1, room));
+        let _ = (not(index, 1, room), threshold(index, list, t, room), histogram(index, list));
+        let _ = symmetric(index, list, &[1, 0, 1][..1 + list.len().min(2)], room);
+        let _ = program(&input(t, index));
+    };
+    for round in 0..4000u32 {
+        let rows = dice.below(130);
+        let thrown: Vec<_> = (0..dice.below(4)).map(|_| throw_body(&mut dice, rows)).collect();
+        let bodies: Vec<&[u32]> = thrown.iter().map(|(body, _)| &body[..]).collect();
+        let mut index = index_of(rows, &bodies);
+        if dice.below(2) == 0 {
+            let place = dice.below(index.len() as u32) as usize;
+            index[place] ^= 1 << dice.below(32);
+        }
+        if dice.below(6) == 0 {
+            index.truncate(dice.below(index.len() as u32) as usize);
+        }
+        let list: Vec<u32> = (0..dice.below(4)).map(|_| dice.below(4)).collect();
+        let (t, room) = (dice.below(5), dice.below(12) as usize);
+        let m = Mistake::ALL[round as usize % Mistake::ALL.len()];
+        ask_all(&index, &list, t, room);
+        with_mistake(m, || ask_all(&index, &list, t, room));
+    }
+}
+
+/// 64 bitmaps of 100,000 rows stay quick.
+#[test]
+fn sixty_four_by_a_hundred_thousand() {
+    let mut dice = Dice(4);
+    let thrown: Vec<_> = (0..64).map(|_| throw_body(&mut dice, 100_000)).collect();
+    let bodies: Vec<&[u32]> = thrown.iter().map(|(body, _)| &body[..]).collect();
+    let index = index_of(100_000, &bodies);
+    let list: Vec<u32> = (0..64).collect();
+    let begun = std::time::Instant::now();
+    let answer = threshold(&index, &list, 30, ANY).unwrap();
+    let took = begun.elapsed();
+    println!("{took:?}, {} words, {} stretches", answer.words.len(), answer.stretches);
+    assert!(took.as_secs() < 5);
+    assert_eq!(histogram(&index, &list).unwrap().iter().sum::<u32>(), 100_000);
+}
