@@ -59,7 +59,9 @@ impl Asker<'_> {
         let all = [need.saturating_sub(1), need, need + 1, 0, twice.min(LONGEST), need + 20 + self.random.below(20)];
         let rooms = match self.input.effort {
             Effort::Full => all.to_vec(),
-            _ => vec![self.random.pick(&all[..2]), self.random.pick(&all)],
+            Effort::Some => vec![self.random.pick(&all[..2]), self.random.pick(&all)],
+            Effort::Few if self.random.one_in(2) => vec![need],
+            Effort::Few => vec![self.random.pick(&all)],
         };
         for (place, &room) in rooms.iter().enumerate() {
             if !rooms[..place].contains(&room) {
@@ -224,8 +226,12 @@ impl Asker<'_> {
     }
 
     fn lists(&mut self) {
-        let long = self.input.effort == Effort::Full && self.random.one_in(5);
-        let length = self.random.between(2, if long { 63 } else { 9 });
+        let most = match self.input.effort {
+            Effort::Full if self.random.one_in(5) => 63,
+            Effort::Few if self.input.bitmaps < 3 => 3,
+            _ => 9,
+        };
+        let length = self.random.between(2, most);
         let some = self.some_list(length);
         self.good_list(&some);
         if self.input.effort != Effort::Few {
@@ -268,7 +274,8 @@ impl Asker<'_> {
             self.ask(threshold.clone().number(t).room(room));
         }
         let symmetric = Question::new(Call::Symmetric).list(list);
-        for _ in 0..2 {
+        let tables = if self.input.effort == Effort::Few { 1 } else { 2 };
+        for _ in 0..tables {
             let table = self.some_table(list.len() + 1);
             self.ask_rooms(words, symmetric.clone().table(&table));
         }

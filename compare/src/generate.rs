@@ -17,7 +17,7 @@ pub enum Effort {
     Full,
     /// Every kind of argument, one or two buffers each.
     Some,
-    /// Every call and every kind of buffer, few arguments: long inputs.
+    /// Every call, but few arguments and one buffer each: long inputs.
     Few,
 }
 
@@ -47,7 +47,7 @@ pub fn generate(random: &mut Random, long: bool) -> Input {
         let rows = random.between(100_000, 400_000) as u32;
         return made(random, Form::Index, style, rows, 64, Effort::Few);
     }
-    if random.one_in(400) {
+    if random.one_in(250) {
         return long_runs(random, style);
     }
     let form = match random.below(10) {
