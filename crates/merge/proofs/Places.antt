@@ -31,7 +31,7 @@ module _ (b : List ℕ) (c : Cursor) where
   pub opened : Stands b c (pieces 0 b) → CursorAt b 0 c
   opened s = record { in-order = s .in-order; ahead = rw (s .has) (ahead-start b); at-end = λ z. s .has ∙ s .at-end z }
 
-  gone-on : (o n : ℕ) (d : Cursor) → 1 ≤ n → n ≤ leftOf (c .piece) → Stands b d (advanced n (piecesFrom b c)) → CursorAt b o c → CursorAt b (o + n) d
+  pub gone-on : (o n : ℕ) (d : Cursor) → 1 ≤ n → n ≤ leftOf (c .piece) → Stands b d (advanced n (piecesFrom b c)) → CursorAt b o c → CursorAt b (o + n) d
   gone-on o n d g l s a =
       record {
         in-order = s .in-order;

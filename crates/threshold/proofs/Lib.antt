@@ -1,0 +1,7 @@
+pub mod Appending
+pub mod Decimals
+pub mod Bytes
+pub mod Walking
+pub mod Stepping
+pub mod Starting
+pub mod Cases

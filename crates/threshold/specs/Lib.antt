@@ -1,0 +1,4 @@
+pub mod Output
+pub mod Texts
+pub mod Listings
+pub mod Readings

@@ -1,0 +1,120 @@
+-- The bytes that the program writes for the bytes that it reads. Section "The program" of paper 01.
+-- Assumes nothing.
+use Prim.Native.Nat.{ℕ, zero, suc, _+_, _*_, _/_, _%_}
+use mathlib.Core.Bool.{Bool, cond, not, _||_}
+use mathlib.Core.List.{List, [], _∷_, _++_}
+use lib.Dec.{eqb, ltb}
+use lib.ListN.{length, getD, drop}
+use Rattle.meaning.specs.Rows.{countBelow}
+use Rattle.meaning.specs.Segment.{tabulate}
+use Rattle.meaning.specs.Refusal.{Outcome, refused, answer}
+use Rattle.meaning.specs.Ewah.{rowsOf}
+use Rattle.meaning.specs.Index.{rowCount, bitmapCount}
+use Rattle.meaning.specs.Answer.{threshold}
+
+-- ---- limits
+
+-- the most bytes that are read as a question
+abbrev pub mostBytes : ℕ
+mostBytes = 65536
+
+-- the words of the answer buffer
+abbrev pub answerRoom : ℕ
+answerRoom = 16384
+
+-- ---- numbers and lines, in ASCII
+
+-- the decimal digits of n, the highest first and no zero before them; `most` bounds how many they are
+unfoldable pub digitsOf : (most n : ℕ) → List ℕ
+digitsOf zero n = []
+digitsOf (suc most) n = cond (ltb n 10) [] (digitsOf most (n / 10)) ++ (48 + n % 10) ∷ []
+
+-- n has fewer digits than n + 1
+unfoldable pub decimal : ℕ → List ℕ
+unfolding digitsOf
+decimal n = digitsOf (suc n) n
+
+-- a number on its line, ended by one line feed
+unfoldable pub line : ℕ → List ℕ
+unfolding decimal
+line n = decimal n ++ 10 ∷ []
+
+-- a number and the space behind it
+unfoldable pub field : ℕ → List ℕ
+unfolding decimal
+field n = decimal n ++ 32 ∷ []
+
+-- "refused "
+abbrev pub refusedLabel : List ℕ
+refusedLabel = 114 ∷ 101 ∷ 102 ∷ 117 ∷ 115 ∷ 101 ∷ 100 ∷ 32 ∷ []
+
+-- "rows "
+abbrev pub rowsLabel : List ℕ
+rowsLabel = 114 ∷ 111 ∷ 119 ∷ 115 ∷ 32 ∷ []
+
+-- "named "
+abbrev pub namedLabel : List ℕ
+namedLabel = 110 ∷ 97 ∷ 109 ∷ 101 ∷ 100 ∷ 32 ∷ []
+
+-- "threshold "
+abbrev pub thresholdLabel : List ℕ
+thresholdLabel = 116 ∷ 104 ∷ 114 ∷ 101 ∷ 115 ∷ 104 ∷ 111 ∷ 108 ∷ 100 ∷ 32 ∷ []
+
+-- "set "
+abbrev pub setLabel : List ℕ
+setLabel = 115 ∷ 101 ∷ 116 ∷ 32 ∷ []
+
+-- ---- the output
+
+-- a refusal is one line with its three numbers
+unfoldable pub refusedText : (number bitmap word : ℕ) → List ℕ
+unfolding field line
+refusedText number bitmap word = refusedLabel ++ field number ++ field bitmap ++ line word
+
+-- an answer begins with four lines: the rows, how many bitmaps are named, T, and how many rows are set
+unfoldable pub headText : (R N T C : ℕ) → List ℕ
+unfolding line
+headText R N T C = (rowsLabel ++ line R) ++ (namedLabel ++ line N) ++ (thresholdLabel ++ line T) ++ (setLabel ++ line C)
+
+-- the set rows among n rows from `row` on, a line each
+unfoldable pub linesFrom : (ℕ → Bool) → (row n : ℕ) → List ℕ
+unfolding line
+linesFrom p row zero = []
+linesFrom p row (suc n) = cond (p row) (line row) [] ++ linesFrom p (suc row) n
+
+-- what is written of an outcome. A refusal's place is already one of the index, with its word 0 first
+unfoldable pub outcomeText : (index : List ℕ) (T : ℕ) → Outcome (List ℕ) → List ℕ
+unfolding refusedText headText linesFrom rowCount bitmapCount countBelow rowsOf
+outcomeText index T (refused number bitmap word) = refusedText number bitmap word
+outcomeText index T (answer body) =
+    headText (rowCount index) (bitmapCount index) T (countBelow (rowCount index) (rowsOf body)) ++ linesFrom (rowsOf body) 0 (rowCount index)
+
+-- all bitmaps are named once, in order
+unfoldable pub allNamed : (N : ℕ) → List ℕ
+unfolding tabulate
+allNamed N = tabulate N (λ k. k)
+
+-- of a question: T and an index
+unfoldable pub asked : (T : ℕ) (index : List ℕ) → List ℕ
+unfolding outcomeText threshold allNamed bitmapCount
+asked T index = outcomeText index T (threshold index (allNamed (bitmapCount index)) T answerRoom)
+
+-- bytes as 32-bit words, the lowest byte first
+unfoldable pub wordsOf : List ℕ → List ℕ
+wordsOf [] = []
+wordsOf (a ∷ []) = []
+wordsOf (a ∷ b ∷ []) = []
+wordsOf (a ∷ b ∷ c ∷ []) = []
+wordsOf (a ∷ b ∷ c ∷ d ∷ bytes) = (a + 256 * b + 65536 * c + 16777216 * d) ∷ wordsOf bytes
+
+-- they are no whole words, or not even the one of T
+unfoldable pub ragged : (n : ℕ) → Bool
+ragged n = ltb n 4 || not (eqb (n % 4) 0)
+
+-- of all bytes of the input: too many is tested first, then whether they are words, T among them
+unfoldable pub outputOf : (input : List ℕ) → List ℕ
+unfolding refusedText ragged asked wordsOf
+outputOf input =
+    cond (ltb mostBytes (length input)) (refusedText 3 0 0)
+    (cond (ragged (length input)) (refusedText 1 0 0)
+    (asked (getD (wordsOf input) 0 0) (drop 1 (wordsOf input))))

@@ -1,0 +1,41 @@
+// The words of the input.
+ghost use mathlib.Core.Path.{_≡_};
+ghost use Prim.Native.Nat.{_+_, _*_, _<_};
+ghost use lib.ListN.{length, getD};
+ghost use Rattle.threshold.specs.Output.{wordsOf};
+
+fn wide(x: u8) -> u32
+    ensures { λ r. ⌜ (r ≡ x) × (r < 256) ⌝ }
+{
+    x as u32
+}
+
+// Four bytes, the lowest first.
+fn word(a: u8, b: u8, c: u8, d: u8) -> u32
+    ensures { λ r. ⌜ r ≡ a + 256 * b + 65536 * c + 16777216 * d ⌝ }
+{
+    wide(a) + 256 * wide(b) + 65536 * wide(c) + 16777216 * wide(d)
+}
+
+// Bytes as words.
+pub fn words(bytes: &[u8], out: &mut [u32])
+    requires { ⌜ length (now bytes) ≡ 4 * length (now out) ⌝ }
+    ensures { λ _. ⌜ now (out .exit) ≡ wordsOf (now (bytes .entry)) ⌝ }
+{
+    let mut i = 0;
+    while i < out.len() {
+        let at = 4 * i;
+        out[i] = word(bytes[at], bytes[at + 1], bytes[at + 2], bytes[at + 3]);
+        i += 1;
+    }
+}
+
+// Word i, 0 where there is none.
+pub fn word_at(words: &[u32], i: usize) -> u32
+    ensures { λ r. ⌜ r ≡ getD (now (words .entry)) i 0 ⌝ }
+{
+    if i < words.len() {
+        return words[i];
+    }
+    0
+}

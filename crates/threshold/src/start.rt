@@ -1,0 +1,123 @@
+// From the input to the first chunk of the output, and the body whose rows are to be listed behind it.
+ghost use mathlib.Core.Path.{_≡_};
+ghost use mathlib.Core.List.{List};
+ghost use Prim.Native.Nat.{ℕ, _≤_, min};
+ghost use lib.ListN.{length, getD, drop};
+ghost use Rattle.meaning.specs.Limits.{mostBitmaps};
+ghost use Rattle.meaning.specs.Index.{bitmapCount};
+ghost use Rattle.threshold.specs.Output as output;
+ghost use Rattle.threshold.specs.Listings.{Begins};
+use crate::input;
+use crate::text;
+use ewah::query;
+use questions::answer::Answered;
+
+// The chunk's bytes; the body's words, at the front of the answer buffer; and its rows, none on a refusal.
+pub struct Begun {
+    pub bytes: usize,
+    pub words: usize,
+    pub rows: u32,
+}
+
+// Room for the words of the input, and for those of the answer.
+pub fn word_room() -> [u32; 16384]
+    ensures { λ r. ⌜ 16384 ≡ length r ⌝ }
+{
+    [0; 16384]
+}
+
+// Each number below 64.
+fn names() -> [u32; 64]
+    ensures { λ r. ⌜ r ≡ output.allNamed mostBitmaps ⌝ }
+{
+    let mut list = [0u32; 64];
+    let mut i = 0;
+    while i < 64 {
+        list[i] = i as u32;
+        i += 1;
+    }
+    list
+}
+
+// How many bitmaps to name: as many as the index says, or 64 if that is less.
+fn named(index: &[u32]) -> usize
+    ensures { λ r. ⌜ r ≡ min (bitmapCount (now (index .entry))) mostBitmaps ⌝ }
+{
+    let n = input::word_at(index, 2);
+    if n < 64 {
+        return n as usize;
+    }
+    64
+}
+
+// A refusal: its line is all.
+fn refused(out: &mut [u8], number: u32, bitmap: u32, word: u64) -> Begun
+    requires { ⌜ 128 ≤ length (now out) ⌝ }
+    ensures { λ r. ⌜ ((answer : List ℕ) → Begins (output.refusedText number bitmap word) answer (now (out .entry)) (now (out .exit)) r) ⌝ }
+{
+    let bytes = text::refusal(out, number, bitmap, word);
+    Begun {
+        bytes,
+        words: 0,
+        rows: 0,
+    }
+}
+
+// A question: T and an index.
+fn ask(t: u32, index: &[u32], answer: &mut [u32], out: &mut [u8]) -> Begun
+    requires { ⌜ length (now answer) ≡ output.answerRoom ⌝ }
+    requires { ⌜ 128 ≤ length (now out) ⌝ }
+    ensures { λ r. ⌜ Begins (output.asked t (now (index .entry))) (now (answer .exit)) (now (out .entry)) (now (out .exit)) r ⌝ }
+{
+    let all = names();
+    let n = named(index);
+    let told = zvonurel::threshold(index, &all[..n], t, answer);
+    match told {
+        Answered::Refused(r) => refused(out, r.number, r.bitmap, r.word),
+        Answered::Words(words, _) => {
+            let rows = input::word_at(index, 1);
+            let set = query::count(&answer[..words]);
+            let bytes = text::head(out, rows, input::word_at(index, 2), t, set);
+            Begun { bytes, words, rows }
+        }
+    }
+}
+
+// A question as the words of the input.
+fn question(words: &[u32], answer: &mut [u32], out: &mut [u8]) -> Begun
+    requires { ⌜ 1 ≤ length (now words) ⌝ }
+    requires { ⌜ length (now answer) ≡ output.answerRoom ⌝ }
+    requires { ⌜ 128 ≤ length (now out) ⌝ }
+    ensures { λ r. ⌜ Begins (output.asked (getD (now (words .entry)) 0 0) (drop 1 (now (words .entry)))) (now (answer .exit)) (now (out .entry)) (now (out .exit)) r ⌝ }
+{
+    ask(words[0], &words[1..], answer, out)
+}
+
+// Whether so many bytes are no whole words, or not even one.
+fn ragged(n: usize) -> bool
+    ensures { λ r. ⌜ r ≡ output.ragged n ⌝ }
+{
+    if n < 4 {
+        return true;
+    }
+    n % 4 != 0
+}
+
+// All bytes of the input.
+pub fn begin(input: &[u8], answer: &mut [u32], out: &mut [u8]) -> Begun
+    requires { ⌜ length (now answer) ≡ output.answerRoom ⌝ }
+    requires { ⌜ 128 ≤ length (now out) ⌝ }
+    ensures { λ r. ⌜ Begins (output.outputOf (now (input .entry))) (now (answer .exit)) (now (out .entry)) (now (out .exit)) r ⌝ }
+{
+    let n = input.len();
+    if 65536 < n {
+        return refused(out, 3, 0, 0);
+    }
+    if ragged(n) {
+        return refused(out, 1, 0, 0);
+    }
+    let mut words = word_room();
+    let end = n / 4;
+    input::words(input, &mut words[..end]);
+    question(&words[..end], answer, out)
+}
