@@ -31,6 +31,17 @@
 mod raw;
 mod refusal;
 
+/// The examples of the repository's pages run as tests.
+#[cfg(doctest)]
+mod pages {
+    #[doc = include_str!("../../../README.md")]
+    struct Readme;
+    #[doc = include_str!("../../../docs/FORMAT.md")]
+    struct Format;
+    #[doc = include_str!("../../../docs/REFUSALS.md")]
+    struct Refusals;
+}
+
 pub use refusal::Refusal;
 
 /// The most rows that a bitmap can have.
