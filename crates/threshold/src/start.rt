@@ -39,7 +39,7 @@ fn names() -> [u32; 64]
     list
 }
 
-// How many bitmaps to name: as many as the index says, or 64 if that is less.
+// How many bitmaps to name: as many as the index says, and at most 64, since an index that says more is refused.
 fn named(index: &[u32]) -> usize
     ensures { λ r. ⌜ r ≡ min (bitmapCount (now (index .entry))) mostBitmaps ⌝ }
 {
