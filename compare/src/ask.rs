@@ -1,6 +1,7 @@
 //! Puts one question to the library and to the reference.
 
-use std::panic::{catch_unwind, AssertUnwindSafe};
+use std::panic::{catch_unwind, set_hook, take_hook, AssertUnwindSafe};
+use std::sync::atomic::{AtomicBool, Ordering::Relaxed};
 
 use reference::{with_mistake, Mistake};
 
@@ -39,9 +40,24 @@ fn pattern(room: usize) -> Vec<u32> {
     (0..(room + BEHIND) as u32).map(|at| 0xA5C3_0000 ^ at.wrapping_mul(0x0001_0003)).collect()
 }
 
+/// A question is being asked: its panic is a result. Any other panic is this program's own fault and is told.
+static ASKING: AtomicBool = AtomicBool::new(false);
+
+pub fn tell_own_panics() {
+    let tell = take_hook();
+    set_hook(Box::new(move |panic| {
+        if !ASKING.load(Relaxed) {
+            tell(panic);
+        }
+    }));
+}
+
 /// A panic becomes a value like others.
 fn guarded(ask: impl FnOnce() -> Result<Value, Refused>) -> Result<Value, Refused> {
-    catch_unwind(AssertUnwindSafe(ask)).unwrap_or_else(|cause| {
+    ASKING.store(true, Relaxed);
+    let told = catch_unwind(AssertUnwindSafe(ask));
+    ASKING.store(false, Relaxed);
+    told.unwrap_or_else(|cause| {
         let text = match cause.downcast_ref::<String>() {
             Some(text) => text.clone(),
             None => cause.downcast_ref::<&str>().unwrap_or(&"").to_string(),

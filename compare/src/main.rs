@@ -85,8 +85,7 @@ fn main() -> ExitCode {
         println!("{HELP}");
         return ExitCode::from(2);
     };
-    // Panics are caught and shown as results.
-    std::panic::set_hook(Box::new(|_| {}));
+    ask::tell_own_panics();
     let good = match (&options.program, options.mutate) {
         (Some(path), _) => program::run(path, options.seed, options.cases),
         (None, true) => mutate(&options),
