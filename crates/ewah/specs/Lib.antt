@@ -1,5 +1,4 @@
 pub mod Markers
-pub mod Told
 pub mod Checking
 pub mod Cursors
 pub mod Found

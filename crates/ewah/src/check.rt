@@ -5,11 +5,11 @@ ghost use lib.ListN.{length, getD};
 ghost use Rattle.meaning.specs.Limits.{mostRows};
 ghost use Rattle.meaning.specs.Segment.{segmentCount, lastRows, fill, overPad};
 ghost use Rattle.meaning.specs.Ewah.{bodyFault};
-ghost use Rattle.ewah.specs.Told.{verdictOf};
+ghost use Rattle.answers.specs.Told.{verdictOf};
 ghost use Rattle.ewah.specs.Checking.{Stepped};
 use crate::marker;
-use crate::refusal::Checked;
-use crate::refusal::Refusal;
+use answers::refusal::Checked;
+use answers::refusal::Refusal;
 use words::rows;
 
 // Past a marker and its dirty words, with so many segments left; or a fault with its number and the place of its word.

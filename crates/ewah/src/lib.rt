@@ -6,5 +6,4 @@ pub mod cursor;
 pub mod expand;
 pub mod marker;
 pub mod query;
-pub mod refusal;
 pub mod writer;

@@ -6,8 +6,8 @@ use mathlib.Core.List.{List}
 use lib.ListN.{length}
 use Rattle.meaning.specs.Refusal.{refused}
 use Rattle.meaning.specs.Index.{entriesFault}
-use Rattle.ewah.specs.declared.refusal.Checked.{Checked}
-use Rattle.ewah.specs.declared.refusal.Checked.the-variants.{Refused}
+use Rattle.answers.specs.declared.refusal.Checked.{Checked}
+use Rattle.answers.specs.declared.refusal.Checked.the-variants.{Refused}
 use Rattle.index.specs.declared.check.Step.{Step}
 use Rattle.index.specs.declared.check.Step.the-variants.{Next, Fault}
 

@@ -16,10 +16,10 @@ use Rattle.meaning.specs.Demands.{Words}
 use Rattle.meaning.specs.Answer.{askRow, askPlain}
 use Rattle.meaning.proofs.RowWords.{rows-fit, rows-decide, from-length}
 use Rattle.meaning.proofs.CanonicalBody.{decoded-words}
-use Rattle.ewah.specs.declared.refusal.Refusal.{Refusal}
-use Rattle.questions.specs.declared.answer.Written.the-variants as written
-use Rattle.questions.specs.Told.{refusal, Wrote}
-use Rattle.questions.proofs.Tells.{wrote-none, wrote-words}
+use Rattle.answers.specs.declared.refusal.Refusal.{Refusal}
+use Rattle.answers.specs.declared.answer.Written.the-variants as written
+use Rattle.answers.specs.Told.{refusal, Wrote}
+use Rattle.answers.proofs.Tells.{wrote-none, wrote-words}
 
 pub row-past : (R : ℕ) (p : ℕ → Bool) (r : ℕ) → R ≤ r → refused 8 0 0 ≡ askRow R p r
 unfolding askRow refuseIf

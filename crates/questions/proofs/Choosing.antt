@@ -18,16 +18,15 @@ use Rattle.meaning.specs.Question.{held, atLeast, byTable, histogramOf}
 use Rattle.meaning.specs.Ahead.{answerRows}
 use Rattle.meaning.specs.Answer.{named, rightRows, badEntry, write, fits, histogramReported}
 use Rattle.meaning.proofs.Demanded.{named-is}
-use Rattle.ewah.specs.declared.refusal.Refusal.{Refusal}
-use Rattle.ewah.specs.Told.{refusedBy}
+use Rattle.answers.specs.declared.refusal.Refusal.{Refusal}
+use Rattle.answers.specs.Told.{refusedBy, refusal, Reported, histogramTold, Counted}
 use Rattle.merge.specs.declared.evaluate.Operation.the-variants as operation
 use Rattle.merge.specs.Operations.{chosen}
 use Rattle.merge.specs.Merges.{bodiesOf, answerBody}
-use Rattle.questions.specs.declared.answer.Histogram.{Histogram}
-use Rattle.questions.specs.declared.answer.Answered.{Answered}
-use Rattle.questions.specs.declared.answer.Answered.the-variants as answered
-use Rattle.questions.specs.Told.{refusal, Reported, histogramTold, Counted}
-use Rattle.ewah.specs.declared.refusal.Checked.the-variants as checked
+use Rattle.answers.specs.declared.answer.Histogram.{Histogram}
+use Rattle.answers.specs.declared.answer.Answered.{Answered}
+use Rattle.answers.specs.declared.answer.Answered.the-variants as answered
+use Rattle.answers.specs.declared.refusal.Checked.the-variants as checked
 use Rattle.questions.proofs.Listing.{reported-refused}
 
 -- ---- one of three tests refuses, or none does

@@ -1,4 +1,3 @@
-pub mod Tells
 pub mod Asks
 pub mod Plain
 pub mod Numbers

@@ -16,15 +16,14 @@ use Rattle.meaning.specs.Index.{bitmapCount}
 use Rattle.meaning.specs.Answer.{badBitmap, anyBad, badList, namedBodies, fits, bufferAfter, wordsReported, stretchesReported}
 use Rattle.meaning.proofs.Demanded.{good-each, or-false}
 use Rattle.meaning.proofs.Outcomes.{fits-yes, fits-no}
-use Rattle.ewah.specs.declared.refusal.Refusal.{Refusal}
-use Rattle.ewah.specs.Told.{refusedBy}
+use Rattle.answers.specs.declared.refusal.Refusal.{Refusal}
+use Rattle.answers.specs.Told.{refusedBy, refusal, answeredOf, wordsIn, stretchesIn, Reported}
 use Rattle.merge.specs.declared.evaluate.Operation.{Operation}
 use Rattle.merge.specs.declared.engine.Merged.{Merged}
 use Rattle.merge.specs.Queries.{Listed}
 use Rattle.merge.specs.Merges.{answerBody, MergedTo}
-use Rattle.questions.specs.declared.answer.Answered.{Answered}
-use Rattle.questions.specs.declared.answer.Answered.the-variants as answered
-use Rattle.questions.specs.Told.{refusal, answeredOf, wordsIn, stretchesIn, Reported}
+use Rattle.answers.specs.declared.answer.Answered.{Answered}
+use Rattle.answers.specs.declared.answer.Answered.the-variants as answered
 
 -- ---- the numbers, one by one
 

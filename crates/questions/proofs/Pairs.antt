@@ -22,11 +22,11 @@ use Rattle.merge.specs.declared.evaluate.Operation.the-variants as operation
 use Rattle.merge.specs.Operations.{chosen}
 use Rattle.merge.specs.Queries.{Listed}
 use Rattle.merge.specs.Merges.{answerBody}
-use Rattle.ewah.specs.declared.refusal.Refusal.{Refusal}
-use Rattle.questions.specs.declared.answer.Answered.{Answered}
-use Rattle.questions.specs.declared.answer.Answered.the-variants as answered
-use Rattle.questions.specs.declared.answer.Written.the-variants as written
-use Rattle.questions.specs.Told.{Reported, Wrote, answeredOf, wordsIn, writtenOf, wordsOf}
+use Rattle.answers.specs.declared.refusal.Refusal.{Refusal}
+use Rattle.answers.specs.declared.answer.Answered.{Answered}
+use Rattle.answers.specs.declared.answer.Answered.the-variants as answered
+use Rattle.answers.specs.declared.answer.Written.the-variants as written
+use Rattle.answers.specs.Told.{Reported, Wrote, answeredOf, wordsIn, writtenOf, wordsOf}
 
 -- ---- the words alone
 

@@ -18,10 +18,10 @@ use Rattle.meaning.specs.Answer.{rowsFault, plainFault, write}
 use Rattle.meaning.proofs.RowWords.{rows-decide, last-getD}
 use Rattle.meaning.proofs.Segments.{encoded, canonical-is}
 use Rattle.meaning.proofs.Outcomes.{refuse-answer, then-answer}
-use Rattle.ewah.specs.declared.refusal.Refusal.{Refusal}
-use Rattle.questions.specs.declared.answer.Written.the-variants as written
-use Rattle.questions.specs.Told.{refusal, Wrote}
-use Rattle.questions.proofs.Tells.{wrote-none, wrote-words}
+use Rattle.answers.specs.declared.refusal.Refusal.{Refusal}
+use Rattle.answers.specs.declared.answer.Written.the-variants as written
+use Rattle.answers.specs.Told.{refusal, Wrote}
+use Rattle.answers.proofs.Tells.{wrote-none, wrote-words}
 
 module _ (R : ℕ) (plain : List ℕ) where
   pub plain-over : mostRows < R → refused 3 0 1 ≡ plainFault R plain

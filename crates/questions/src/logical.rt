@@ -11,10 +11,10 @@ ghost use Rattle.meaning.specs.Laws.{IndexFacts};
 ghost use Rattle.meaning.specs.Answer as meaning;
 ghost use Rattle.merge.specs.Queries.{Listed};
 ghost use Rattle.merge.specs.Operations.{chosen, LowNumber};
-ghost use Rattle.questions.specs.Told.{Wrote, Reported};
-use crate::answer::Answered;
-use crate::answer::Written;
+ghost use Rattle.answers.specs.Told.{Wrote, Reported};
 use crate::fit;
+use answers::answer::Answered;
+use answers::answer::Written;
 use merge::evaluate::Operation;
 
 // An answer's words alone: a logical question reports no stretches.

@@ -10,16 +10,15 @@ use lib.Dec.{eqb}
 use Rattle.meaning.specs.Refusal.{Outcome, refused, answer, Verdict, sound}
 use Rattle.meaning.specs.Readings.{same, isRefused, isSound}
 use Rattle.meaning.specs.Answer.{bufferAfter, stretchesReported, histogramReported}
-use Rattle.ewah.specs.declared.refusal.Refusal.{Refusal}
-use Rattle.ewah.specs.declared.refusal.Checked.{Checked}
-use Rattle.ewah.specs.declared.refusal.Checked.the-variants as checked
-use Rattle.ewah.specs.Told.{refusedBy, verdictOf}
-use Rattle.questions.specs.declared.answer.Histogram.{Histogram}
-use Rattle.questions.specs.declared.answer.Written.{Written}
-use Rattle.questions.specs.declared.answer.Written.the-variants as written
-use Rattle.questions.specs.declared.answer.Answered.{Answered}
-use Rattle.questions.specs.declared.answer.Answered.the-variants as answered
-use Rattle.questions.specs.Told.{writtenOf, wordsOf, Wrote, answeredOf, wordsIn, stretchesIn, Reported, histogramTold, Counted}
+use Rattle.answers.specs.declared.refusal.Refusal.{Refusal}
+use Rattle.answers.specs.declared.refusal.Checked.{Checked}
+use Rattle.answers.specs.declared.refusal.Checked.the-variants as checked
+use Rattle.answers.specs.Told.{refusedBy, verdictOf, writtenOf, wordsOf, Wrote, answeredOf, wordsIn, stretchesIn, Reported, histogramTold, Counted}
+use Rattle.answers.specs.declared.answer.Histogram.{Histogram}
+use Rattle.answers.specs.declared.answer.Written.{Written}
+use Rattle.answers.specs.declared.answer.Written.the-variants as written
+use Rattle.answers.specs.declared.answer.Answered.{Answered}
+use Rattle.answers.specs.declared.answer.Answered.the-variants as answered
 use Rattle.starred.specs.Reading.{sevens, Writes, isWritten, isAnswered}
 use Rattle.starred.proofs.Same.{same-self}
 

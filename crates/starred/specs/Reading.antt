@@ -7,10 +7,10 @@ use mathlib.Core.List.{List, [], _∷_}
 use lib.Dec.{eqb}
 use Rattle.meaning.specs.Refusal.{Outcome, answer}
 use Rattle.meaning.specs.Answer.{bufferAfter, wordsReported}
-use Rattle.questions.specs.declared.answer.Written.{Written}
-use Rattle.questions.specs.declared.answer.Written.the-variants as written
-use Rattle.questions.specs.declared.answer.Answered.{Answered}
-use Rattle.questions.specs.declared.answer.Answered.the-variants as answered
+use Rattle.answers.specs.declared.answer.Written.{Written}
+use Rattle.answers.specs.declared.answer.Written.the-variants as written
+use Rattle.answers.specs.declared.answer.Answered.{Answered}
+use Rattle.answers.specs.declared.answer.Answered.the-variants as answered
 
 abbrev pub sevens : List ℕ
 sevens = 7 ∷ 7 ∷ 7 ∷ 7 ∷ []

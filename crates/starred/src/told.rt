@@ -2,8 +2,7 @@
 ghost use mathlib.Core.Path.{_≡_};
 ghost use mathlib.Core.List.{[]};
 ghost use Rattle.meaning.specs.Readings as readings;
-ghost use Rattle.ewah.specs.Told.{refusedBy, verdictOf};
-ghost use Rattle.questions.specs.Told.{answeredOf};
+ghost use Rattle.answers.specs.Told.{refusedBy, verdictOf, answeredOf};
 ghost use Rattle.starred.specs.Reading.{isWritten, isAnswered};
 use zvonurel::Answered;
 use zvonurel::Checked;

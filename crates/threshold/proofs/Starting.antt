@@ -26,10 +26,10 @@ use Rattle.meaning.proofs.IndexSound.{index-means, body-facts}
 use Rattle.meaning.proofs.CanonicalBody.{canonical-sound}
 use Rattle.meaning.proofs.Demanded.{answered-is, or-false}
 use Rattle.merge.proofs.Along.{segments-few}
-use Rattle.ewah.specs.declared.refusal.Refusal.{Refusal}
-use Rattle.questions.specs.declared.answer.Answered.{Answered}
-use Rattle.questions.specs.declared.answer.Answered.the-variants.{Words, Refused}
-use Rattle.questions.specs.Told.{answeredOf, wordsIn, Reported}
+use Rattle.answers.specs.declared.refusal.Refusal.{Refusal}
+use Rattle.answers.specs.declared.answer.Answered.{Answered}
+use Rattle.answers.specs.declared.answer.Answered.the-variants.{Words, Refused}
+use Rattle.answers.specs.Told.{answeredOf, wordsIn, Reported}
 use Rattle.threshold.specs.declared.start.Begun.{Begun}
 use Rattle.threshold.specs.Output.{answerRoom, allNamed, refusedText, headText, linesFrom, outcomeText, asked, mostBytes, ragged, wordsOf, outputOf}
 use Rattle.threshold.specs.Texts.{Appended}

@@ -9,8 +9,8 @@ ghost use Rattle.threshold.specs.Output as output;
 ghost use Rattle.threshold.specs.Listings.{Begins};
 use crate::input;
 use crate::text;
+use answers::answer::Answered;
 use ewah::query;
-use questions::answer::Answered;
 
 // The chunk's bytes; the body's words, at the front of the answer buffer; and its rows, none on a refusal.
 pub struct Begun {

@@ -11,14 +11,13 @@ use Rattle.meaning.specs.Demands.{Asked, Demand3}
 use Rattle.meaning.proofs.Demanded.{demand3}
 use Rattle.meaning.proofs.IndexSound.{index-means}
 use Rattle.meaning.proofs.Outcomes.{then-sound}
-use Rattle.ewah.specs.declared.refusal.Checked.{Checked}
-use Rattle.ewah.specs.declared.refusal.Checked.the-variants as checked
-use Rattle.ewah.specs.Told.{verdictOf}
-use Rattle.ewah.proofs.Checks.{sound-is}
-use Rattle.questions.specs.declared.answer.Histogram.{Histogram}
-use Rattle.questions.specs.declared.answer.Answered.{Answered}
-use Rattle.questions.specs.declared.answer.Written.{Written}
-use Rattle.questions.specs.Told.{answeredOf, Reported, Counted, Wrote}
+use Rattle.answers.specs.declared.refusal.Checked.{Checked}
+use Rattle.answers.specs.declared.refusal.Checked.the-variants as checked
+use Rattle.answers.specs.Told.{verdictOf, answeredOf, Reported, Counted, Wrote}
+use Rattle.answers.proofs.Checks.{sound-is}
+use Rattle.answers.specs.declared.answer.Histogram.{Histogram}
+use Rattle.answers.specs.declared.answer.Answered.{Answered}
+use Rattle.answers.specs.declared.answer.Written.{Written}
 
 pub checked-index : (k : Checked) (index : List ℕ) → verdictOf k ≡ check index → k ≡ checked.Sound → IndexFacts index
 unfolding check

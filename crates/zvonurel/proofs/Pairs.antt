@@ -11,15 +11,14 @@ use Rattle.meaning.specs.Answer.{check, badBitmap, bitmapRefusal, logical, writ
 use Rattle.meaning.specs.Laws.{IndexFacts}
 use Rattle.meaning.proofs.Outcomes.{then-sound, then-answer}
 use Rattle.meaning.proofs.BitmapPart.{part-laws}
-use Rattle.ewah.specs.declared.refusal.Refusal.{Refusal}
-use Rattle.ewah.specs.declared.refusal.Checked.{Checked}
-use Rattle.ewah.specs.declared.refusal.Checked.the-variants as checked
-use Rattle.ewah.specs.Told.{verdictOf}
-use Rattle.ewah.proofs.Checks.{sound-is, refuses}
-use Rattle.questions.specs.declared.answer.Written.{Written}
-use Rattle.questions.specs.declared.answer.Written.the-variants as written
-use Rattle.questions.specs.Told.{Wrote}
-use Rattle.questions.proofs.Tells.{wrote-refused}
+use Rattle.answers.specs.declared.refusal.Refusal.{Refusal}
+use Rattle.answers.specs.declared.refusal.Checked.{Checked}
+use Rattle.answers.specs.declared.refusal.Checked.the-variants as checked
+use Rattle.answers.specs.Told.{verdictOf, Wrote}
+use Rattle.answers.proofs.Checks.{sound-is, refuses}
+use Rattle.answers.specs.declared.answer.Written.{Written}
+use Rattle.answers.specs.declared.answer.Written.the-variants as written
+use Rattle.answers.proofs.Tells.{wrote-refused}
 use Rattle.zvonurel.proofs.Guards.{wrote-then}
 
 -- where the index is sound only the number is asked

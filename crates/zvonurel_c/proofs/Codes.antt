@@ -12,15 +12,14 @@ use mir.Val.{boolByte}
 use Rattle.meaning.specs.Refusal.{Outcome, refused, answer, Verdict}
 use Rattle.meaning.specs.Answer.{bufferAfter, wordsReported, stretchesReported, histogramReported}
 use Rattle.meaning.specs.Demands.{Demand3}
-use Rattle.ewah.specs.declared.refusal.Checked.{Checked}
-use Rattle.ewah.specs.Told.{verdictOf}
-use Rattle.ewah.specs.declared.refusal.Checked.the-variants as checked
-use Rattle.questions.specs.declared.answer.Written.{Written}
-use Rattle.questions.specs.declared.answer.Written.the-variants as written
-use Rattle.questions.specs.declared.answer.Answered.{Answered}
-use Rattle.questions.specs.declared.answer.Answered.the-variants as answered
-use Rattle.questions.specs.declared.answer.Histogram.{Histogram}
-use Rattle.questions.specs.Told.{writtenOf, wordsOf, answeredOf, wordsIn, stretchesIn, histogramTold, Wrote, Reported, Counted}
+use Rattle.answers.specs.declared.refusal.Checked.{Checked}
+use Rattle.answers.specs.Told.{verdictOf, writtenOf, wordsOf, answeredOf, wordsIn, stretchesIn, histogramTold, Wrote, Reported, Counted}
+use Rattle.answers.specs.declared.refusal.Checked.the-variants as checked
+use Rattle.answers.specs.declared.answer.Written.{Written}
+use Rattle.answers.specs.declared.answer.Written.the-variants as written
+use Rattle.answers.specs.declared.answer.Answered.{Answered}
+use Rattle.answers.specs.declared.answer.Answered.the-variants as answered
+use Rattle.answers.specs.declared.answer.Histogram.{Histogram}
 use Rattle.zvonurel_c.specs.declared.reply.ZvChecked.{ZvChecked}
 use Rattle.zvonurel_c.specs.declared.reply.ZvFlag.{ZvFlag}
 use Rattle.zvonurel_c.specs.declared.reply.ZvNumber.{ZvNumber}

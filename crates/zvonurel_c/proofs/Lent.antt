@@ -11,10 +11,10 @@ use Rattle.meaning.specs.Answer.{bitmap, bitmapRefusal}
 use Rattle.meaning.specs.Laws.{HeadFacts, EntryFacts}
 use Rattle.meaning.proofs.BitmapPart.{part-laws}
 use Rattle.meaning.proofs.Outcomes.{then-sound}
-use Rattle.ewah.specs.declared.refusal.Checked.{Checked}
-use Rattle.ewah.specs.declared.refusal.Checked.the-variants as checked
-use Rattle.ewah.specs.Told.{verdictOf}
-use Rattle.ewah.proofs.Checks.{sound-is}
+use Rattle.answers.specs.declared.refusal.Checked.{Checked}
+use Rattle.answers.specs.declared.refusal.Checked.the-variants as checked
+use Rattle.answers.specs.Told.{verdictOf}
+use Rattle.answers.proofs.Checks.{sound-is}
 use Rattle.zvonurel_c.specs.declared.reply.ZvPart.{ZvPart}
 use Rattle.zvonurel_c.specs.Exported.{numberIn, bitmapIn, wordIn, ifAnswered, partReply, told, Lends}
 use Rattle.zvonurel_c.proofs.Numbered.{number-of, bitmap-refusal}

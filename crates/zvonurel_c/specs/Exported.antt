@@ -9,12 +9,12 @@ use lib.ListN.{length, take, drop}
 use Rattle.meaning.specs.Refusal.{Outcome, refused, answer, Verdict}
 use Rattle.meaning.specs.Index.{startOf, lengthOf}
 use Rattle.meaning.specs.Answer.{bufferAfter, wordsReported, stretchesReported, histogramReported, bitmap, bitmapRefusal, partOf}
-use Rattle.ewah.specs.declared.refusal.Checked.{Checked}
-use Rattle.ewah.specs.Told.{verdictOf}
-use Rattle.questions.specs.declared.answer.Written.{Written}
-use Rattle.questions.specs.declared.answer.Written.the-variants as written
-use Rattle.questions.specs.declared.answer.Answered.{Answered}
-use Rattle.questions.specs.declared.answer.Answered.the-variants as answered
+use Rattle.answers.specs.declared.refusal.Checked.{Checked}
+use Rattle.answers.specs.Told.{verdictOf}
+use Rattle.answers.specs.declared.answer.Written.{Written}
+use Rattle.answers.specs.declared.answer.Written.the-variants as written
+use Rattle.answers.specs.declared.answer.Answered.{Answered}
+use Rattle.answers.specs.declared.answer.Answered.the-variants as answered
 use Rattle.zvonurel_c.specs.declared.reply.ZvChecked.{ZvChecked}
 use Rattle.zvonurel_c.specs.declared.reply.ZvFlag.{ZvFlag}
 use Rattle.zvonurel_c.specs.declared.reply.ZvNumber.{ZvNumber}

@@ -1,8 +1,7 @@
 // What an exported call returns: the three numbers of a refusal, all 0 where there is none, and the values, 0 on a refusal.
 // A struct of numbers, since C has no enum that holds values.
 ghost use mathlib.Core.Path.{_≡_};
-ghost use Rattle.ewah.specs.Told.{verdictOf};
-ghost use Rattle.questions.specs.Told.{flagOf, numberOf};
+ghost use Rattle.answers.specs.Told.{verdictOf, flagOf, numberOf};
 ghost use Rattle.zvonurel_c.specs.Exported.{checkedCode, flagCode, numberCode, writtenReply, answeredReply, partReply, histogramReply};
 use zvonurel::Answered;
 use zvonurel::Checked;

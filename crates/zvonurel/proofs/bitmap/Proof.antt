@@ -1,6 +1,6 @@
 use mathlib.Core.Path.{sym, _∙_}
 use denote.Ref.{now}
-use Rattle.ewah.proofs.Checks.{sound-is, refused-is}
+use Rattle.answers.proofs.Checks.{sound-is, refused-is}
 use Rattle.meaning.proofs.BitmapPart.{part-laws}
 use borrow.Author.Needs.{needs}
 use Rattle.zvonurel.proofs.bitmap.Statement.{statement}

@@ -1,6 +1,6 @@
 use denote.Ref.{now}
-use Rattle.ewah.specs.Told.{verdictOf}
-use Rattle.ewah.proofs.Checks.{sound-is, refuses, answers}
+use Rattle.answers.specs.Told.{verdictOf}
+use Rattle.answers.proofs.Checks.{sound-is, refuses, answers}
 use Rattle.meaning.specs.Refusal.{sound, refuseIf}
 use Rattle.meaning.specs.Answer.{check, badBitmap, bitmapRefusal}
 use Rattle.meaning.proofs.IndexSound.{index-means}

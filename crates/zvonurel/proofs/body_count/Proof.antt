@@ -2,13 +2,12 @@
 use borrow.Author.Needs.{needs}
 use mathlib.Core.Path.{_≡_}
 use denote.Ref.{now}
-use Rattle.meaning.specs.Refusal.{sound}
+use Rattle.meaning.specs.Refusal.{sound, answer}
 use Rattle.meaning.specs.Ewah.{rowsOf}
 use mathlib.Core.Path.{ap}
-use Rattle.meaning.specs.Refusal.{answer}
 use Rattle.meaning.specs.Answer.{checkBody, askCount, bodyCount}
-use Rattle.questions.specs.Told.{numberOf}
-use Rattle.ewah.proofs.Checks.{sound-is, refuses, answers}
+use Rattle.answers.specs.Told.{numberOf}
+use Rattle.answers.proofs.Checks.{sound-is, refuses, answers}
 use Rattle.zvonurel.proofs.Alone.{few-rows, facts}
 use Rattle.questions.proofs.Asks.{few-segments}
 use Rattle.zvonurel.proofs.body_count.Statement.{statement}

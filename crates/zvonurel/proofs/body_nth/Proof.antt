@@ -5,8 +5,8 @@ use denote.Ref.{now}
 use Rattle.meaning.specs.Refusal.{sound}
 use Rattle.meaning.specs.Ewah.{rowsOf}
 use Rattle.meaning.specs.Answer.{checkBody, askNth, bodyNth}
-use Rattle.questions.specs.Told.{numberOf}
-use Rattle.ewah.proofs.Checks.{sound-is, refuses, answers}
+use Rattle.answers.specs.Told.{numberOf}
+use Rattle.answers.proofs.Checks.{sound-is, refuses, answers}
 use Rattle.zvonurel.proofs.Alone.{few-rows, facts}
 use Rattle.questions.proofs.Asks.{few-segments}
 use Rattle.zvonurel.proofs.body_nth.Statement.{statement}

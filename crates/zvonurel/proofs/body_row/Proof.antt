@@ -5,8 +5,8 @@ use denote.Ref.{now}
 use Rattle.meaning.specs.Refusal.{sound}
 use Rattle.meaning.specs.Ewah.{rowsOf}
 use Rattle.meaning.specs.Answer.{checkBody, askRow, bodyRow}
-use Rattle.questions.specs.Told.{flagOf}
-use Rattle.ewah.proofs.Checks.{sound-is, refuses, answers}
+use Rattle.answers.specs.Told.{flagOf}
+use Rattle.answers.proofs.Checks.{sound-is, refuses, answers}
 use Rattle.zvonurel.proofs.Alone.{facts}
 use Rattle.zvonurel.proofs.body_row.Statement.{statement}
 use Rattle.zvonurel.proofs.body_row.Tie as tie

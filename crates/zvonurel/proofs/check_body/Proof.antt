@@ -2,7 +2,7 @@
 use borrow.Author.Needs.{needs}
 use mathlib.Core.Path.{ap, _∙_}
 use denote.Ref.{now}
-use Rattle.ewah.specs.Told.{refusedBy, verdictOf}
+use Rattle.answers.specs.Told.{refusedBy, verdictOf}
 use Rattle.zvonurel.proofs.Alone.{rows-over, rows-fine}
 use Rattle.zvonurel.proofs.check_body.Statement.{statement}
 use Rattle.zvonurel.proofs.check_body.Tie as tie

@@ -4,8 +4,8 @@ use denote.Ref.{now}
 use lib.ListN.{length}
 use Rattle.meaning.specs.Segment.{hasRow}
 use Rattle.meaning.specs.Answer.{plainFault, write, compress}
-use Rattle.ewah.proofs.Checks.{sound-is, refuses}
-use Rattle.questions.proofs.Tells.{wrote-refused}
+use Rattle.answers.proofs.Checks.{sound-is, refuses}
+use Rattle.answers.proofs.Tells.{wrote-refused}
 use Rattle.zvonurel.proofs.Guards.{wrote-then}
 use Rattle.questions.proofs.Plain.{plain-rows}
 use Rattle.zvonurel.proofs.compress.Statement.{statement}

@@ -6,8 +6,8 @@ use Rattle.meaning.specs.Refusal.{sound}
 use Rattle.meaning.specs.Ewah.{rowsOf}
 use lib.ListN.{length}
 use Rattle.meaning.specs.Answer.{checkBody, askPlain, expand}
-use Rattle.ewah.proofs.Checks.{sound-is, refuses}
-use Rattle.questions.proofs.Tells.{wrote-refused}
+use Rattle.answers.proofs.Checks.{sound-is, refuses}
+use Rattle.answers.proofs.Tells.{wrote-refused}
 use Rattle.zvonurel.proofs.Guards.{wrote-then}
 use Rattle.zvonurel.proofs.Alone.{few-rows, facts}
 use Rattle.zvonurel.proofs.expand.Statement.{statement}

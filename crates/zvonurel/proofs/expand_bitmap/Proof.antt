@@ -1,5 +1,5 @@
 use denote.Ref.{now}
-use Rattle.ewah.proofs.Checks.{sound-is, refuses}
+use Rattle.answers.proofs.Checks.{sound-is, refuses}
 use Rattle.meaning.proofs.BitmapPart.{part-laws}
 use Rattle.meaning.specs.Answer.{bitmapRefusal, askPlain, expandBitmap}
 use Rattle.meaning.specs.Index.{rowCount, rowsAt}
@@ -8,8 +8,8 @@ use Prim.Native.Nat.{ℕ}
 use mathlib.Core.List.{List}
 use lib.ListN.{length}
 use mathlib.Core.Path.{subst₂}
-use Rattle.questions.specs.Told.{Wrote}
-use Rattle.questions.proofs.Tells.{wrote-refused}
+use Rattle.answers.specs.Told.{Wrote}
+use Rattle.answers.proofs.Tells.{wrote-refused}
 use Rattle.zvonurel.proofs.Guards.{wrote-then}
 use Rattle.questions.proofs.Numbers.{facts-as, rows-as}
 use borrow.Author.Needs.{needs}

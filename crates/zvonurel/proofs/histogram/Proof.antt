@@ -2,12 +2,12 @@ use denote.Ref.{now}
 use Prim.Native.Nat.{ℕ}
 use mathlib.Core.List.{List}
 use mathlib.Core.Path.{subst}
-use Rattle.ewah.proofs.Checks.{refuses}
+use Rattle.answers.proofs.Checks.{refuses}
 use Rattle.meaning.specs.Refusal.{Outcome, answer, refuseIf}
 use Rattle.meaning.specs.Index.{rowCount}
 use Rattle.meaning.specs.Question.{histogramOf}
 use Rattle.meaning.specs.Answer.{check, histogram, badList, named}
-use Rattle.questions.specs.Told.{Counted}
+use Rattle.answers.specs.Told.{Counted}
 use Rattle.zvonurel.proofs.Guards.{checked-index, counted-then}
 use borrow.Author.Needs.{needs}
 use Rattle.zvonurel.proofs.histogram.Statement.{statement}

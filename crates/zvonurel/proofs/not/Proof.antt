@@ -1,6 +1,6 @@
 use Rattle.zvonurel.proofs.Guards.{wrote-then}
-use Rattle.questions.proofs.Tells.{wrote-refused}
-use Rattle.ewah.proofs.Checks.{sound-is, refuses}
+use Rattle.answers.proofs.Tells.{wrote-refused}
+use Rattle.answers.proofs.Checks.{sound-is, refuses}
 use Rattle.meaning.proofs.BitmapPart.{part-laws}
 use Rattle.meaning.specs.Answer.{bitmapRefusal, write, notOf}
 use Rattle.meaning.specs.Question.{complement}

@@ -1,8 +1,8 @@
 use Rattle.zvonurel.proofs.Pairs.{second-number}
-use Rattle.ewah.proofs.Checks.{sound-is, refuses, answers}
+use Rattle.answers.proofs.Checks.{sound-is, refuses, answers}
 use Rattle.meaning.proofs.BitmapPart.{part-laws}
 use Rattle.meaning.specs.Answer.{bitmapRefusal}
-use Rattle.ewah.specs.Told.{verdictOf}
+use Rattle.answers.specs.Told.{verdictOf}
 use mathlib.Core.Path.{sym, _∙_}
 use denote.Ref.{now}
 use borrow.Author.Needs.{needs}

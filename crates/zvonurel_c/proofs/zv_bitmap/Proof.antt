@@ -1,5 +1,5 @@
 use denote.Ref.{now}
-use Rattle.ewah.proofs.Checks.{sound-is, refused-is}
+use Rattle.answers.proofs.Checks.{sound-is, refused-is}
 use Rattle.zvonurel_c.proofs.Lent.{there, lends-none, lends-part}
 use borrow.Author.Needs.{needs}
 use Rattle.zvonurel_c.proofs.zv_bitmap.Statement.{statement}

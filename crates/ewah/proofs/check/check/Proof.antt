@@ -9,7 +9,7 @@ use lib.ListN.{length, drop}
 use Rattle.meaning.specs.Segment.{segmentCount}
 use Rattle.meaning.specs.Refusal.{refuseIf}
 use Rattle.meaning.specs.Ewah.{faultFrom, bodyFault}
-use Rattle.ewah.specs.Told.{verdictOf}
+use Rattle.answers.specs.Told.{verdictOf}
 use Rattle.ewah.proofs.Steps.{passed-of, faulty-of, end-fault}
 use Rattle.ewah.proofs.check.check.Statement.{statement}
 use Rattle.ewah.proofs.check.check.Tie as tie

@@ -1,8 +1,8 @@
 use denote.Ref.{now}
 use Rattle.meaning.specs.Index.{bitmapCount, entryPlace, headFault, entriesFault, bodiesFault, indexFault}
 use Rattle.meaning.specs.Refusal.{_then_}
-use Rattle.ewah.specs.Told.{verdictOf}
-use Rattle.ewah.proofs.Checks.{sound-is, refuses, answers}
+use Rattle.answers.specs.Told.{verdictOf}
+use Rattle.answers.proofs.Checks.{sound-is, refuses, answers}
 use Rattle.meaning.proofs.IndexSound.{head-facts}
 use borrow.Author.Needs.{needs}
 use Rattle.index.proofs.check.check.Statement.{statement}

@@ -1,10 +1,9 @@
-use Rattle.index.proofs.EntrySteps.{bodies-start, fault-of}
+use Rattle.index.proofs.EntrySteps.{bodies-start, fault-of, bodies-next, bodies-fault, bodies-end}
 use mathlib.Core.Path.{_≡_, sym, ap, _∙_}
 use denote.Ref.{now}
 use Prim.Native.Nat.{_-_, _≤_}
 use Rattle.meaning.specs.Index.{rowCount, bitmapCount, bodiesFault}
-use Rattle.ewah.specs.Told.{verdictOf}
-use Rattle.index.proofs.EntrySteps.{bodies-next, bodies-fault, bodies-end}
+use Rattle.answers.specs.Told.{verdictOf}
 use borrow.Author.Needs.{needs}
 use native.Mathlib.Omega.{arith}
 use Rattle.index.proofs.check.check_bodies.Statement.{statement}

@@ -1,7 +1,7 @@
 use denote.Ref.{now}
 use Rattle.meaning.specs.Index.{bitmapCount, entryPlace, entriesFault, bodiesFault}
-use Rattle.ewah.specs.Told.{verdictOf}
-use Rattle.ewah.proofs.Checks.{sound-is, refuses, answers}
+use Rattle.answers.specs.Told.{verdictOf}
+use Rattle.answers.proofs.Checks.{sound-is, refuses, answers}
 use Rattle.meaning.proofs.IndexSound.{entry-facts}
 use borrow.Author.Needs.{needs}
 use Rattle.index.proofs.check.check_contents.Statement.{statement}

@@ -1,11 +1,10 @@
-use Rattle.index.proofs.EntrySteps.{entries-start}
+use Rattle.index.proofs.EntrySteps.{entries-start, passed-of, faulty-of, entries-next, entries-fault, entries-left, entries-end}
 use mathlib.Core.Path.{_≡_, ap, _∙_}
 use denote.Ref.{now}
 use Prim.Native.Nat.{_-_, _≤_}
 use lib.ListN.{length}
 use Rattle.meaning.specs.Index.{bitmapCount, entryPlace, entriesFault}
-use Rattle.ewah.specs.Told.{verdictOf}
-use Rattle.index.proofs.EntrySteps.{passed-of, faulty-of, entries-next, entries-fault, entries-left, entries-end}
+use Rattle.answers.specs.Told.{verdictOf}
 use borrow.Author.Needs.{needs}
 use native.Mathlib.Omega.{arith}
 use Rattle.index.proofs.check.check_entries.Statement.{statement}

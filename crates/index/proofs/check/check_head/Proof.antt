@@ -1,6 +1,6 @@
 use mathlib.Core.Path.{ap, _∙_}
 use denote.Ref.{now}
-use Rattle.ewah.specs.Told.{verdictOf}
+use Rattle.answers.specs.Told.{verdictOf}
 use Rattle.index.proofs.Heads.{head-long, head-short, head-kind, head-rows, head-bitmaps, head-contents, head-fine}
 use native.Mathlib.Omega.{arith}
 use borrow.Author.Needs.{needs}

@@ -1,5 +1,5 @@
 use mathlib.Core.Path.{ap, _∙_}
-use Rattle.ewah.specs.Told.{refusedBy, verdictOf}
+use Rattle.answers.specs.Told.{refusedBy, verdictOf}
 use Rattle.questions.proofs.Numbers.{number-bad, number-good}
 use borrow.Author.Needs.{needs}
 use Rattle.questions.proofs.ask.check_number.Statement.{statement}

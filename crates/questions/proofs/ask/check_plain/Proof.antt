@@ -4,7 +4,7 @@ use mathlib.Core.Path.{ap, _∙_}
 use native.Mathlib.Omega.{arith}
 use denote.Ref.{now}
 use Rattle.meaning.specs.Segment.{segmentCount}
-use Rattle.ewah.specs.Told.{refusedBy, verdictOf}
+use Rattle.answers.specs.Told.{refusedBy, verdictOf}
 use Rattle.questions.proofs.Plain.{plain-over, plain-count, plain-none-left, plain-pad, plain-fine}
 use Rattle.questions.proofs.ask.check_plain.Statement.{statement}
 use Rattle.questions.proofs.ask.check_plain.Tie as tie

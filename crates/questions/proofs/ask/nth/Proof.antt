@@ -2,8 +2,7 @@
 use borrow.Author.Needs.{needs}
 use mathlib.Core.Path.{sym, ap, _∙_}
 use Rattle.ewah.specs.Found.{foundOf}
-use Rattle.ewah.specs.Told.{refusedBy}
-use Rattle.questions.specs.Told.{numberOf}
+use Rattle.answers.specs.Told.{refusedBy, numberOf}
 use Rattle.questions.proofs.ask.nth.Statement.{statement}
 use Rattle.questions.proofs.ask.nth.Tie as tie
 

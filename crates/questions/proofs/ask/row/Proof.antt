@@ -3,8 +3,7 @@ use borrow.Author.Needs.{needs}
 use mathlib.Core.Path.{ap, _∙_}
 use denote.Ref.{now}
 use Rattle.meaning.specs.Ewah.{rowsOf}
-use Rattle.ewah.specs.Told.{refusedBy}
-use Rattle.questions.specs.Told.{flagOf}
+use Rattle.answers.specs.Told.{refusedBy, flagOf}
 use Rattle.questions.proofs.Asks.{row-past, row-here, row-within}
 use Rattle.questions.proofs.ask.row.Statement.{statement}
 use Rattle.questions.proofs.ask.row.Tie as tie

@@ -4,7 +4,7 @@ use mathlib.Core.List.{List}
 use Prim.Native.Nat.{ℕ}
 use lib.ListN.{length}
 use Rattle.meaning.specs.Refusal.{Outcome}
-use Rattle.questions.specs.Told.{Reported}
+use Rattle.answers.specs.Told.{Reported}
 use Rattle.questions.proofs.Listing.{good-listed, good-some}
 use Rattle.questions.proofs.Choosing.{reported-first, reported-second, reported-third, reported-rest, symmetric-body, size-wrong, size-right}
 use native.Mathlib.Omega.{arith}

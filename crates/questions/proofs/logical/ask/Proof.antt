@@ -1,5 +1,5 @@
 use Rattle.questions.proofs.Pairs.{chosen-body}
-use Rattle.questions.specs.Told.{Wrote}
+use Rattle.answers.specs.Told.{Wrote}
 use Rattle.meaning.specs.Refusal.{Outcome}
 use lib.ListN.{length}
 use Prim.Native.Nat.{ℕ}

@@ -1,4 +1,4 @@
-use Rattle.ewah.specs.Told.{verdictOf}
+use Rattle.answers.specs.Told.{verdictOf}
 use Rattle.meaning.specs.Readings.{isRefused}
 use mathlib.Core.Path.{refl, _∙_}
 use borrow.Author.Needs.{needs}

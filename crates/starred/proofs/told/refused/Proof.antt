@@ -1,4 +1,4 @@
-use Rattle.questions.specs.Told.{answeredOf}
+use Rattle.answers.specs.Told.{answeredOf}
 use Rattle.meaning.specs.Readings.{isRefused}
 use mathlib.Core.Path.{refl, _∙_}
 use borrow.Author.Needs.{needs}

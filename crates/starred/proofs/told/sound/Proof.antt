@@ -1,4 +1,4 @@
-use Rattle.ewah.specs.Told.{verdictOf}
+use Rattle.answers.specs.Told.{verdictOf}
 use Rattle.meaning.specs.Readings.{isSound}
 use mathlib.Core.Path.{refl}
 use borrow.Author.Needs.{needs}

@@ -1,5 +1,5 @@
 use Rattle.zvonurel_c.specs.Exported.{numberIn, bitmapIn, wordIn}
-use Rattle.ewah.specs.Told.{verdictOf}
+use Rattle.answers.specs.Told.{verdictOf}
 use borrow.Author.Needs.{needs}
 use Rattle.zvonurel_c.proofs.reply.checked.Statement.{statement}
 use Rattle.zvonurel_c.proofs.reply.checked.Tie as tie

@@ -1,5 +1,5 @@
 use Rattle.zvonurel_c.specs.Exported.{numberIn, bitmapIn, wordIn, flagIn}
-use Rattle.questions.specs.Told.{flagOf}
+use Rattle.answers.specs.Told.{flagOf}
 use Rattle.zvonurel_c.proofs.Codes.{as-number}
 use borrow.Author.Needs.{needs}
 use Rattle.zvonurel_c.proofs.reply.flag.Statement.{statement}

@@ -1,5 +1,5 @@
 use Rattle.zvonurel_c.specs.Exported.{numberIn, bitmapIn, wordIn, valueIn}
-use Rattle.questions.specs.Told.{numberOf}
+use Rattle.answers.specs.Told.{numberOf}
 use borrow.Author.Needs.{needs}
 use Rattle.zvonurel_c.proofs.reply.number.Statement.{statement}
 use Rattle.zvonurel_c.proofs.reply.number.Tie as tie

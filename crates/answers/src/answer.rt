@@ -1,9 +1,8 @@
 // What calls answer, and the refusals that have no place.
 ghost use mathlib.Core.Path.{_≡_};
-ghost use Rattle.questions.specs.Told.{refusal, Counted};
-ghost use Rattle.ewah.specs.Told.{refusedBy};
-use ewah::refusal::Checked;
-use ewah::refusal::Refusal;
+ghost use Rattle.answers.specs.Told.{refusal, Counted, refusedBy};
+use crate::refusal::Checked;
+use crate::refusal::Refusal;
 
 // Whether a row is set.
 pub enum Flag {

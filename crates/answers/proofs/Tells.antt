@@ -9,10 +9,9 @@ use lib.Seq.{take-at}
 use Rattle.meaning.specs.Refusal.{Outcome, refused, answer}
 use Rattle.meaning.specs.Answer.{fits, bufferAfter, wordsReported}
 use Rattle.meaning.proofs.Outcomes.{fits-yes, fits-no}
-use Rattle.ewah.specs.declared.refusal.Refusal.{Refusal}
-use Rattle.ewah.specs.Told.{refusedBy}
-use Rattle.questions.specs.declared.answer.Written.the-variants as written
-use Rattle.questions.specs.Told.{refusal, writtenOf, wordsOf, Wrote}
+use Rattle.answers.specs.declared.refusal.Refusal.{Refusal}
+use Rattle.answers.specs.Told.{refusedBy, refusal, writtenOf, wordsOf, Wrote}
+use Rattle.answers.specs.declared.answer.Written.the-variants as written
 
 -- ---- a buffer
 

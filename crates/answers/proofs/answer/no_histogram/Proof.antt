@@ -1,8 +1,8 @@
 use mathlib.Core.Path.{refl}
-use Rattle.questions.specs.Told.{histogramTold}
+use Rattle.answers.specs.Told.{histogramTold}
 use Rattle.meaning.specs.Answer.{histogramReported}
-use Rattle.questions.proofs.answer.no_histogram.Statement.{statement}
-use Rattle.questions.proofs.answer.no_histogram.Tie as tie
+use Rattle.answers.proofs.answer.no_histogram.Statement.{statement}
+use Rattle.answers.proofs.answer.no_histogram.Tie as tie
 
 returns : tie.Need-returns
 unfolding histogramTold histogramReported

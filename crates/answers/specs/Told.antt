@@ -5,21 +5,28 @@ use mathlib.Core.Bool.{Bool}
 use mathlib.Core.Path.{_≡_}
 use mathlib.Core.List.{List}
 use lib.ListN.{take}
-use Rattle.meaning.specs.Refusal.{Outcome, answer}
+use Rattle.meaning.specs.Refusal.{Outcome, Verdict, sound, refused, answer}
 use Rattle.meaning.specs.Answer.{bufferAfter, wordsReported, stretchesReported, histogramReported}
-use Rattle.ewah.specs.declared.refusal.Refusal.{Refusal}
-use Rattle.ewah.specs.declared.refusal.Checked.{Checked}
-use Rattle.ewah.specs.declared.refusal.Checked.the-variants as checked
-use Rattle.ewah.specs.Told.{refusedBy}
-use Rattle.questions.specs.declared.answer.Histogram.{Histogram}
-use Rattle.questions.specs.declared.answer.Flag.{Flag}
-use Rattle.questions.specs.declared.answer.Flag.the-variants as flag
-use Rattle.questions.specs.declared.answer.Number.{Number}
-use Rattle.questions.specs.declared.answer.Number.the-variants as number
-use Rattle.questions.specs.declared.answer.Answered.{Answered}
-use Rattle.questions.specs.declared.answer.Answered.the-variants as answered
-use Rattle.questions.specs.declared.answer.Written.{Written}
-use Rattle.questions.specs.declared.answer.Written.the-variants as written
+use Rattle.answers.specs.declared.refusal.Refusal.{Refusal}
+use Rattle.answers.specs.declared.refusal.Checked.{Checked}
+use Rattle.answers.specs.declared.refusal.Checked.the-variants as checked
+use Rattle.answers.specs.declared.answer.Histogram.{Histogram}
+use Rattle.answers.specs.declared.answer.Flag.{Flag}
+use Rattle.answers.specs.declared.answer.Flag.the-variants as flag
+use Rattle.answers.specs.declared.answer.Number.{Number}
+use Rattle.answers.specs.declared.answer.Number.the-variants as number
+use Rattle.answers.specs.declared.answer.Answered.{Answered}
+use Rattle.answers.specs.declared.answer.Answered.the-variants as answered
+use Rattle.answers.specs.declared.answer.Written.{Written}
+use Rattle.answers.specs.declared.answer.Written.the-variants as written
+
+-- a refusal's three numbers
+abbrev pub refusedBy : {A : Type 0} → Refusal → Outcome A
+refusedBy r = refused (r .number) (r .bitmap) (r .word)
+
+unfoldable pub verdictOf : Checked → Verdict
+verdictOf checked.Sound = sound
+verdictOf (checked.Refused r) = refusedBy r
 
 -- the refusal with that number and word, of bitmap 0
 abbrev pub refusal : (number word : ℕ) → Refusal

@@ -3,10 +3,10 @@
 use mathlib.Core.Path.{_≡_, sym, ap, _∙_}
 use Rattle.meaning.specs.Refusal.{Outcome, Verdict, sound, _then_}
 use Rattle.meaning.proofs.Outcomes.{then-sound}
-use Rattle.ewah.specs.declared.refusal.Refusal.{Refusal}
-use Rattle.ewah.specs.declared.refusal.Checked.{Checked}
-use Rattle.ewah.specs.declared.refusal.Checked.the-variants.{Sound, Refused}
-use Rattle.ewah.specs.Told.{refusedBy, verdictOf}
+use Rattle.answers.specs.declared.refusal.Refusal.{Refusal}
+use Rattle.answers.specs.declared.refusal.Checked.{Checked}
+use Rattle.answers.specs.declared.refusal.Checked.the-variants.{Sound, Refused}
+use Rattle.answers.specs.Told.{refusedBy, verdictOf}
 
 module _ (k : Checked) (v : Verdict) (e : verdictOf k ≡ v) where
   pub refused-is : (r : Refusal) → k ≡ Refused r → v ≡ refusedBy r
