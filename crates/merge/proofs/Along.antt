@@ -15,9 +15,9 @@ use Rattle.ewah.specs.declared.cursor.Piece as code
 use Rattle.ewah.specs.declared.cursor.Piece.the-variants.{Clean, Dirty}
 use Rattle.ewah.specs.Cursors.{ValueLow, leftOf}
 use Rattle.words.specs.Counters.{countAt}
-use Rattle.merge.specs.declared.survey.Survey.{Survey}
-use Rattle.merge.specs.Queries.{cursorOf, Standing, Listed, placeBody}
-use Rattle.merge.specs.Surveys.{onesIn, dirtyIn, bitIn, Surveyed, MovedAll}
+use Rattle.walk.specs.declared.survey.Survey.{Survey}
+use Rattle.walk.specs.Queries.{cursorOf, Standing, Listed, placeBody}
+use Rattle.walk.specs.Surveys.{onesIn, dirtyIn, bitIn, Surveyed, MovedAll}
 use Rattle.merge.specs.Merges.{bodiesOf}
 use Rattle.merge.proofs.Stretched.{stretch, least-some, least-low, least-left}
 

@@ -9,10 +9,10 @@ use Rattle.meaning.specs.Limits.{mostClean}
 use Rattle.meaning.specs.Segment.{Segment, clean}
 use Rattle.meaning.specs.Canonical.{put}
 use Rattle.meaning.proofs.Least.{puts-grow, run-adds}
-use Rattle.ewah.specs.declared.writer.Writer.{Writer}
-use Rattle.ewah.specs.Drafts.{Writing, RoomFor, Grown, Pushed}
-use Rattle.ewah.proofs.Growing.{used-is}
-use Rattle.ewah.proofs.Pushing.{drop-more}
+use Rattle.ewah_write.specs.declared.writer.Writer.{Writer}
+use Rattle.ewah_write.specs.Drafts.{Writing, RoomFor, Grown, Pushed}
+use Rattle.ewah_write.proofs.Growing.{used-is}
+use Rattle.ewah_write.proofs.Pushing.{drop-more}
 
 pub still-writing : {w r : Writer} (ss : List Segment) → Writing w → Grown w ss r → Writing r
 still-writing ss p g = (foldl put (p .0) ss, g (p .0) (p .1))

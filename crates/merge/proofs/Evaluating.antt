@@ -16,7 +16,7 @@ use Rattle.meaning.proofs.Counting.{full-set}
 use Rattle.meaning.proofs.Evaluated.{last-le, mask-last, mask-inside, run-zeros, run-ones, run-ones-last, one-word}
 use Rattle.words.specs.Counters.{countAt}
 use Rattle.words.proofs.BitLaws.{and-set}
-use Rattle.merge.specs.declared.survey.Survey.{Survey}
+use Rattle.walk.specs.declared.survey.Survey.{Survey}
 use Rattle.merge.specs.declared.evaluate.Operation.{Operation}
 use Rattle.merge.specs.declared.evaluate.Part.the-variants.{Run, Tail}
 use Rattle.merge.specs.Operations.{chosen}

@@ -1,6 +1,3 @@
-pub mod Numbers
-pub mod Weighing
-pub mod Places
 pub mod Evaluating
 pub mod Emitting
 pub mod Stretched

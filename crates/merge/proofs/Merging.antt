@@ -16,17 +16,17 @@ use Rattle.meaning.specs.Ahead.{StretchAt, answerSegments}
 use Rattle.meaning.proofs.Prefixes.{upTo, upTo-on, upTo-all, upTo-within, upTo-low}
 use Rattle.meaning.proofs.Evaluated.{answer-length, answer-canonical}
 use Rattle.meaning.proofs.Counting.{count-le}
-use Rattle.ewah.specs.declared.writer.Writer.{Writer}
-use Rattle.ewah.specs.Drafts.{Tracks, Writing, RoomFor}
-use Rattle.ewah.proofs.Growing.{used-is}
-use Rattle.ewah.proofs.Pushing.{Written, written-none, written-more, written-all}
+use Rattle.ewah_write.specs.declared.writer.Writer.{Writer}
+use Rattle.ewah_write.specs.Drafts.{Tracks, Writing, RoomFor}
+use Rattle.ewah_write.proofs.Growing.{used-is}
+use Rattle.ewah_write.proofs.Pushing.{Written, written-none, written-more, written-all}
 use Rattle.words.specs.Counters.{countAt}
-use Rattle.merge.specs.declared.survey.Survey.{Survey}
+use Rattle.walk.specs.declared.survey.Survey.{Survey}
 use Rattle.merge.specs.declared.evaluate.Operation.{Operation}
 use Rattle.merge.specs.declared.evaluate.Part.{Part}
 use Rattle.merge.specs.Operations.{chosen}
-use Rattle.merge.specs.Queries.{Listed}
-use Rattle.merge.specs.Surveys.{MovedAll}
+use Rattle.walk.specs.Queries.{Listed}
+use Rattle.walk.specs.Surveys.{MovedAll}
 use Rattle.merge.specs.Parts.{Evaluated, MaskOf, PartLow, partSegments}
 use Rattle.merge.specs.Emitted.{Emitted}
 use Rattle.merge.specs.Merges.{bodiesOf, answerBody, MergedTo}

@@ -26,9 +26,9 @@ use Rattle.ewah.proofs.Pieces.{first-left}
 use Rattle.ewah.specs.Cursors.{ValueLow, leftOf, pieceThen, piecesFrom}
 use Rattle.words.specs.Counters.{countAt}
 use Rattle.words.proofs.BitLaws.{bit-set}
-use Rattle.merge.specs.declared.survey.Survey.{Survey}
-use Rattle.merge.specs.Queries.{cursorOf, CursorAt, Standing, placeBody}
-use Rattle.merge.specs.Surveys.{onesIn, dirtyIn, bitIn, leastBelow, Surveyed}
+use Rattle.walk.specs.declared.survey.Survey.{Survey}
+use Rattle.walk.specs.Queries.{cursorOf, CursorAt, Standing, placeBody}
+use Rattle.walk.specs.Surveys.{onesIn, dirtyIn, bitIn, leastBelow, Surveyed}
 
 -- ---- the least of some numbers
 

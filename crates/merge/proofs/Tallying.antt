@@ -22,9 +22,9 @@ use Rattle.meaning.proofs.Counting.{count-ext, count-le, count-all}
 use Rattle.meaning.proofs.RowWords.{length-tabulate, getD-tabulate, before-last, rows-fit}
 use Rattle.meaning.proofs.Evaluated.{count-cut, count-in, count-out, count-mixed}
 use Rattle.words.specs.Counters.{countAt}
-use Rattle.merge.specs.declared.survey.Survey.{Survey}
-use Rattle.merge.specs.Queries.{Listed}
-use Rattle.merge.specs.Surveys.{MovedAll}
+use Rattle.walk.specs.declared.survey.Survey.{Survey}
+use Rattle.walk.specs.Queries.{Listed}
+use Rattle.walk.specs.Surveys.{MovedAll}
 use Rattle.merge.specs.Parts.{MaskOf}
 use Rattle.merge.specs.Merges.{bodiesOf}
 use Rattle.merge.specs.Tallies.{heldBefore, Tally, Tallied}

@@ -1,5 +1,3 @@
-pub mod Queries
-pub mod Surveys
 pub mod Operations
 pub mod Parts
 pub mod Emitted

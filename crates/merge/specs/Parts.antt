@@ -8,7 +8,7 @@ use lib.ListN.{take, drop, replicate}
 use Rattle.meaning.specs.Segment.{Segment, clean, kind, isSet}
 use Rattle.meaning.specs.Ahead.{StretchAt, answerSegments}
 use Rattle.words.specs.Counters.{countAt}
-use Rattle.merge.specs.declared.survey.Survey.{Survey}
+use Rattle.walk.specs.declared.survey.Survey.{Survey}
 use Rattle.merge.specs.declared.evaluate.Operation.{Operation}
 use Rattle.merge.specs.declared.evaluate.Part.{Part}
 use Rattle.merge.specs.declared.evaluate.Part.the-variants.{Run, Tail}

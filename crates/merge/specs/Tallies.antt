@@ -8,7 +8,7 @@ use lib.ListN.{length, getD}
 use Rattle.meaning.specs.Rows.{countBelow}
 use Rattle.meaning.specs.Ahead.{StretchAt, answerRows}
 use Rattle.words.specs.Counters.{countAt}
-use Rattle.merge.specs.declared.survey.Survey.{Survey}
+use Rattle.walk.specs.declared.survey.Survey.{Survey}
 use Rattle.merge.specs.Parts.{MaskOf}
 
 -- of the rows of the first o segments, how many exactly c of the bodies have

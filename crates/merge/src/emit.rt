@@ -3,12 +3,12 @@ ghost use mathlib.Core.Path.{_≡_};
 ghost use mathlib.Core.Bool.{true};
 ghost use Prim.Native.Nat.{_<_, _≤_, _^_};
 ghost use lib.ListN.{length};
-ghost use Rattle.ewah.specs.Drafts.{Writing, RoomFor, Grown, Pushed};
+ghost use Rattle.ewah_write.specs.Drafts.{Writing, RoomFor, Grown, Pushed};
 ghost use Rattle.merge.specs.Parts.{partSegments, PartLow};
 ghost use Rattle.merge.specs.Emitted.{Emitted};
 use crate::evaluate::Part;
-use ewah::writer;
-use ewah::writer::Writer;
+use ewah_write::writer;
+use ewah_write::writer::Writer;
 
 // The writer grown by a part, with no buffer.
 fn grow(w: Writer, part: Part) -> Writer

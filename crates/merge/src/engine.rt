@@ -4,15 +4,15 @@ ghost use mathlib.Core.Bool.{true};
 ghost use Prim.Native.Nat.{_≤_};
 ghost use lib.ListN.{length};
 ghost use Rattle.meaning.specs.Laws.{IndexFacts};
-ghost use Rattle.merge.specs.Queries.{Listed};
+ghost use Rattle.walk.specs.Queries.{Listed};
 ghost use Rattle.merge.specs.Operations.{LowNumber};
 ghost use Rattle.merge.specs.Merges.{MergedTo, answerBody};
 use crate::emit;
 use crate::evaluate;
 use crate::evaluate::Operation;
-use crate::survey;
-use ewah::writer;
+use ewah_write::writer;
 use index::contents;
+use walk::survey;
 use words::rows;
 
 // How many words the answer has, and how many stretches were passed.

@@ -7,7 +7,7 @@ ghost use Rattle.meaning.specs.Segment.{isSet, segmentCount};
 ghost use Rattle.words.specs.Counters.{countAt};
 ghost use Rattle.merge.specs.Operations.{chosen, LowNumber};
 ghost use Rattle.merge.specs.Parts.{Evaluated, MaskOf};
-use crate::survey::Survey;
+use walk::survey::Survey;
 use words::bits;
 use words::counters;
 use words::rows;

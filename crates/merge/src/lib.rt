@@ -1,8 +1,6 @@
-// Questions over a list of bitmaps of one index: a cursor for each place of the list, stretch by stretch.
+// Questions over a list of bitmaps of one index, stretch by stretch: the answer's body, or its histogram.
 // Calls here have a `requires`; the public ones of `zvonurel` test their input first.
 pub mod emit;
 pub mod engine;
 pub mod evaluate;
 pub mod histogram;
-pub mod query;
-pub mod survey;

@@ -20,8 +20,8 @@ use Rattle.ewah.specs.declared.cursor.Piece as code
 use Rattle.ewah.specs.declared.cursor.Piece.the-variants.{Clean, Dirty}
 use Rattle.ewah.specs.Cursors.{Stands, InOrder, leftOf, piecesFrom, pieceThen}
 use Rattle.ewah.proofs.Pieces.{first-left}
-use Rattle.merge.specs.Queries.{CursorAt}
-use Rattle.merge.proofs.Places.{opened, gone-on}
+use Rattle.walk.specs.Queries.{CursorAt}
+use Rattle.walk.proofs.Places.{opened, gone-on}
 use Rattle.threshold.specs.declared.listing.Listing.{Listing}
 use Rattle.threshold.specs.Output.{line, linesFrom}
 use Rattle.threshold.specs.Listings.{wordIn, Standing}

@@ -9,7 +9,7 @@ use Rattle.meaning.specs.Segment.{fill}
 use Rattle.meaning.specs.Ewah.{segments, rowsOf}
 use Rattle.ewah.specs.declared.cursor.Piece as code
 use Rattle.ewah.specs.declared.cursor.Piece.the-variants.{Clean, Dirty}
-use Rattle.merge.specs.Queries.{CursorAt}
+use Rattle.walk.specs.Queries.{CursorAt}
 use Rattle.threshold.specs.declared.listing.Listing.{Listing}
 use Rattle.threshold.specs.declared.listing.Filled.{Filled}
 use Rattle.threshold.specs.declared.start.Begun.{Begun}

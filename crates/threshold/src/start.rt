@@ -10,7 +10,6 @@ ghost use Rattle.threshold.specs.Listings.{Begins};
 use crate::input;
 use crate::text;
 use answers::answer::Answered;
-use ewah::query;
 
 // The chunk's bytes; the body's words, at the front of the answer buffer; and its rows, none on a refusal.
 pub struct Begun {
@@ -76,7 +75,7 @@ fn ask(t: u32, index: &[u32], answer: &mut [u32], out: &mut [u8]) -> Begun
         Answered::Refused(r) => refused(out, r.number, r.bitmap, r.word),
         Answered::Words(words, _) => {
             let rows = input::word_at(index, 1);
-            let set = query::count(&answer[..words]);
+            let set = ewah_read::count::count(&answer[..words]);
             let bytes = text::head(out, rows, input::word_at(index, 2), t, set);
             Begun { bytes, words, rows }
         }

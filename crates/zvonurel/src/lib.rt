@@ -17,12 +17,8 @@ pub use answers::answer::Number;
 pub use answers::answer::Written;
 pub use answers::refusal::Checked;
 pub use answers::refusal::Refusal;
-use ewah::query;
 use index::contents;
 use meaning::MOST_ROWS;
-use questions::ask;
-use questions::lists;
-use questions::logical;
 
 // ---- one body alone: bitmap 0, with places counted in the body. More rows than the limit are refused first
 
@@ -43,7 +39,7 @@ pub fn body_row(body: &[u32], rows: u32, row: u32) -> Flag
     let checked = check_body(body, rows);
     match checked {
         Checked::Refused(refusal) => Flag::Refused(refusal),
-        Checked::Sound => ask::row(body, rows, row),
+        Checked::Sound => single::body::row(body, rows, row),
     }
 }
 
@@ -54,7 +50,7 @@ pub fn body_count(body: &[u32], rows: u32) -> Number
     let checked = check_body(body, rows);
     match checked {
         Checked::Refused(refusal) => Number::Refused(refusal),
-        Checked::Sound => Number::Is(query::count(body)),
+        Checked::Sound => Number::Is(ewah_read::count::count(body)),
     }
 }
 
@@ -65,7 +61,7 @@ pub fn body_nth(body: &[u32], rows: u32, n: u32) -> Number
     let checked = check_body(body, rows);
     match checked {
         Checked::Refused(refusal) => Number::Refused(refusal),
-        Checked::Sound => ask::nth(body, n),
+        Checked::Sound => single::body::nth(body, n),
     }
 }
 
@@ -76,7 +72,7 @@ pub fn expand(body: &[u32], rows: u32, out: &mut [u32]) -> Written
     let checked = check_body(body, rows);
     match checked {
         Checked::Refused(refusal) => Written::Refused(refusal),
-        Checked::Sound => ask::plain(body, rows, out),
+        Checked::Sound => single::body::plain(body, rows, out),
     }
 }
 
@@ -84,10 +80,10 @@ pub fn expand(body: &[u32], rows: u32, out: &mut [u32]) -> Written
 pub fn compress(rows: u32, plain: &[u32], out: &mut [u32]) -> Written
     ensures { λ r. ⌜ Wrote (meaning.compress rows (now (plain .entry)) (length (now (out .entry)))) r (now (out .entry)) (now (out .exit)) ⌝ }
 {
-    let checked = ask::check_plain(plain, rows);
+    let checked = single::plain::check_plain(plain, rows);
     match checked {
         Checked::Refused(refusal) => Written::Refused(refusal),
-        Checked::Sound => ask::write_plain(plain, out),
+        Checked::Sound => single::plain::write_plain(plain, out),
     }
 }
 
@@ -107,7 +103,7 @@ pub fn bitmap_refusal(index: &[u32], k: u32) -> Checked
     let checked = check(index);
     match checked {
         Checked::Refused(refusal) => Checked::Refused(refusal),
-        Checked::Sound => ask::check_number(index, k),
+        Checked::Sound => single::bitmap::check_number(index, k),
     }
 }
 
@@ -129,7 +125,7 @@ pub fn row(index: &[u32], k: u32, row: u32) -> Flag
     let checked = bitmap_refusal(index, k);
     match checked {
         Checked::Refused(refusal) => Flag::Refused(refusal),
-        Checked::Sound => ask::row(contents::body(index, k), contents::rows(index), row),
+        Checked::Sound => single::body::row(contents::body(index, k), contents::rows(index), row),
     }
 }
 
@@ -140,7 +136,7 @@ pub fn count(index: &[u32], k: u32) -> Number
     let checked = bitmap_refusal(index, k);
     match checked {
         Checked::Refused(refusal) => Number::Refused(refusal),
-        Checked::Sound => Number::Is(query::count(contents::body(index, k))),
+        Checked::Sound => Number::Is(ewah_read::count::count(contents::body(index, k))),
     }
 }
 
@@ -151,7 +147,7 @@ pub fn nth(index: &[u32], k: u32, n: u32) -> Number
     let checked = bitmap_refusal(index, k);
     match checked {
         Checked::Refused(refusal) => Number::Refused(refusal),
-        Checked::Sound => ask::nth(contents::body(index, k), n),
+        Checked::Sound => single::body::nth(contents::body(index, k), n),
     }
 }
 
@@ -162,7 +158,7 @@ pub fn expand_bitmap(index: &[u32], k: u32, out: &mut [u32]) -> Written
     let checked = bitmap_refusal(index, k);
     match checked {
         Checked::Refused(refusal) => Written::Refused(refusal),
-        Checked::Sound => ask::plain(contents::body(index, k), contents::rows(index), out),
+        Checked::Sound => single::body::plain(contents::body(index, k), contents::rows(index), out),
     }
 }
 
@@ -175,7 +171,7 @@ fn pair_refusal(index: &[u32], first: u32, second: u32) -> Checked
     let checked = bitmap_refusal(index, first);
     match checked {
         Checked::Refused(why) => Checked::Refused(why),
-        Checked::Sound => ask::check_number(index, second),
+        Checked::Sound => single::bitmap::check_number(index, second),
     }
 }
 
@@ -244,7 +240,7 @@ pub fn threshold(index: &[u32], list: &[u32], t: u32, out: &mut [u32]) -> Answer
     let checked = check(index);
     match checked {
         Checked::Refused(refusal) => Answered::Refused(refusal),
-        Checked::Sound => lists::threshold(index, list, t, out),
+        Checked::Sound => lists::ask::threshold(index, list, t, out),
     }
 }
 
@@ -255,7 +251,7 @@ pub fn symmetric(index: &[u32], list: &[u32], table: &[u32], out: &mut [u32]) ->
     let checked = check(index);
     match checked {
         Checked::Refused(refusal) => Answered::Refused(refusal),
-        Checked::Sound => lists::symmetric(index, list, table, out),
+        Checked::Sound => lists::ask::symmetric(index, list, table, out),
     }
 }
 
@@ -266,6 +262,6 @@ pub fn histogram(index: &[u32], list: &[u32]) -> Histogram
     let checked = check(index);
     match checked {
         Checked::Refused(refusal) => answer::no_histogram(refusal),
-        Checked::Sound => lists::histogram(index, list),
+        Checked::Sound => lists::ask::histogram(index, list),
     }
 }

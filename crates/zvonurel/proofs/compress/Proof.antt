@@ -7,7 +7,7 @@ use Rattle.meaning.specs.Answer.{plainFault, write, compress}
 use Rattle.answers.proofs.Checks.{sound-is, refuses}
 use Rattle.answers.proofs.Tells.{wrote-refused}
 use Rattle.zvonurel.proofs.Guards.{wrote-then}
-use Rattle.questions.proofs.Plain.{plain-rows}
+use Rattle.single.proofs.PlainWords.{plain-rows}
 use Rattle.zvonurel.proofs.compress.Statement.{statement}
 use Rattle.zvonurel.proofs.compress.Tie as tie
 

@@ -9,8 +9,8 @@ use Rattle.meaning.specs.Ewah.{rowsOf}
 use Prim.Native.Nat.{ℕ}
 use mathlib.Core.List.{List}
 use Rattle.meaning.specs.Refusal.{answer}
-use Rattle.questions.proofs.Numbers.{facts-as}
-use Rattle.questions.proofs.Asks.{few-segments}
+use Rattle.single.proofs.Numbers.{facts-as}
+use Rattle.single.proofs.Asks.{few-segments}
 use borrow.Author.Needs.{needs}
 use Rattle.zvonurel.proofs.count.Statement.{statement}
 use Rattle.zvonurel.proofs.count.Tie as tie

@@ -11,7 +11,7 @@ use mathlib.Core.Path.{subst₂}
 use Rattle.answers.specs.Told.{Wrote}
 use Rattle.answers.proofs.Tells.{wrote-refused}
 use Rattle.zvonurel.proofs.Guards.{wrote-then}
-use Rattle.questions.proofs.Numbers.{facts-as, rows-as}
+use Rattle.single.proofs.Numbers.{facts-as, rows-as}
 use borrow.Author.Needs.{needs}
 use Rattle.zvonurel.proofs.expand_bitmap.Statement.{statement}
 use Rattle.zvonurel.proofs.expand_bitmap.Tie as tie

@@ -8,8 +8,8 @@ use Rattle.meaning.specs.Index.{rowCount, rowsAt}
 use Rattle.meaning.specs.Ewah.{rowsOf}
 use Prim.Native.Nat.{ℕ}
 use mathlib.Core.List.{List}
-use Rattle.questions.proofs.Numbers.{facts-as}
-use Rattle.questions.proofs.Asks.{few-segments}
+use Rattle.single.proofs.Numbers.{facts-as}
+use Rattle.single.proofs.Asks.{few-segments}
 use borrow.Author.Needs.{needs}
 use Rattle.zvonurel.proofs.nth.Statement.{statement}
 use Rattle.zvonurel.proofs.nth.Tie as tie

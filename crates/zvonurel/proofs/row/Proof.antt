@@ -9,7 +9,7 @@ use Rattle.meaning.specs.Ewah.{rowsOf}
 use Prim.Native.Nat.{ℕ}
 use mathlib.Core.List.{List}
 use mathlib.Core.Path.{ap₂}
-use Rattle.questions.proofs.Numbers.{facts-as}
+use Rattle.single.proofs.Numbers.{facts-as}
 use borrow.Author.Needs.{needs}
 use Rattle.zvonurel.proofs.row.Statement.{statement}
 use Rattle.zvonurel.proofs.row.Tie as tie

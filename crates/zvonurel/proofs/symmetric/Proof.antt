@@ -8,7 +8,7 @@ use mathlib.Core.Bool.{_||_, not}
 use Prim.Native.Nat.{suc}
 use Rattle.meaning.specs.Question.{byTable}
 use lib.Dec.{eqb}
-use Rattle.questions.proofs.Listing.{reported-refused}
+use Rattle.lists.proofs.Listing.{reported-refused}
 use Rattle.zvonurel.proofs.Guards.{checked-index, reported-then}
 use borrow.Author.Needs.{needs}
 use Rattle.zvonurel.proofs.symmetric.Statement.{statement}

@@ -6,7 +6,7 @@ use Rattle.meaning.specs.Index.{rowCount}
 use Rattle.meaning.specs.Answer.{check, threshold, badList, write, rightRows}
 use mathlib.Core.Bool.{_||_}
 use lib.Dec.{eqb, ltb}
-use Rattle.questions.proofs.Listing.{reported-refused}
+use Rattle.lists.proofs.Listing.{reported-refused}
 use Rattle.zvonurel.proofs.Guards.{checked-index, reported-then, demand-met}
 use borrow.Author.Needs.{needs}
 use Rattle.zvonurel.proofs.threshold.Statement.{statement}

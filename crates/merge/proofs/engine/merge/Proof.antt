@@ -7,8 +7,8 @@ use denote.Ref.{now}
 use Rattle.meaning.specs.Limits.{mostSegments}
 use Rattle.meaning.specs.Segment.{segmentCount}
 use Rattle.meaning.specs.Index.{rowCount}
-use Rattle.ewah.specs.Drafts.{Writing}
-use Rattle.merge.specs.Surveys.{Surveyed}
+use Rattle.ewah_write.specs.Drafts.{Writing}
+use Rattle.walk.specs.Surveys.{Surveyed}
 use Rattle.merge.specs.Parts.{MaskOf}
 use Rattle.merge.proofs.Along.{along-none, segments-few, ones-low, is-stretch, n-some, n-low, n-left}
 use Rattle.merge.proofs.Merging.{Merging, merging-none, merging-more, merging-all, used-low, steps-low, part-low, room}

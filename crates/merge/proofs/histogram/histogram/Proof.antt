@@ -7,7 +7,7 @@ use lib.ListN.{length-replicate, getD-replicate}
 use denote.Ref.{now}
 use Rattle.meaning.specs.Segment.{segmentCount}
 use Rattle.meaning.specs.Index.{rowCount}
-use Rattle.merge.specs.Surveys.{Surveyed}
+use Rattle.walk.specs.Surveys.{Surveyed}
 use Rattle.merge.specs.Parts.{MaskOf}
 use Rattle.merge.proofs.Along.{along-none, segments-few, held-low, counts-low, is-stretch, n-some, n-low, n-left}
 use Rattle.merge.proofs.Tallying.{Tallying, tallying-none, tallying-more, tallying-all, tally-low}

@@ -1,0 +1,178 @@
+-- `ewah::query::nth` meets its contract. The invariant: the walk stands at a marker, and with the set bits of the segments behind
+-- passed so many are still ahead.
+-- Assumes nothing.
+use borrow.Author.Needs.{needs}
+use native.Mathlib.Omega.{arith}
+use Prim.Native.Nat.{ℕ, _+_, _-_, _*_}
+use mathlib.Core.Path.{_≡_, sym, ap, _∙_}
+use mathlib.Core.List.{_++_}
+use denote.Ref.{now}
+use lib.ListN.{length, take, drop, replicate}
+use lib.Seq.{take-length}
+use borrow.Rule.Slice.PartMut.{mid-len}
+use Rattle.meaning.specs.Segment.{ones, fill, hasRow}
+use Rattle.meaning.specs.Demands.{IsNth}
+use Rattle.meaning.specs.Ewah.{segments}
+use Rattle.meaning.proofs.Walk.{At, Step, at-start, at-end}
+use Rattle.meaning.proofs.Asked.{ones-step, nth-step, nth-found, nth-past}
+use Rattle.ewah_read.specs.declared.nth.Sought.the-variants.{Here, Ahead}
+use Rattle.ewah_read.specs.Found.{foundOf, SoughtIn}
+use Rattle.meaning.proofs.Parts.{part-is}
+use Rattle.ewah.proofs.MarkerStep.{read-step}
+use Rattle.ewah_read.proofs.nth.nth.Statement.{statement}
+use Rattle.ewah_read.proofs.nth.nth.Tie as tie
+
+abbrev Inv-loop : tie.InvT-loop
+Inv-loop body n at₀ behind₀ ahead₀ at behind ahead = At body at 0 behind × (ones 32 (take behind (segments body)) + ahead ≡ n)
+
+abbrev μ-loop : tie.MeasureT-loop
+μ-loop body n at₀ behind₀ ahead₀ at behind ahead = length body - at
+
+-- the step over the marker that was read
+over : (c : tie.After-read Inv-loop μ-loop)
+    → let h = c .before .before .before in
+    let m = c .read .result in
+    Step (now (h .before .before .args .body)) (h .loop .at) (h .loop .behind) (m .value) (m .clean) (m .dirty)
+over c =
+    let h = c .before .before .before in
+    read-step (now (h .before .before .args .body)) (h .loop .at) (h .loop .behind) (c .read .result) (h .loop .inv .0) (c .before .before .loop-test .taken) (c .read .ensures)
+
+-- what the marker's segments say
+told : (c : tie.After-seek Inv-loop μ-loop)
+    → let r = c .before .before .before in
+    let h = r .before .before .before in
+    let m = r .read .result in
+    SoughtIn (replicate (m .clean) (fill 32 32 (m .value)) ++ take (m .dirty) (drop (h .loop .at + 1) (now (h .before .before .args .body)))) (h .loop .ahead) (c .seek .result)
+told c = rw part-is at (c .seek .ensures)
+
+-- the row that they have, as one of the body's
+here : (c : tie.After-r Inv-loop μ-loop)
+    → let t = c .before .before in
+    let h = t .before .before .before .before .before .before in
+    let b = now (h .before .before .args .body) in
+    IsNth (length (segments b) * 32) (hasRow 32 (segments b)) (h .before .before .args .n) (h .loop .behind * 32 + c .r .given .0 .0)
+here c =
+    let t = c .before .before in
+    let r = t .before .before .before in
+    let h = r .before .before .before in
+    let b = now (h .before .before .args .body) in
+    let m = r .read .result in
+    let e : t .seek .result ≡ Here (c .r .given .0 .0) = c .r .given .1 in
+    rw (h .loop .inv .1) at (nth-step b (h .loop .at) (h .loop .behind) (m .value) (m .clean) (m .dirty) (over r) (h .loop .ahead) (c .r .given .0 .0) (rw e at (told t)))
+
+loop-holds : tie.Need-loop-holds Inv-loop μ-loop
+unfolding ones
+loop-holds c = (at-start (now (c .before .args .body)) (c .before .pre .0), omega arith)
+
+mul-read : tie.Need-mul-read Inv-loop μ-loop
+mul-read c = search needs
+
+shared-slice-read-read : tie.Need-shared-slice-read-read Inv-loop μ-loop
+shared-slice-read-read c = search needs
+
+read-requires : tie.Need-read-requires Inv-loop μ-loop
+read-requires c κs = search needs
+
+add-from : tie.Need-add-from Inv-loop μ-loop
+add-from c = search needs
+
+cast-next : tie.Need-cast-next Inv-loop μ-loop
+cast-next c = search needs
+
+add-next : tie.Need-add-next Inv-loop μ-loop
+add-next c = omega (arith, over (c .before) .fits)
+
+mul-seek : tie.Need-mul-seek Inv-loop μ-loop
+mul-seek c = search needs
+
+sub-seek : tie.Need-sub-seek Inv-loop μ-loop
+sub-seek c = search needs
+
+part-seek-start : tie.Need-part-seek-start Inv-loop μ-loop
+part-seek-start c = search needs
+
+part-seek-end : tie.Need-part-seek-end Inv-loop μ-loop
+part-seek-end c = omega (arith, over (c .before) .fits)
+
+seek-requires : tie.Need-seek-requires Inv-loop μ-loop
+seek-requires c κs =
+    let r = c .before .before in
+    let from = r .before .before .before .loop .at + 1 in
+    (omega arith, omega arith, omega (arith, mid-len from (from + r .read .result .dirty) (now (r .before .before .before .before .before .args .body)) (over r .fits)))
+
+enum-known-r : tie.Need-enum-known-r Inv-loop μ-loop
+enum-known-r c = search needs
+
+mul-t20 : tie.Need-mul-t20 Inv-loop μ-loop
+mul-t20 c = omega (arith, over (c .before .before .before .before .before .before) .counts)
+
+add-t21 : tie.Need-add-t21 Inv-loop μ-loop
+add-t21 c = omega (arith, here (c .before) .below)
+
+returns : tie.Need-returns Inv-loop μ-loop
+unfolding foundOf
+returns c R s =
+    let h = c .before .before .before .before .before .before .before .before .before in
+    sym (nth-found R (now (h .before .before .args .body)) s (h .before .before .args .n) (h .loop .behind * 32 + c .before .r .given .0 .0) (here (c .before)))
+
+enum-known-k : tie.Need-enum-known-k Inv-loop μ-loop
+enum-known-k c = search needs
+
+add-behind : tie.Need-add-behind Inv-loop μ-loop
+add-behind c = omega (arith, over (c .before .before .before .before .before .before .before) .counts)
+
+add-behind-2 : tie.Need-add-behind-2 Inv-loop μ-loop
+add-behind-2 c = omega (arith, over (c .before .before .before .before .before .before .before .before) .counts)
+
+loop-less : tie.Need-loop-less Inv-loop μ-loop
+loop-less c = omega arith
+
+loop-again : tie.Need-loop-again Inv-loop μ-loop
+loop-again c =
+    let k = c .before .before .before .k in
+    let t = c .before .before .before .before .before in
+    let r = t .before .before .before in
+    let h = r .before .before .before in
+    let b = now (h .before .before .args .body) in
+    let m = r .read .result in
+    let e : t .seek .result ≡ Ahead (k .given .0 .0) = k .given .1 in
+    let left-over : ones 32 (replicate (m .clean) (fill 32 32 (m .value)) ++ take (m .dirty) (drop (h .loop .at + 1) b)) + k .given .0 .0 ≡ h .loop .ahead = rw e at (told t) in
+    (over r .next, omega (arith, h .loop .inv .1, ones-step b (h .loop .at) (h .loop .behind) (m .value) (m .clean) (m .dirty) (over r)))
+
+returns-2 : tie.Need-returns-2 Inv-loop μ-loop
+unfolding foundOf
+returns-2 c R s =
+    let b = now (c .before .before .before .args .body) in
+    let h = c .before .loop in
+    let e : ones 32 (take (h .behind) (segments b)) ≡ ones 32 (segments b) =
+    ap (λ (o : ℕ). ones 32 (take o (segments b))) (at-end b (h .at) (h .behind) (h .inv .0) (c .loop-test .left)) ∙ ap (ones 32) (take-length (segments b)) in
+    sym (nth-past R b s (c .before .before .before .args .n) (omega (arith, h .inv .1)))
+
+pub nth-spec : {M : Type 1} → statement M
+nth-spec =
+    tie.close
+    (tie.spec
+    Inv-loop
+    μ-loop
+    loop-holds
+    mul-read
+    shared-slice-read-read
+    read-requires
+    add-from
+    cast-next
+    add-next
+    mul-seek
+    sub-seek
+    part-seek-start
+    part-seek-end
+    seek-requires
+    enum-known-r
+    mul-t20
+    add-t21
+    returns
+    enum-known-k
+    add-behind
+    add-behind-2
+    loop-less
+    loop-again
+    returns-2)

@@ -1,0 +1,84 @@
+// The nth set row, in one pass: markers are passed by their counts until one has it.
+ghost use mathlib.Core.Path.{_≡_};
+ghost use mathlib.Core.List.{_++_};
+ghost use Prim.Native.Nat.{ℕ, _*_, _≤_, _<_};
+ghost use lib.ListN.{length, replicate};
+ghost use Rattle.meaning.specs.Limits.{mostSegments};
+ghost use Rattle.meaning.specs.Segment.{hasRow, ones, fill};
+ghost use Rattle.meaning.specs.Ewah.{segments, rowsOf, dueAfter};
+ghost use Rattle.meaning.specs.Laws.{SoundFacts};
+ghost use Rattle.meaning.specs.Answer.{askNth};
+ghost use Rattle.meaning.specs.Demands.{IsNth};
+ghost use Rattle.ewah_read.specs.Found.{foundOf, SoughtIn};
+use crate::count;
+use ewah::marker;
+use words::bits;
+
+// The set bit of the words that has k set bits before it, as a row of theirs.
+fn find(ws: &[u32], k: u32) -> u32
+    requires { ⌜ (length (now ws) ≤ mostSegments) × (k < ones 32 (now ws)) ⌝ }
+    ensures { λ r. ⌜ IsNth (length (now (ws .entry)) * 32) (hasRow 32 (now (ws .entry))) k r ⌝ }
+{
+    let mut ahead = k;
+    let mut i = 0;
+    while i < ws.len() {
+        let here = bits::count(ws[i]);
+        if ahead < here {
+            return i as u32 * 32 + bits::nth(ws[i], ahead);
+        }
+        ahead -= here;
+        i += 1;
+    }
+    0
+}
+
+// What the segments of one marker say of a set row that is asked for: it is this row of theirs, or so many set rows are still to pass.
+pub enum Sought {
+    Here(u32),
+    Ahead(u32),
+}
+
+// The row of one marker's segments that has k set rows before it.
+fn seek(value: u32, clean: u32, ws: &[u32], k: u32) -> Sought
+    requires { ⌜ (value < 2) × (clean ≤ 65535) × (length (now ws) ≤ 32767) ⌝ }
+    ensures { λ r. ⌜ SoughtIn (replicate clean (fill 32 32 value) ++ now (ws .entry)) k r ⌝ }
+{
+    let run = count::count_run(value, clean);
+    if k < run {
+        return Sought::Here(k);
+    }
+    let ahead = k - run;
+    let here = count::count_words(ws);
+    if ahead < here {
+        return Sought::Here(clean * 32 + find(ws, ahead));
+    }
+    Sought::Ahead(ahead - here)
+}
+
+// The row that was asked for, or that there are not so many set rows.
+pub enum Found {
+    Row(u32),
+    Past,
+}
+
+// The nth set row, from 0.
+pub fn nth(body: &[u32], n: u32) -> Found
+    requires { ⌜ (dueAfter 0 (now body) ≡ 0) × (length (segments (now body)) ≤ mostSegments) ⌝ }
+    ensures { λ r. ⌜ ((R : ℕ) → SoundFacts R (now (body .entry)) → foundOf r ≡ askNth R (rowsOf (now (body .entry))) n) ⌝ }
+{
+    let mut at = 0;
+    let mut behind = 0;
+    let mut ahead = n;
+    while at < body.len() {
+        let m = marker::read(body[at]);
+        let from = at + 1;
+        let next = from + m.dirty as usize;
+        match seek(m.value, m.clean, &body[from..next], ahead) {
+            Sought::Here(r) => return Found::Row(behind * 32 + r),
+            Sought::Ahead(k) => ahead = k,
+        }
+        behind = behind + m.clean + m.dirty;
+        at = next;
+    }
+    Found::Past
+}

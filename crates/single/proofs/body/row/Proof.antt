@@ -1,0 +1,32 @@
+-- `zvonurel::ask::row` meets its contract. Assumes nothing.
+use borrow.Author.Needs.{needs}
+use mathlib.Core.Path.{ap, _∙_}
+use denote.Ref.{now}
+use Rattle.meaning.specs.Ewah.{rowsOf}
+use Rattle.answers.specs.Told.{refusedBy, flagOf}
+use Rattle.single.proofs.Asks.{row-past, row-here, row-within}
+use Rattle.single.proofs.body.row.Statement.{statement}
+use Rattle.single.proofs.body.row.Tie as tie
+
+bad-argument-requires : tie.Need-bad-argument-requires
+bad-argument-requires c κs = search needs
+
+returns : tie.Need-returns
+unfolding flagOf
+returns c =
+    let a = c .before .before .before .args in
+    ap refusedBy (c .bad-argument .ensures) ∙ row-past (a .rows) (rowsOf (now (a .body))) (a .r) (c .before .if1 .taken)
+
+row-requires : tie.Need-row-requires
+row-requires c κs =
+    let s = c .before .before in
+    (s .pre .ended, row-within (s .args .rows) (now (s .args .body)) (s .pre) (s .args .r) (c .if1 .left))
+
+returns-2 : tie.Need-returns-2
+unfolding flagOf
+returns-2 c =
+    let a = c .before .before .before .args in
+    row-here (a .rows) (rowsOf (now (a .body))) (a .r) (c .row .result) (c .before .if1 .left) (c .row .ensures)
+
+pub row-spec : {M : Type 1} → statement M
+row-spec = tie.close (tie.spec bad-argument-requires returns row-requires returns-2)

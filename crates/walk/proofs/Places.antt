@@ -1,0 +1,95 @@
+-- Cursors that go on in their bodies, place by place.
+-- Assumes nothing.
+use Prim.Native.Nat.{ℕ, _+_, _≤_, _<_}
+use mathlib.Core.Path.{_≡_, refl, _∙_}
+use mathlib.Core.List.{List}
+use native.Mathlib.Nat.{le-refl}
+use native.Mathlib.Omega.{arith}
+use borrow.Author.Count.{below-more}
+use lib.ListN.{length, drop, length-take, length-drop}
+use Rattle.meaning.specs.Ewah.{pieces}
+use Rattle.meaning.specs.Ahead.{advanced}
+use Rattle.meaning.specs.Index.{startOf, lengthOf, bodyAt}
+use Rattle.meaning.specs.Laws.{HeadFacts}
+use Rattle.meaning.proofs.Walked.{ahead-start, ahead-on}
+use Rattle.ewah.specs.declared.cursor.Cursor.{Cursor}
+use Rattle.ewah.specs.Cursors.{ValueLow, InOrder, Stands, leftOf, piecesFrom}
+use Rattle.ewah.proofs.Pieces.{first-left}
+use Rattle.walk.specs.declared.survey.Survey.{Survey}
+use Rattle.walk.specs.Queries.{cursorOf, Stored, CursorAt, placeBody, Standing}
+use Rattle.walk.specs.Surveys.{Weighed, Surveyed, Moved, MovedAll}
+use Rattle.walk.proofs.Weighing.{surveyed-more, surveyed-same}
+
+-- ---- one cursor
+
+-- a word of a body has a number of 32 bits
+pub next-low : (index : List ℕ) (k : ℕ) (c : Cursor) → HeadFacts index → InOrder (bodyAt index k) c → c .next < 4294967296
+unfolding bodyAt
+next-low index k c h o = omega (arith, o .inside, h .few-words, length-take (lengthOf index k) (drop (startOf index k) index), length-drop (startOf index k) index)
+
+module _ (b : List ℕ) (c : Cursor) where
+  pub opened : Stands b c (pieces 0 b) → CursorAt b 0 c
+  opened s = record { in-order = s .in-order; ahead = rw (s .has) (ahead-start b); at-end = λ z. s .has ∙ s .at-end z }
+
+  pub gone-on : (o n : ℕ) (d : Cursor) → 1 ≤ n → n ≤ leftOf (c .piece) → Stands b d (advanced n (piecesFrom b c)) → CursorAt b o c → CursorAt b (o + n) d
+  gone-on o n d g l s a =
+      record {
+        in-order = s .in-order;
+        ahead = rw (s .has) (ahead-on b o n (piecesFrom b c) (a .ahead) g (omega (arith, first-left b c (omega arith))));
+        at-end = λ z. s .has ∙ s .at-end z;
+      }
+
+-- ---- one place
+
+-- the body and the cursor that the code has are those of the place
+module _ (b b′ ns : List ℕ) (i n : ℕ) (c : Cursor) (b-is : b′ ≡ b) (c-is : c ≡ cursorOf ns i) (g : 1 ≤ n) (l : n ≤ leftOf (cursorOf ns i .piece)) where
+  pub may-advance : InOrder b (cursorOf ns i) → InOrder b′ c × ((1 ≤ n) × (n ≤ leftOf (c .piece)))
+  may-advance o = (rw (b-is, c-is) o, (g, rw c-is l))
+
+  pub moved : (ns′ : List ℕ) (s r : Survey) (d : Cursor) → Stands b′ d (advanced n (piecesFrom b′ c)) → Stored ns i d ns′ → Weighed s (d .piece) r → Moved b ns i n ns′ s r
+  moved ns′ s r d st put w =
+      record {
+        long = put .long;
+        others = put .others;
+        in-order = rw (put .here) (is .in-order);
+        on = λ o a. rw (put .here) (gone-on b (cursorOf ns i) o n d g l is a);
+        weighed = rw (put .here) w;
+      }
+    where
+      is : Stands b d (advanced n (piecesFrom b (cursorOf ns i)))
+      is = rw (b-is, c-is) at st
+
+-- ---- all places
+
+module _ (index list : List ℕ) where
+  pub standing-more : (ns : List ℕ) (m o : ℕ) (c : Cursor) (ns′ : List ℕ)
+      → Standing index list ns m o → Stored ns m c ns′ → CursorAt (placeBody index list m) o c → Standing index list ns′ (m + 1) o
+  standing-more ns m o c ns′ st put a = below-more _ m (λ k l. rw (put .others k (omega arith)) (st k l)) (rw (put .here) a)
+
+  -- the first m cursors went n segments on, and the others stay
+  pub record Going (was : List ℕ) (n : ℕ) (ns : List ℕ) (s : Survey) (m : ℕ) : Type 0 where
+    pub long : length ns ≡ length was
+    pub later : (k : ℕ) → m ≤ k → cursorOf ns k ≡ cursorOf was k
+    pub low : (k : ℕ) → k < m → ValueLow (cursorOf ns k .piece)
+    pub on : (k : ℕ) → k < m → (o : ℕ) → CursorAt (placeBody index list k) o (cursorOf was k) → CursorAt (placeBody index list k) (o + n) (cursorOf ns k)
+    pub surveyed : Surveyed ns m s
+
+  module _ (was : List ℕ) (n : ℕ) where
+    pub going-none : (s : Survey) → Surveyed was 0 s → Going was n was s 0
+    going-none s a = record { long = refl; later = λ k l. refl; low = λ k l. absurd (omega arith); on = λ k l. absurd (omega arith); surveyed = a }
+
+    module _ (ns : List ℕ) (s : Survey) (m : ℕ) (g : Going was n ns s m) where
+      pub going-more : (ns′ : List ℕ) (r : Survey) → Moved (placeBody index list m) ns m n ns′ s r → Going was n ns′ r (m + 1)
+      going-more ns′ r h =
+          record {
+            long = h .long ∙ g .long;
+            later = λ k l. h .others k (omega arith) ∙ g .later k (omega arith);
+            low = below-more _ m (λ k l. rw (h .others k (omega arith)) (g .low k l)) (h .in-order .value-low);
+            on = below-more _ m (λ k l o a. rw (h .others k (omega arith)) (g .on k l o a)) (λ o a. h .on o (rw (g .later m (le-refl m)) a));
+            surveyed = surveyed-more ns′ m s (surveyed-same ns m s (g .surveyed) ns′ (λ k l. h .others k (omega arith))) r (h .weighed);
+          }
+
+      pub going-all : length list ≤ m → m ≤ length list → MovedAll index list was n ns s
+      going-all h l =
+          let e : m ≡ length list = omega arith in
+          record { long = g .long; on = λ o st k i. g .on k (omega arith) o (st k i); surveyed = rw e at (g .surveyed) }

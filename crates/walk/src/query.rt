@@ -1,0 +1,75 @@
+// A query: the numbers of a cursor for each place of a list of bitmaps.
+ghost use mathlib.Core.Path.{_≡_};
+ghost use Prim.Native.Nat.{_<_};
+ghost use lib.ListN.{length};
+ghost use Rattle.ewah.specs.Cursors.{ValueLow};
+ghost use Rattle.walk.specs.Queries.{cursorOf, tagOf, numberOf, Stored};
+use ewah::cursor::Cursor;
+use ewah::cursor::Piece;
+use index::contents;
+
+// Four numbers for each of up to 64 places: what the cursor's piece is (its clean value, or 2 for a dirty word), what is left of
+// the run or the word, the next word, and the dirty words due there.
+pub struct Query {
+    pub numbers: [u32; 256],
+    pub len: usize,
+}
+
+// The cursor at place i.
+pub fn cursor_at(numbers: &[u32; 256], i: usize) -> Cursor
+    requires { ⌜ (i < 64) × (length (now numbers) ≡ 256) ⌝ }
+    ensures { λ r. ⌜ r ≡ cursorOf (now (numbers .entry)) i ⌝ }
+{
+    let at = 4 * i;
+    let tag = numbers[at];
+    let x = numbers[at + 1];
+    let next = contents::wide(numbers[at + 2]);
+    let dirty = numbers[at + 3];
+    if tag == 2 {
+        return Cursor {
+            piece: Piece::Dirty(x),
+            next,
+            dirty,
+        };
+    }
+    Cursor {
+        piece: Piece::Clean(tag, x),
+        next,
+        dirty,
+    }
+}
+
+// What a piece is: its clean value, or 2 for a dirty word.
+fn tag(piece: Piece) -> u32
+    ensures { λ r. ⌜ r ≡ tagOf piece ⌝ }
+{
+    match piece {
+        Piece::Clean(value, _) => value,
+        Piece::Dirty(_) => 2,
+    }
+}
+
+// What is left of a run, or the dirty word.
+fn number(piece: Piece) -> u32
+    ensures { λ r. ⌜ r ≡ numberOf piece ⌝ }
+{
+    match piece {
+        Piece::Clean(_, n) => n,
+        Piece::Dirty(x) => x,
+    }
+}
+
+// A cursor put at place i; the other places stay.
+pub fn set_cursor(numbers: &mut [u32; 256], i: usize, c: Cursor)
+    requires { ⌜ (i < 64) × (length (now numbers) ≡ 256) × (c .next < 4294967296) × ValueLow (c .piece) ⌝ }
+    ensures { λ _. ⌜ Stored (now (numbers .entry)) i c (now (numbers .exit)) ⌝ }
+{
+    let piece = c.piece;
+    let next = c.next as u32;
+    let dirty = c.dirty;
+    let at = 4 * i;
+    numbers[at] = tag(piece);
+    numbers[at + 1] = number(piece);
+    numbers[at + 2] = next;
+    numbers[at + 3] = dirty;
+}
