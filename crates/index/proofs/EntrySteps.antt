@@ -17,17 +17,17 @@ use Rattle.index.specs.declared.check.Step.the-variants.{Next, Fault}
 use Rattle.index.specs.Entries.{Passed, Faulty, Stepped}
 
 -- an entry lies within the index
-pub entry-within : (index : List ℕ) (k : ℕ) → HeadFacts index → k < bitmapCount index → entryPlace k + 1 < length index
+pub entry-within : (index : List ℕ) (k : ℕ) → HeadFacts index → k < bitmapCount index → entryPlace index k + 1 < length index
 unfolding entryPlace
 entry-within index k h l = omega (arith, h .contents)
 
-module _ (index : List ℕ) (k end s place : ℕ) (at : s ≡ startOf index k) (is : place ≡ entryPlace k) where
+module _ (index : List ℕ) (k end s place : ℕ) (at : s ≡ startOf index k) (is : place ≡ entryPlace index k) where
   pub start-wrong : (s ≡ end → ⊥) → Faulty index k end place
   unfolding entriesFault refuseIf
   start-wrong h = record { first = λ more. rw (ne-eqb (startOf index k) end (λ e. h (at ∙ e)), is) }
 
 module _ (index : List ℕ) (k end s l : ℕ) (at : s ≡ startOf index k) (e : s ≡ end) (of : l ≡ lengthOf index k) (i : end ≤ length index) where
-  pub length-wrong : (place : ℕ) → place ≡ entryPlace k → length index - end < l → Faulty index k end (place + 1)
+  pub length-wrong : (place : ℕ) → place ≡ entryPlace index k → length index - end < l → Faulty index k end (place + 1)
   unfolding entriesFault refuseIf
   length-wrong place is h = record { first = λ more. rw (eq-eqb (startOf index k) end (sym at ∙ e), lt-ltb (length index) (end + lengthOf index k) (omega arith), is) }
 
@@ -99,7 +99,7 @@ pub body-part : (index : List ℕ) (k s l : ℕ) → s ≡ startOf index k → l
 unfolding bodyAt
 body-part index k s l e f = let z : s + l - s ≡ l = omega arith in rw (z, e, f)
 
-pub entries-start : (index : List ℕ) (n e : ℕ) → n ≡ bitmapCount index → e ≡ entryPlace n → entriesFault index 0 (n - 0) e ≡ entriesFault index 0 (bitmapCount index) (entryPlace (bitmapCount index))
+pub entries-start : (index : List ℕ) (n e : ℕ) → n ≡ bitmapCount index → e ≡ entryPlace index n → entriesFault index 0 (n - 0) e ≡ entriesFault index 0 (bitmapCount index) (entryPlace index (bitmapCount index))
 entries-start index n e h g = let z : n - 0 ≡ n = omega arith in rw (z, g, h)
 
 pub bodies-start : (index : List ℕ) (n : ℕ) → n ≡ bitmapCount index → bodiesFault index 0 (n - 0) ≡ bodiesFault index 0 (bitmapCount index)

@@ -36,7 +36,7 @@ module _ (index : List ℕ) where
               rw (le-ltb mostIndexWords (length index) a, le-ltb (length index) headWords b, eq-eqb (getD index 0 0) indexKind c, le-ltb mostRows (getD index 1 0) d, lt-ltb mostBitmaps (getD index 2 0) h)
 
           module _ (e : getD index 2 0 ≤ mostBitmaps) where
-            pub head-contents : length index < entryPlace (getD index 2 0) → refused 1 0 (length index) ≡ headFault index
+            pub head-contents : length index < entryPlace index (getD index 2 0) → refused 1 0 (length index) ≡ headFault index
             unfolding headFault refuseIf
             head-contents h =
                 rw (
@@ -45,10 +45,10 @@ module _ (index : List ℕ) where
                   eq-eqb (getD index 0 0) indexKind c,
                   le-ltb mostRows (getD index 1 0) d,
                   le-ltb mostBitmaps (getD index 2 0) e,
-                  lt-ltb (length index) (entryPlace (getD index 2 0)) h,
+                  lt-ltb (length index) (entryPlace index (getD index 2 0)) h,
                 )
 
-            pub head-fine : entryPlace (getD index 2 0) ≤ length index → sound ≡ headFault index
+            pub head-fine : entryPlace index (getD index 2 0) ≤ length index → sound ≡ headFault index
             unfolding headFault refuseIf
             head-fine h =
                 rw (
@@ -57,5 +57,5 @@ module _ (index : List ℕ) where
                   eq-eqb (getD index 0 0) indexKind c,
                   le-ltb mostRows (getD index 1 0) d,
                   le-ltb mostBitmaps (getD index 2 0) e,
-                  le-ltb (length index) (entryPlace (getD index 2 0)) h,
+                  le-ltb (length index) (entryPlace index (getD index 2 0)) h,
                 )

@@ -49,7 +49,7 @@ fn check_head(index: &[u32]) -> Checked
     if MOST_BITMAPS < index[2] {
         return refused(3, 0, 2);
     }
-    if words < contents::entry_place(index[2]) {
+    if words < contents::entry_place(index, index[2]) {
         return refused(1, 0, words);
     }
     Checked::Sound
@@ -69,11 +69,11 @@ fn entry_step(index: &[u32], k: u32, end: usize) -> Step
     ensures { λ r. ⌜ Stepped (now (index .entry)) k end r ⌝ }
 {
     if contents::start(index, k) != end {
-        return Step::Fault(contents::entry_place(k));
+        return Step::Fault(contents::entry_place(index, k));
     }
     let words = contents::words(index, k);
     if index.len() - end < words {
-        return Step::Fault(contents::entry_place(k) + 1);
+        return Step::Fault(contents::entry_place(index, k) + 1);
     }
     Step::Next(end + words)
 }
@@ -81,10 +81,10 @@ fn entry_step(index: &[u32], k: u32, end: usize) -> Step
 // The entries, and the final end.
 fn check_entries(index: &[u32]) -> Checked
     requires { ⌜ HeadFacts (now index) ⌝ }
-    ensures { λ r. ⌜ verdictOf r ≡ entriesFault (now (index .entry)) 0 (bitmapCount (now (index .entry))) (entryPlace (bitmapCount (now (index .entry)))) ⌝ }
+    ensures { λ r. ⌜ verdictOf r ≡ entriesFault (now (index .entry)) 0 (bitmapCount (now (index .entry))) (entryPlace (now (index .entry)) (bitmapCount (now (index .entry)))) ⌝ }
 {
     let n = contents::bitmaps(index);
-    let mut end = contents::entry_place(n);
+    let mut end = contents::entry_place(index, n);
     let mut k: u32 = 0;
     while k < n {
         let step = entry_step(index, k, end);
@@ -142,7 +142,7 @@ fn check_bodies(index: &[u32]) -> Checked
 // The entries, and then the bodies.
 fn check_contents(index: &[u32]) -> Checked
     requires { ⌜ HeadFacts (now index) ⌝ }
-    ensures { λ r. ⌜ verdictOf r ≡ (entriesFault (now (index .entry)) 0 (bitmapCount (now (index .entry))) (entryPlace (bitmapCount (now (index .entry)))) then bodiesFault (now (index .entry)) 0 (bitmapCount (now (index .entry)))) ⌝ }
+    ensures { λ r. ⌜ verdictOf r ≡ (entriesFault (now (index .entry)) 0 (bitmapCount (now (index .entry))) (entryPlace (now (index .entry)) (bitmapCount (now (index .entry)))) then bodiesFault (now (index .entry)) 0 (bitmapCount (now (index .entry)))) ⌝ }
 {
     let entries = check_entries(index);
     match entries {

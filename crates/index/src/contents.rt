@@ -1,8 +1,8 @@
 // The contents of an index: its rows, its number of bitmaps, and where each body lies.
 ghost use mathlib.Core.Path.{_≡_};
-ghost use Prim.Native.Nat.{_+_, _≤_, _<_};
+ghost use Prim.Native.Nat.{_+_, _*_, _≤_, _<_};
 ghost use lib.ListN.{length};
-ghost use Rattle.meaning.specs.Limits.{mostBitmaps, headWords};
+ghost use Rattle.meaning.specs.Limits.{mostBitmaps, headWords, mostContents, wordBytes};
 ghost use Rattle.meaning.specs.Index.{rowCount, bitmapCount, entryPlace, startOf, lengthOf, bodyAt};
 ghost use Rattle.meaning.specs.Laws.{HeadFacts, EntryFacts};
 use meaning::ENTRY_WORDS;
@@ -32,9 +32,9 @@ pub fn bitmaps(index: &[u32]) -> u32
 }
 
 // Where entry k stands.
-pub fn entry_place(k: u32) -> usize
+pub fn entry_place(index: &[u32], k: u32) -> usize
     requires { ⌜ k ≤ mostBitmaps ⌝ }
-    ensures { λ r. ⌜ (r ≡ entryPlace k) × (r ≤ 131) ⌝ }
+    ensures { λ r. ⌜ (r ≡ entryPlace (now (index .entry)) k) × (r ≤ mostContents) ⌝ }
 {
     HEAD_WORDS + ENTRY_WORDS * wide(k)
 }
@@ -45,7 +45,7 @@ pub fn start(index: &[u32], k: u32) -> usize
     requires { ⌜ k < bitmapCount (now index) ⌝ }
     ensures { λ r. ⌜ (r ≡ startOf (now (index .entry)) k) × (r < 4294967296) ⌝ }
 {
-    let place = entry_place(k);
+    let place = entry_place(index, k);
     wide(index[place])
 }
 
@@ -55,16 +55,18 @@ pub fn words(index: &[u32], k: u32) -> usize
     requires { ⌜ k < bitmapCount (now index) ⌝ }
     ensures { λ r. ⌜ (r ≡ lengthOf (now (index .entry)) k) × (r < 4294967296) ⌝ }
 {
-    let place = entry_place(k) + 1;
+    let place = entry_place(index, k) + 1;
     wide(index[place])
 }
 
-// The part that is bitmap k's body.
+// The part that is bitmap k's body: its words, and where they lie in memory, in the index's own block and behind its first byte.
 pub fn body(index: &[u32], k: u32) -> &[u32]
     requires { ⌜ HeadFacts (now index) ⌝ }
     requires { ⌜ EntryFacts (now index) ⌝ }
     requires { ⌜ k < bitmapCount (now index) ⌝ }
     ensures { λ r. ⌜ now r ≡ bodyAt (now (index .entry)) k ⌝ }
+    ensures { λ r. ⌜ r .ptr .0 ≡ index .entry .ptr .0 ⌝ }
+    ensures { λ r. ⌜ r .ptr .1 ≡ index .entry .ptr .1 + wordBytes * startOf (now (index .entry)) k ⌝ }
 {
     let from = start(index, k);
     let end = from + words(index, k);

@@ -14,7 +14,7 @@ use Rattle.meaning.specs.Limits.{mostNamed}
 use Rattle.meaning.specs.Refusal.{Outcome, refused, answer}
 use Rattle.meaning.specs.Index.{bitmapCount}
 use Rattle.meaning.specs.Answer.{badBitmap, anyBad, badList, namedBodies, fits, bufferAfter, wordsReported, stretchesReported}
-use Rattle.meaning.proofs.Demanded.{good-each, or-false}
+use Rattle.meaning.proofs.Demanded.{good-list}
 use Rattle.meaning.proofs.Outcomes.{fits-yes, fits-no}
 use Rattle.answers.specs.declared.refusal.Refusal.{Refusal}
 use Rattle.answers.specs.Told.{refusedBy, refusal, answeredOf, wordsIn, stretchesIn, Reported}
@@ -60,19 +60,10 @@ module _ (index list : List ℕ) where
     bad-names g b e = rw (ne-eqb (length list) 0 h, le-ltb mostNamed (length list) g) e
 
   pub good-some : badList index list ≡ false → 1 ≤ length list
-  unfolding badList
-  good-some e =
-      let a = or-false (eqb (length list) 0 || ltb mostNamed (length list)) (anyBad index list) e in
-      let b = or-false (eqb (length list) 0) (ltb mostNamed (length list)) (a .0) in
-      let z = eqb-false (length list) 0 (b .0) in
-      omega arith
+  good-some e = good-list index list e .some
 
   pub good-listed : badList index list ≡ false → Listed index list
-  unfolding badList
-  good-listed e =
-      let a = or-false (eqb (length list) 0 || ltb mostNamed (length list)) (anyBad index list) e in
-      let b = or-false (eqb (length list) 0) (ltb mostNamed (length list)) (a .0) in
-      record { most = ltb-false mostNamed (length list) (b .1); its = good-each index list (a .1) }
+  good-listed e = let g = good-list index list e in record { most = g .most; its = g .its }
 
   -- ---- what is reported
 

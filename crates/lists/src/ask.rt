@@ -1,14 +1,8 @@
 // Questions over a list of bitmaps of a sound index: what is left to be refused, and the answer.
 ghost use mathlib.Core.Path.{_≡_};
-ghost use mathlib.Core.Bool.{true, _||_, not};
-ghost use Prim.Native.Nat.{suc, _≤_, _<_};
-ghost use lib.Dec.{eqb, ltb};
+ghost use Prim.Native.Nat.{_≤_};
 ghost use lib.ListN.{length};
 ghost use Rattle.meaning.specs.Limits.{headWords};
-ghost use Rattle.meaning.specs.Refusal.{refuseIf};
-ghost use Rattle.meaning.specs.Refusal as outcome;
-ghost use Rattle.meaning.specs.Index.{rowCount};
-ghost use Rattle.meaning.specs.Question.{byTable, histogramOf};
 ghost use Rattle.meaning.specs.Laws.{IndexFacts};
 ghost use Rattle.meaning.specs.Answer as meaning;
 ghost use Rattle.answers.specs.Told.{Reported, Counted};
@@ -18,12 +12,10 @@ use answers::answer::Answered;
 use answers::answer::Histogram;
 use answers::refusal::Checked;
 use index::contents;
-use merge::engine;
 use merge::evaluate::Operation;
-use words::rows;
 
 // Whether some number names no bitmap.
-fn names_missing(index: &[u32], list: &[u32]) -> bool
+pub fn names_missing(index: &[u32], list: &[u32]) -> bool
     requires { ⌜ headWords ≤ length (now index) ⌝ }
     ensures { λ r. ⌜ r ≡ meaning.anyBad (now (index .entry)) (now (list .entry)) ⌝ }
 {
@@ -55,7 +47,9 @@ fn list_is_bad(index: &[u32], list: &[u32]) -> bool
 // The rows that at least t of the list have; 8 for a bad list, or where t is 0 or above the list's length.
 pub fn threshold(index: &[u32], list: &[u32], t: u32, out: &mut [u32]) -> Answered
     requires { ⌜ IndexFacts (now index) ⌝ }
-    ensures { λ r. ⌜ Reported (now (index .entry)) (now (list .entry)) (refuseIf (meaning.badList (now (index .entry)) (now (list .entry)) || eqb t 0 || ltb (length (now (list .entry))) t) 8 0 0 (meaning.write (rowCount (now (index .entry))) (meaning.rightRows (now (index .entry)) (now (list .entry)) t) (length (now (out .entry))))) r (now (out .entry)) (now (out .exit)) ⌝ }
+    ensures { λ r. ⌜ Reported (now (index .entry)) (now (list .entry))
+        (meaning.askThreshold (now (index .entry)) (now (list .entry)) t (length (now (out .entry))))
+        r (now (out .entry)) (now (out .exit)) ⌝ }
 {
     if list_is_bad(index, list) {
         return Answered::Refused(answer::bad_argument());
@@ -86,7 +80,9 @@ fn entry_is_bad(table: &[u32]) -> bool
 // The rows at whose number the table has a 1; 8 for a bad list, or unless the table has one entry more than the list, each 0 or 1.
 pub fn symmetric(index: &[u32], list: &[u32], table: &[u32], out: &mut [u32]) -> Answered
     requires { ⌜ IndexFacts (now index) ⌝ }
-    ensures { λ r. ⌜ Reported (now (index .entry)) (now (list .entry)) (refuseIf (meaning.badList (now (index .entry)) (now (list .entry)) || not (eqb (length (now (table .entry))) (suc (length (now (list .entry))))) || meaning.badEntry (now (table .entry))) 8 0 0 (meaning.write (rowCount (now (index .entry))) (byTable (now (table .entry)) (meaning.named (now (index .entry)) (now (list .entry)))) (length (now (out .entry))))) r (now (out .entry)) (now (out .exit)) ⌝ }
+    ensures { λ r. ⌜ Reported (now (index .entry)) (now (list .entry))
+        (meaning.askSymmetric (now (index .entry)) (now (list .entry)) (now (table .entry)) (length (now (out .entry))))
+        r (now (out .entry)) (now (out .exit)) ⌝ }
 {
     if list_is_bad(index, list) {
         return Answered::Refused(answer::bad_argument());
@@ -103,7 +99,7 @@ pub fn symmetric(index: &[u32], list: &[u32], table: &[u32], out: &mut [u32]) ->
 // The histogram of the list; 8 for a bad one.
 pub fn histogram(index: &[u32], list: &[u32]) -> Histogram
     requires { ⌜ IndexFacts (now index) ⌝ }
-    ensures { λ r. ⌜ Counted (refuseIf (meaning.badList (now (index .entry)) (now (list .entry))) 8 0 0 (outcome.answer (histogramOf (rowCount (now (index .entry))) (meaning.named (now (index .entry)) (now (list .entry)))))) r ⌝ }
+    ensures { λ r. ⌜ Counted (meaning.askHistogram (now (index .entry)) (now (list .entry))) r ⌝ }
 {
     if list_is_bad(index, list) {
         return answer::no_histogram(answer::bad_argument());

@@ -1,21 +1,20 @@
 -- Logical questions: what is chosen of a list of one, two or three bitmaps, and the words alone of an answer.
 -- Assumes nothing.
-use Prim.Native.Nat.{ℕ, zero, suc, _+_, _<_}
+use Prim.Native.Nat.{ℕ, _+_, _≤_}
 use mathlib.Core.Bool.{Bool, true, false, not, _&&_, _||_, xor}
 use mathlib.Core.Path.{_≡_, refl, sym, ap, _∙_, subst}
 use mathlib.Core.List.{List, [], _∷_, map}
-use native.Mathlib.Omega.{arith}
 use lib.Dec.{eqb, leb}
-use lib.ListN.{length, getD}
+use lib.ListN.{length}
 use Rattle.meaning.specs.Limits.{mostNamed}
 use Rattle.meaning.specs.Rows.{bit}
-use Rattle.meaning.specs.Refusal.{Outcome}
+use Rattle.meaning.specs.Refusal.{Outcome, refused, refuseIf}
 use Rattle.meaning.specs.Canonical.{canonical}
-use Rattle.meaning.specs.Index.{rowCount, bitmapCount, rowsAt}
+use Rattle.meaning.specs.Index.{rowCount, rowsAt}
 use Rattle.meaning.specs.Question.{held, intersection, union, symmetricDifference, difference, complement}
 use Rattle.meaning.specs.Ahead.{answerRows}
-use Rattle.meaning.specs.Answer.{named, write, fits}
-use Rattle.meaning.proofs.Demanded.{named-is}
+use Rattle.meaning.specs.Answer.{badBitmap, anyBad, named, write, fits}
+use Rattle.meaning.proofs.Demanded.{named-is, good-each}
 use Rattle.meaning.proofs.CanonicalBody.{canonical-ext}
 use Rattle.merge.specs.declared.evaluate.Operation.{Operation}
 use Rattle.merge.specs.declared.evaluate.Operation.the-variants as operation
@@ -25,8 +24,10 @@ use Rattle.merge.specs.Merges.{answerBody}
 use Rattle.answers.specs.declared.refusal.Refusal.{Refusal}
 use Rattle.answers.specs.declared.answer.Answered.{Answered}
 use Rattle.answers.specs.declared.answer.Answered.the-variants as answered
+use Rattle.answers.specs.declared.answer.Written.{Written}
 use Rattle.answers.specs.declared.answer.Written.the-variants as written
-use Rattle.answers.specs.Told.{Reported, Wrote, answeredOf, wordsIn, writtenOf, wordsOf}
+use Rattle.answers.specs.Told.{refusedBy, refusal, Reported, Wrote, answeredOf, wordsIn, writtenOf, wordsOf}
+use Rattle.answers.proofs.Tells.{wrote-refused}
 
 -- ---- the words alone
 
@@ -99,13 +100,38 @@ not-rows index k i = none (rowsAt index k i)
     none false = refl
     none true = refl
 
--- a list of numbers that are all good
-pub listed-none : (index : List ℕ) → Listed index []
-listed-none index = record { most = omega arith; its = λ i h. absurd (omega arith) }
+-- ---- what is refused
 
-pub listed-more : (index : List ℕ) (k : ℕ) (ks : List ℕ) → k < bitmapCount index → length ks < mostNamed → Listed index ks → Listed index (k ∷ ks)
-listed-more index k ks h m l = record { most = omega arith; its = its }
-  where
-    its : (i : ℕ) → i < length (k ∷ ks) → getD (k ∷ ks) i 0 < bitmapCount index
-    its zero g = h
-    its (suc i) g = l .its i (omega arith)
+module _ (out : List ℕ) (bad : Bool) (rest : Outcome (List ℕ)) where
+  pub bad-refused : bad ≡ true → (r : Refusal) → r ≡ refusal 8 0 → Wrote (refuseIf bad 8 0 0 rest) (written.Refused r) out out
+  unfolding refuseIf
+  bad-refused h r e = rw h (wrote-refused out r (refused 8 0 0) (ap refusedBy e))
+
+  pub good-rest : bad ≡ false → (r : Written) (out′ : List ℕ) → Wrote rest r out out′ → Wrote (refuseIf bad 8 0 0 rest) r out out′
+  unfolding refuseIf
+  good-rest h r out′ w = rw h w
+
+-- which numbers a list names
+or-same : (b : Bool) → b || b ≡ b
+or-same true = refl
+or-same false = refl
+
+or-none : (b : Bool) → b || false ≡ b
+or-none true = refl
+or-none false = refl
+
+module _ (index : List ℕ) (j k : ℕ) where
+  pub one-bad : anyBad index (k ∷ []) ≡ badBitmap index k
+  unfolding anyBad
+  one-bad = or-none (badBitmap index k)
+
+  pub two-bad : anyBad index (j ∷ k ∷ []) ≡ badBitmap index j || badBitmap index k
+  unfolding anyBad
+  two-bad = ap (λ (b : Bool). badBitmap index j || b) (or-none (badBitmap index k))
+
+  pub twice-bad : anyBad index (j ∷ k ∷ k ∷ []) ≡ badBitmap index j || badBitmap index k
+  unfolding anyBad
+  twice-bad = ap (λ (b : Bool). badBitmap index j || (badBitmap index k || b)) (or-none (badBitmap index k)) ∙ ap (λ (b : Bool). badBitmap index j || b) (or-same (badBitmap index k))
+
+pub listed : (index list : List ℕ) → length list ≤ mostNamed → anyBad index list ≡ false → Listed index list
+listed index list h e = record { most = h; its = good-each index list e }

@@ -12,13 +12,13 @@ use Rattle.meaning.specs.Rows.{countBelow}
 use Rattle.meaning.specs.Refusal.{answer}
 use Rattle.meaning.specs.Index.{rowCount, rowsAt}
 use Rattle.meaning.specs.Question.{complement, byTable, held, sumOf, histogramOf}
-use Rattle.meaning.specs.Answer.{write, check, bitmapRefusal, logical, notOf, anyBad, badList, badEntry, named, rightRows, threshold, symmetric, histogram}
+use Rattle.meaning.specs.Answer.{write, check, badBitmap, askLogical, logical, askNot, notOf, badList, named, rightRows, badThreshold, askThreshold, threshold, badSymmetric, askSymmetric, symmetric, askHistogram, histogram}
 use Rattle.meaning.specs.Canonical.{canonical}
 use Rattle.meaning.specs.Laws.{Answers, AnswerLaws}
 use Rattle.meaning.proofs.Outcomes.{refuse-answer, then-answer, fits-answer}
 use Rattle.meaning.proofs.CanonicalBody.{canonical-body, canonical-form}
 use Rattle.meaning.proofs.Lawful.{body-laws}
-use Rattle.meaning.proofs.Demanded.{or-false}
+use Rattle.meaning.proofs.Demanded.{good-list}
 use Rattle.meaning.proofs.Counted.{histogram-adds}
 use Rattle.meaning.proofs.RowWords.{length-tabulate}
 
@@ -31,33 +31,30 @@ written R p room b e =
 
 of-pair : (index : List ℕ) (op : (ℕ → Bool) → (ℕ → Bool) → ℕ → Bool) (j k room : ℕ) (b : List ℕ) → logical index op j k room ≡ answer b
     → Answers (rowCount index) (op (rowsAt index j) (rowsAt index k)) b
-unfolding logical
+unfolding logical askLogical
 of-pair index op j k room b e =
-    written _ _ room b (then-answer (bitmapRefusal index k) _ b (then-answer (bitmapRefusal index j) _ b e .1) .1)
+    written _ _ room b (refuse-answer (badBitmap index j || badBitmap index k) 8 0 0 _ b (then-answer (check index) _ b e .1) .1)
 
 of-not : (index : List ℕ) (k room : ℕ) (b : List ℕ) → notOf index k room ≡ answer b → Answers (rowCount index) (complement (rowsAt index k)) b
-unfolding notOf
-of-not index k room b e = written _ _ room b (then-answer (bitmapRefusal index k) _ b e .1)
+unfolding notOf askNot
+of-not index k room b e = written _ _ room b (refuse-answer (badBitmap index k) 8 0 0 _ b (then-answer (check index) _ b e .1) .1)
 
 of-threshold : (index list : List ℕ) (T room : ℕ) (b : List ℕ) → threshold index list T room ≡ answer b → Answers (rowCount index) (rightRows index list T) b
-unfolding threshold
+unfolding threshold askThreshold
 of-threshold index list T room b e =
-    written _ _ room b (refuse-answer (badList index list || eqb T 0 || ltb (length list) T) 8 0 0 _ b (then-answer (check index) _ b e .1) .1)
+    written _ _ room b (refuse-answer (badThreshold index list T) 8 0 0 _ b (then-answer (check index) _ b e .1) .1)
 
 of-symmetric : (index list table : List ℕ) (room : ℕ) (b : List ℕ) → symmetric index list table room ≡ answer b → Answers (rowCount index) (byTable table (named index list)) b
-unfolding symmetric
+unfolding symmetric askSymmetric
 of-symmetric index list table room b e =
-    written _ _ room b (refuse-answer (badList index list || not (eqb (length table) (suc (length list))) || badEntry table) 8 0 0 _ b (then-answer (check index) _ b e .1) .1)
+    written _ _ room b (refuse-answer (badSymmetric index list table) 8 0 0 _ b (then-answer (check index) _ b e .1) .1)
 
 few-named : (index list : List ℕ) → badList index list ≡ false → length (named index list) ≤ mostNamed
-unfolding badList named
-few-named index list e =
-    let a = or-false (eqb (length list) 0 || ltb mostNamed (length list)) (anyBad index list) e in
-    let b = or-false (eqb (length list) 0) (ltb mostNamed (length list)) (a .0) in
-    rw length-map (ltb-false mostNamed (length list) (b .1))
+unfolding named
+few-named index list e = rw length-map (good-list index list e .most)
 
 of-histogram : (index list entries : List ℕ) → histogram index list ≡ answer entries → (length entries ≡ suc mostNamed) × (sumOf entries ≡ rowCount index)
-unfolding histogram
+unfolding histogram askHistogram
 of-histogram index list entries e =
     let p = refuse-answer (badList index list) 8 0 0 (answer (histogramOf (rowCount index) (named index list))) entries (then-answer (check index) _ entries e .1) in
     let is : entries ≡ histogramOf (rowCount index) (named index list) = let q = p .1 in cc in

@@ -8,7 +8,7 @@ use mathlib.Core.List.{List, [], _∷_, map}
 use lib.Dec.{eqb, leb, ltb}
 use lib.ListN.{length, getD}
 use native.Mathlib.Omega.{arith}
-use borrow.Author.Tests.{leb-true, leb-false, le-ltb, le-leb, lt-leb, ne-eqb, eq-eqb, eqb-false}
+use borrow.Author.Tests.{leb-true, leb-false, le-ltb, ltb-false, le-leb, lt-leb, ne-eqb, eq-eqb, eqb-false}
 use Rattle.meaning.specs.Limits.{mostRows, mostNamed}
 use Rattle.meaning.specs.Segment.{hasRow, segmentCount, lastLimit, lastOf, fromRows}
 use Rattle.meaning.specs.Refusal.{Outcome, refused, answer, sound, refuseIf, _then_}
@@ -16,8 +16,9 @@ use Rattle.meaning.specs.Ewah.{Sound, rowsOf, bodyFault}
 use Rattle.meaning.specs.Canonical.{canonical}
 use Rattle.meaning.specs.Index.{SoundIndex, rowCount, bitmapCount, indexFault, bodyAt, rowsAt}
 use Rattle.meaning.specs.Question.{held, atLeast, byTable, totalWords, stretches}
-use Rattle.meaning.specs.Answer.{fits, write, askPlain, rowsFault, plainFault, checkBody, bufferAfter, check, badBitmap, anyBad, badList, named, namedBodies, rightRows, threshold, symmetric, badEntry, expand, compress, wordsReported, stretchesReported}
-use Rattle.meaning.specs.Demands.{Asked, NoRoom, Written, Demand3, Demand3Holds, PlainRows, Demand2, StretchBounds, StretchesHold}
+use Rattle.meaning.specs.Answer.{fits, write, askPlain, rowsFault, plainFault, checkBody, bufferAfter, check, badBitmap, anyBad, badList, named, namedBodies, rightRows, badThreshold, askThreshold, threshold, badSymmetric, askSymmetric, symmetric, badEntry, expand, compress, wordsReported, stretchesReported}
+use Rattle.meaning.specs.Demands.{Asked, AskedMeans, NoRoom, Written, Demand3, ThresholdDemand, ThresholdHolds, PlainRows, Demand2, StretchBounds, StretchesHold}
+use Rattle.meaning.proofs.Tests.{or-false, first-false}
 use Rattle.meaning.proofs.Decoded.{Whole}
 use Rattle.meaning.proofs.IndexSound.{index-means}
 use Rattle.meaning.proofs.Stretches.{stretches-le}
@@ -55,31 +56,79 @@ twice-stretches index (k ∷ ks) f s n h =
     let e = words-le (rowCount index) f (bodyAt index k) (map (bodyAt index) ks) (all-whole index (k ∷ ks) s h) in
     subst (λ (l : List (ℕ → Bool)). length (canonical (rowCount index) (λ r. f (held l r))) ≤ 2 * stretches (rowCount index) (map (bodyAt index) (k ∷ ks))) (sym (named-is index (k ∷ ks))) e
 
--- ---- a threshold question
+-- ---- a list of bitmap numbers
 
 all-good : (index list : List ℕ) → ((i : ℕ) → i < length list → getD list i 0 < bitmapCount index) → anyBad index list ≡ false
 unfolding anyBad badBitmap
 all-good index [] h = refl
 all-good index (k ∷ ks) h = rw (lt-leb (bitmapCount index) k (h 0 (omega arith))) (all-good index ks (λ i g. h (suc i) (omega arith)))
 
+pub good-each : (index list : List ℕ) → anyBad index list ≡ false → (i : ℕ) → i < length list → getD list i 0 < bitmapCount index
+unfolding anyBad badBitmap
+good-each index [] e i h = absurd (omega arith)
+good-each index (k ∷ ks) e zero h = leb-false (bitmapCount index) k (or-false (leb (bitmapCount index) k) (anyBad index ks) e .0)
+good-each index (k ∷ ks) e (suc i) h = good-each index ks (or-false (leb (bitmapCount index) k) (anyBad index ks) e .1) i (omega arith)
+
+-- the plain facts of a list that is not bad
+pub record GoodList (index list : List ℕ) : Type 0 where
+  pub some : 1 ≤ length list
+  pub most : length list ≤ mostNamed
+  pub its : (i : ℕ) → i < length list → getD list i 0 < bitmapCount index
+
+pub good-list : (index list : List ℕ) → badList index list ≡ false → GoodList index list
+unfolding badList
+good-list index list e =
+    let a = or-false (eqb (length list) 0 || ltb mostNamed (length list)) (anyBad index list) e in
+    let b = or-false (eqb (length list) 0) (ltb mostNamed (length list)) (a .0) in
+    let z = eqb-false (length list) 0 (b .0) in
+    record { some = omega arith; most = ltb-false mostNamed (length list) (b .1); its = good-each index list (a .1) }
+
+list-good : (index list : List ℕ) → GoodList index list → badList index list ≡ false
+unfolding badList
+list-good index list g =
+    rw (ne-eqb (length list) 0 (omega (arith, g .some)), le-ltb mostNamed (length list) (g .most), all-good index list (g .its))
+
+-- ---- a threshold question
+
+pub asked-means : AskedMeans
+unfolding check badThreshold
+asked-means index list T = (to, from)
+  where
+    to : Asked index list T → (indexFault index ≡ sound) × (badList index list || eqb T 0 || ltb (length list) T ≡ false)
+    to a =
+        let l = list-good index list (record { some = a .some; most = a .most; its = a .its }) in
+        (a .isSound, rw (l, ne-eqb T 0 (omega (arith, a .low)), le-ltb (length list) T (a .high)))
+
+    from : (indexFault index ≡ sound) × (badList index list || eqb T 0 || ltb (length list) T ≡ false) → Asked index list T
+    from h =
+        let a = or-false (badList index list || eqb T 0) (ltb (length list) T) (h .1) in
+        let b = or-false (badList index list) (eqb T 0) (a .0) in
+        let g = good-list index list (b .0) in
+        let z = eqb-false T 0 (b .1) in
+        record {
+          isSound = h .0;
+          some = g .some;
+          most = g .most;
+          its = g .its;
+          low = omega arith;
+          high = ltb-false (length list) T (a .1);
+        }
+
 module _ (index list : List ℕ) (T : ℕ) where
   -- nothing but the room is left to be asked
   pub asked-writes : Asked index list T → (room : ℕ) → threshold index list T room ≡ write (rowCount index) (rightRows index list T) room
-  unfolding threshold check badList
+  unfolding threshold askThreshold
   asked-writes a room =
-      then-sound (indexFault index) _ (a .isSound)
-      ∙ refuse-no (badList index list || eqb T 0 || ltb (length list) T) 8 0 0 (write (rowCount index) (rightRows index list T) room) good
-    where
-      good : badList index list || eqb T 0 || ltb (length list) T ≡ false
-      good = rw (ne-eqb (length list) 0 (omega (arith, a .some)), le-ltb mostNamed (length list) (a .most), all-good index list (a .its), ne-eqb T 0 (omega (arith, a .low)), le-ltb (length list) T (a .high))
+      let m = asked-means index list T .0 a in
+      then-sound (check index) _ (m .0) ∙ refuse-no (badThreshold index list T) 8 0 0 (write (rowCount index) (rightRows index list T) room) (m .1)
 
-  -- what is answered is the canonical body of the right rows
-  pub answered-is : (room : ℕ) (b : List ℕ) → threshold index list T room ≡ answer b → b ≡ canonical (rowCount index) (rightRows index list T)
-  unfolding threshold write
+  -- what is answered was asked, and is the canonical body of the right rows
+  pub answered-is : (room : ℕ) (b : List ℕ) → threshold index list T room ≡ answer b → Asked index list T × (b ≡ canonical (rowCount index) (rightRows index list T))
+  unfolding threshold askThreshold write
   answered-is room b e =
       let p = then-answer (check index) _ b e in
-      let q = refuse-answer (badList index list || eqb T 0 || ltb (length list) T) 8 0 0 (write (rowCount index) (rightRows index list T) room) b (p .1) in
-      fits-answer room (canonical (rowCount index) (rightRows index list T)) b (q .1)
+      let q = refuse-answer (badThreshold index list T) 8 0 0 (write (rowCount index) (rightRows index list T) room) b (p .1) in
+      (asked-means index list T .1 (p .0, q .0), fits-answer room (canonical (rowCount index) (rightRows index list T)) b (q .1))
 
   right-iff : (r : ℕ) → (rightRows index list T r ≡ true) ↔ (T ≤ held (named index list) r)
   unfolding rightRows atLeast
@@ -118,9 +167,8 @@ module _ (index list : List ℕ) (T : ℕ) where
     unfolding rightRows atLeast
     few = omega (arith, twice-stretches index list (λ c. leb T c) (a .isSound) (a .some) (a .its), stretches-le R (namedBodies index list))
 
-    holds : Demand3 index list T buffer o (bufferAfter o buffer)
-    holds = record {
-      right = right-iff;
+    demand : Demand3 R p (namedBodies index list) buffer o (bufferAfter o buffer)
+    demand = record {
       least = length (canonical R p);
       least-is = canonical-fewest R p;
       no-room = no-room;
@@ -128,66 +176,49 @@ module _ (index list : List ℕ) (T : ℕ) where
       enough = few;
     }
 
-pub demand3 : Demand3Holds
-demand3 index list T buffer a = holds index list T buffer a
+pub threshold-demand : ThresholdHolds
+threshold-demand index list T buffer a = record { right = right-iff index list T; demand = demand index list T buffer a }
 
 -- ---- stretches
-
-pub or-false : (a b : Bool) → a || b ≡ false → (a ≡ false) × (b ≡ false)
-or-false true b e = absurd (true≢false e)
-or-false false b e = (refl, e)
-
-pub good-each : (index list : List ℕ) → anyBad index list ≡ false → (i : ℕ) → i < length list → getD list i 0 < bitmapCount index
-unfolding anyBad badBitmap
-good-each index [] e i h = absurd (omega arith)
-good-each index (k ∷ ks) e zero h = leb-false (bitmapCount index) k (or-false (leb (bitmapCount index) k) (anyBad index ks) e .0)
-good-each index (k ∷ ks) e (suc i) h = good-each index ks (or-false (leb (bitmapCount index) k) (anyBad index ks) e .1) i (omega arith)
 
 module _ (index list : List ℕ) (f : ℕ → Bool) (bad : Bool) (room : ℕ) where
   abbrev rows : ℕ → Bool
   rows r = f (held (named index list) r)
 
-  -- any question whose answer `f` gives from the number of named bitmaps that have a row
-  bounds : (o : Outcome (List ℕ)) → o ≡ (check index then refuseIf (badList index list || bad) 8 0 0 (write (rowCount index) rows room)) → StretchBounds index list o
-  unfolding stretchesReported wordsReported check
-  bounds (refused n b w) e = record { few = omega arith; twice = omega arith }
-  bounds (answer ws) e =
+  -- any question whose answer `f` gives from the number of named bitmaps that have a row, and whose list is good where `bad` is false
+  bounds : (o : Outcome (List ℕ)) → (bad ≡ false → badList index list ≡ false) → o ≡ (check index then refuseIf bad 8 0 0 (write (rowCount index) rows room)) → StretchBounds index list o
+  unfolding stretchesReported wordsReported check write
+  bounds (refused n b w) g e = record { few = omega arith; twice = omega arith }
+  bounds (answer ws) g e =
       let p = then-answer (check index) _ ws (sym e) in
-      let q = refuse-answer (badList index list || bad) 8 0 0 (write (rowCount index) rows room) ws (p .1) in
-      let l = or-false (badList index list) bad (q .0) in
-      let is = fits-answer room (canonical (rowCount index) rows) ws (opened (q .1)) in
-      let m = listed (l .0) in
-      let two = twice-stretches index list f (p .0) (m .0) (m .1) in
+      let q = refuse-answer bad 8 0 0 (write (rowCount index) rows room) ws (p .1) in
+      let is = fits-answer room (canonical (rowCount index) rows) ws (q .1) in
+      let m = good-list index list (g (q .0)) in
+      let two = twice-stretches index list f (p .0) (m .some) (m .its) in
       record { few = stretches-le (rowCount index) (namedBodies index list); twice = rw is two }
-    where
-      opened : write (rowCount index) rows room ≡ answer ws → fits room (canonical (rowCount index) rows) ≡ answer ws
-      opened h = unfold write in h
 
-      listed : badList index list ≡ false → (1 ≤ length list) × ((i : ℕ) → i < length list → getD list i 0 < bitmapCount index)
-      listed h =
-          let a = or-false (eqb (length list) 0 || ltb mostNamed (length list)) (anyBad index list) (unfold badList in h) in
-          let b = or-false (eqb (length list) 0) (ltb mostNamed (length list)) (a .0) in
-          let z = eqb-false (length list) 0 (b .0) in
-          (omega arith, good-each index list (a .1))
+threshold-list : (index list : List ℕ) (T : ℕ) → badThreshold index list T ≡ false → badList index list ≡ false
+unfolding badThreshold
+threshold-list index list T e = first-false (badList index list) (eqb T 0) (ltb (length list) T) e
 
-or-group : (a b c : Bool) → a || b || c ≡ a || (b || c)
-or-group true b c = refl
-or-group false b c = refl
+symmetric-list : (index list table : List ℕ) → badSymmetric index list table ≡ false → badList index list ≡ false
+unfolding badSymmetric
+symmetric-list index list table e = first-false (badList index list) (not (eqb (length table) (suc (length list)))) (badEntry table) e
 
 pub stretches-hold : StretchesHold
 stretches-hold = record { of-threshold = of-threshold; of-symmetric = of-symmetric }
   where
     of-threshold : (index list : List ℕ) (T room : ℕ) → StretchBounds index list (threshold index list T room)
-    of-threshold index list T room = bounds index list (λ c. leb T c) (eqb T 0 || ltb (length list) T) room (threshold index list T room) e
+    of-threshold index list T room = bounds index list (λ c. leb T c) (badThreshold index list T) room (threshold index list T room) (threshold-list index list T) e
       where
-        e : threshold index list T room ≡ (check index then refuseIf (badList index list || (eqb T 0 || ltb (length list) T)) 8 0 0 (write (rowCount index) (λ r. leb T (held (named index list) r)) room))
-        e = unfold threshold rightRows atLeast in ap (λ (t : Bool). check index then refuseIf t 8 0 0 (write (rowCount index) (λ r. leb T (held (named index list) r)) room)) (or-group (badList index list) (eqb T 0) (ltb (length list) T))
+        e : threshold index list T room ≡ (check index then refuseIf (badThreshold index list T) 8 0 0 (write (rowCount index) (λ r. leb T (held (named index list) r)) room))
+        e = unfold threshold askThreshold rightRows atLeast in refl
 
     of-symmetric : (index list table : List ℕ) (room : ℕ) → StretchBounds index list (symmetric index list table room)
-    of-symmetric index list table room = bounds index list (λ c. eqb (getD table c 0) 1) (not (eqb (length table) (suc (length list))) || badEntry table) room (symmetric index list table room) e
+    of-symmetric index list table room = bounds index list (λ c. eqb (getD table c 0) 1) (badSymmetric index list table) room (symmetric index list table room) (symmetric-list index list table) e
       where
-        e : symmetric index list table room ≡ (check index then refuseIf (badList index list || (not (eqb (length table) (suc (length list))) || badEntry table)) 8 0 0 (write (rowCount index) (λ r. eqb (getD table (held (named index list) r) 0) 1) room))
-        e = unfold symmetric byTable in ap (λ (t : Bool). check index then refuseIf t 8 0 0 (write (rowCount index) (λ r. eqb (getD table (held (named index list) r) 0) 1) room)) (or-group (badList index list) (not (eqb (length table) (suc (length list)))) (badEntry table))
+        e : symmetric index list table room ≡ (check index then refuseIf (badSymmetric index list table) 8 0 0 (write (rowCount index) (λ r. eqb (getD table (held (named index list) r) 0) 1) room))
+        e = unfold symmetric askSymmetric byTable in refl
 
 -- ---- demand 2
 
@@ -218,7 +249,7 @@ demand2 = record { in-answer = in-answer; write-read = write-read; write-fits = 
     in-answer : (index list : List ℕ) (T room : ℕ) (b : List ℕ) → threshold index list T room ≡ answer b
         → (r : ℕ) → r < rowCount index → (rowsOf b r ≡ true) ↔ (T ≤ held (named index list) r)
     in-answer index list T room b e r h =
-        let q : rowsOf b r ≡ rightRows index list T r = ap (λ (z : List ℕ). rowsOf z r) (answered-is index list T room b e) ∙ canonical-rows (rowCount index) (rightRows index list T) r h in
+        let q : rowsOf b r ≡ rightRows index list T r = ap (λ (z : List ℕ). rowsOf z r) (answered-is index list T room b e .1) ∙ canonical-rows (rowCount index) (rightRows index list T) r h in
         rw q (right-iff index list T r)
 
     write-read : (R : ℕ) (plain : List ℕ) (room room′ : ℕ) → PlainRows R plain → segmentCount 32 R ≤ room′

@@ -15,20 +15,13 @@ use Rattle.meaning.specs.Segment.{Segment, clean, kind, wordOf, tabulate
 use Rattle.meaning.specs.Ewah.{Piece, cleanRun, dirtyWord, pieces, pieceSize, runThen, segments, rowsOf, valueOf, cleanOf, dirtyOf}
 use Rattle.meaning.specs.Canonical.{Draft, blank, body, put, canonicalOf, canonical}
 use Rattle.meaning.specs.Question.{isIn, endsFrom, endsAt, stretches, held}
+use Rattle.meaning.proofs.Tests.{or-false, or-true}
 use Rattle.meaning.proofs.Segments.{canonical-is, encoded, map-append}
 use Rattle.meaning.proofs.Decoded.{Whole}
 use Rattle.meaning.proofs.RowWords.{word-at, word-ext, has-at, before-last}
 use Rattle.meaning.proofs.Least.{size, put-two, run-then-two}
 use Rattle.meaning.specs.Ahead.{flat}
 use Rattle.meaning.proofs.Stretches.{flat-pieces}
-
-or-false : (a b : Bool) → a || b ≡ false → (a ≡ false) × (b ≡ false)
-or-false true b e = absurd (true≢false e)
-or-false false b e = (refl, e)
-
-pub or-true : (a b : Bool) → b ≡ true → a || b ≡ true
-or-true true b e = refl
-or-true false b e = e
 
 -- ---- the pieces of one body
 

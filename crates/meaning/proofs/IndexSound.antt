@@ -50,14 +50,14 @@ module _ (index : List ℕ) where
       let c = refuse-answer (not (eqb (getD index 0 0) indexKind)) 2 0 0 _ tt (b .1) in
       let d = refuse-answer (ltb mostRows (rowCount index)) 3 0 1 _ tt (c .1) in
       let f = refuse-answer (ltb mostBitmaps N) 3 0 2 _ tt (d .1) in
-      let g = refuse-answer (ltb n (entryPlace N)) 1 0 n _ tt (f .1) in
+      let g = refuse-answer (ltb n (entryPlace index N)) 1 0 n _ tt (f .1) in
       record {
         few-words = ltb-false mostIndexWords n (a .0);
         head = ltb-false n headWords (b .0);
         kind = not-equal (getD index 0 0) indexKind (c .0);
         few-rows = ltb-false mostRows (rowCount index) (d .0);
         few-bitmaps = ltb-false mostBitmaps N (f .0);
-        contents = ltb-false n (entryPlace N) (g .0);
+        contents = ltb-false n (entryPlace index N) (g .0);
       }
 
   facts-head : HeadFacts index → headFault index ≡ sound
@@ -68,7 +68,7 @@ module _ (index : List ℕ) where
       (let-through (not (eqb (getD index 0 0) indexKind)) 2 0 0 _ (ap not (eq-eqb (getD index 0 0) indexKind (h .kind)))
       (let-through (ltb mostRows (rowCount index)) 3 0 1 _ (le-ltb mostRows (rowCount index) (h .few-rows))
       (let-through (ltb mostBitmaps N) 3 0 2 _ (le-ltb mostBitmaps N (h .few-bitmaps))
-      (let-through (ltb n (entryPlace N)) 1 0 n _ (le-ltb n (entryPlace N) (h .contents))
+      (let-through (ltb n (entryPlace index N)) 1 0 n _ (le-ltb n (entryPlace index N) (h .contents))
       refl)))))
 
   -- ---- the entries
@@ -90,8 +90,8 @@ module _ (index : List ℕ) where
         last = rw z (ltb-false (bodyPlace index k) n (p .0));
       }
   entries-sound (suc more) k e =
-      let p = refuse-answer (not (eqb (startOf index k) (bodyPlace index k))) 4 k (entryPlace k) _ tt e in
-      let q = refuse-answer (ltb n (bodyPlace index k + lengthOf index k)) 4 k (entryPlace k + 1) _ tt (p .1) in
+      let p = refuse-answer (not (eqb (startOf index k) (bodyPlace index k))) 4 k (entryPlace index k) _ tt e in
+      let q = refuse-answer (ltb n (bodyPlace index k + lengthOf index k)) 4 k (entryPlace index k + 1) _ tt (p .1) in
       let f = entries-sound more (suc k) (q .1) in
       let here : startOf index k ≡ bodyPlace index k = not-equal (startOf index k) (bodyPlace index k) (p .0) in
       let end : bodyPlace index (suc k) ≤ n = ltb-false n (bodyPlace index k + lengthOf index k) (q .0) in
@@ -124,8 +124,8 @@ module _ (index : List ℕ) where
       let z : k + suc more ≡ suc k + more = omega arith in
       let s : startOf index k ≡ bodyPlace index k = f .starts k (omega arith) (omega arith) in
       let e : bodyPlace index (suc k) ≤ n = f .ends (suc k) (omega arith) (omega arith) in
-      let-through (not (eqb (startOf index k) (bodyPlace index k))) 4 k (entryPlace k) _ (ap not (eq-eqb (startOf index k) (bodyPlace index k) s))
-      (let-through (ltb n (bodyPlace index k + lengthOf index k)) 4 k (entryPlace k + 1) _ (le-ltb n (bodyPlace index k + lengthOf index k) e)
+      let-through (not (eqb (startOf index k) (bodyPlace index k))) 4 k (entryPlace index k) _ (ap not (eq-eqb (startOf index k) (bodyPlace index k) s))
+      (let-through (ltb n (bodyPlace index k + lengthOf index k)) 4 k (entryPlace index k + 1) _ (le-ltb n (bodyPlace index k + lengthOf index k) e)
       (sound-entries more (suc k) (record { starts = λ i a b. f .starts i (omega arith) (omega arith); ends = λ i a b. f .ends i (omega arith) (omega arith); last = rw z at (f .last) })))
 
   -- ---- the bodies
@@ -149,12 +149,12 @@ module _ (index : List ℕ) where
 
   -- ---- the index
 
-  within : entryPlace N ≤ n → Entries 0 N → (k : ℕ) → k ≤ N → bodyPlace index k ≤ n
+  within : entryPlace index N ≤ n → Entries 0 N → (k : ℕ) → k ≤ N → bodyPlace index k ≤ n
   unfolding bodyPlace
   within h e zero l = h
   within h e (suc k) l = e .ends (suc k) (omega arith) (omega arith)
 
-  pub entry-facts : HeadFacts index → entriesFault index 0 N (entryPlace N) ≡ sound → EntryFacts index
+  pub entry-facts : HeadFacts index → entriesFault index 0 N (entryPlace index N) ≡ sound → EntryFacts index
   unfolding bodyPlace
   entry-facts h s =
       let e = entries-sound N 0 s in
@@ -167,7 +167,7 @@ module _ (index : List ℕ) where
         last-end = omega arith;
       }
 
-  facts-entry : EntryFacts index → entriesFault index 0 N (entryPlace N) ≡ sound
+  facts-entry : EntryFacts index → entriesFault index 0 N (entryPlace index N) ≡ sound
   unfolding bodyPlace
   facts-entry f =
       let z : 0 + N ≡ N = omega arith in
@@ -176,16 +176,16 @@ module _ (index : List ℕ) where
   index-facts : SoundIndex index → IndexFacts index
   unfolding indexFault
   index-facts s =
-      let p = then-answer (headFault index) (entriesFault index 0 N (entryPlace N) then bodiesFault index 0 N) tt s in
-      let q = then-answer (entriesFault index 0 N (entryPlace N)) (bodiesFault index 0 N) tt (p .1) in
+      let p = then-answer (headFault index) (entriesFault index 0 N (entryPlace index N) then bodiesFault index 0 N) tt s in
+      let q = then-answer (entriesFault index 0 N (entryPlace index N)) (bodiesFault index 0 N) tt (p .1) in
       let h = head-facts (p .0) in
       record { head = h; entries = entry-facts h (q .0); bodies = λ k l. bodies-sound N 0 (q .1) k (omega arith) (omega arith) }
 
   facts-index : IndexFacts index → SoundIndex index
   unfolding indexFault
   facts-index f =
-      then-sound (headFault index) (entriesFault index 0 N (entryPlace N) then bodiesFault index 0 N) (facts-head (f .head))
-      ∙ then-sound (entriesFault index 0 N (entryPlace N)) (bodiesFault index 0 N) (facts-entry (f .entries))
+      then-sound (headFault index) (entriesFault index 0 N (entryPlace index N) then bodiesFault index 0 N) (facts-head (f .head))
+      ∙ then-sound (entriesFault index 0 N (entryPlace index N)) (bodiesFault index 0 N) (facts-entry (f .entries))
       ∙ sound-bodies N 0 (λ i a b. f .bodies i (omega arith))
 
 pub index-means : IndexMeans

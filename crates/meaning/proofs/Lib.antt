@@ -1,3 +1,4 @@
+pub mod Tests
 pub mod Segments
 pub mod RowWords
 pub mod Decoded
@@ -6,6 +7,7 @@ pub mod Least
 pub mod Runs
 pub mod Prefixes
 pub mod Outcomes
+pub mod Numbered
 pub mod ByRuns
 pub mod CanonicalBody
 pub mod Lawful

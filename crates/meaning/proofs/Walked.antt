@@ -15,7 +15,8 @@ use Rattle.meaning.specs.Ewah.{Piece, cleanRun, dirtyWord, runThen, piec
 use Rattle.meaning.specs.Question.{isIn, endsFrom, endsAt}
 use Rattle.meaning.specs.Ahead.{flat, advanced, firstSize, NoneEmpty, Ahead}
 use Rattle.meaning.proofs.Stretches.{flat-run, flat-pieces}
-use Rattle.meaning.proofs.Enough.{AllFine, or-true, pieces-fine, size-fine, flat-length, run-at}
+use Rattle.meaning.proofs.Tests.{or-true}
+use Rattle.meaning.proofs.Enough.{AllFine, pieces-fine, size-fine, flat-length, run-at}
 use Rattle.meaning.proofs.Counting.{count-add}
 use Rattle.meaning.proofs.Counted.{count-none}
 

@@ -165,10 +165,18 @@ module _ (index : List ℕ) where
   unfolding bitmapRefusal _then_ askPlain rowCount rowsAt
   expandBitmap k room = bitmapRefusal k then askPlain (rowCount index) (rowsAt index k) room
 
-  -- a logical question of two bitmaps
+  -- ---- logical questions. `ask..` is what is left to be asked of a sound index
+
+  -- of two bitmaps; 8 if one of them is not there
+  unfoldable pub askLogical : ((ℕ → Bool) → (ℕ → Bool) → ℕ → Bool) → (j k room : ℕ) → Outcome (List ℕ)
+  unfolding badBitmap refuseIf write rowCount rowsAt
+  askLogical op j k room =
+      refuseIf (badBitmap j || badBitmap k) 8 0 0
+      (write (rowCount index) (op (rowsAt index j) (rowsAt index k)) room)
+
   unfoldable pub logical : ((ℕ → Bool) → (ℕ → Bool) → ℕ → Bool) → (j k room : ℕ) → Outcome (List ℕ)
-  unfolding bitmapRefusal _then_ write rowCount rowsAt
-  logical op j k room = bitmapRefusal j then bitmapRefusal k then write (rowCount index) (op (rowsAt index j) (rowsAt index k)) room
+  unfolding check _then_ askLogical
+  logical op j k room = check then askLogical op j k room
 
   -- `and`
   unfoldable pub and : (j k room : ℕ) → Outcome (List ℕ)
@@ -190,10 +198,15 @@ module _ (index : List ℕ) where
   unfolding logical difference
   andNot = logical difference
 
+  -- of one bitmap; 8 if it is not there
+  unfoldable pub askNot : (k room : ℕ) → Outcome (List ℕ)
+  unfolding badBitmap refuseIf write rowCount rowsAt complement
+  askNot k room = refuseIf (badBitmap k) 8 0 0 (write (rowCount index) (complement (rowsAt index k)) room)
+
   -- `not`
   unfoldable pub notOf : (k room : ℕ) → Outcome (List ℕ)
-  unfolding bitmapRefusal _then_ write rowCount rowsAt complement
-  notOf k room = bitmapRefusal k then write (rowCount index) (complement (rowsAt index k)) room
+  unfolding check _then_ askNot
+  notOf k room = check then askNot k room
 
   -- ---- a list of bitmap numbers
 
@@ -223,26 +236,43 @@ module _ (index : List ℕ) where
   unfolding atLeast named
   rightRows list T = atLeast T (named list)
 
-  -- `threshold`; 8 too if T is 0 or above the list's length
-  unfoldable pub threshold : (list : List ℕ) (T room : ℕ) → Outcome (List ℕ)
-  unfolding check _then_ refuseIf badList write rowCount rightRows
-  threshold list T room =
-      check then
-      refuseIf (badList list || eqb T 0 || ltb (length list) T) 8 0 0
-      (write (rowCount index) (rightRows list T) room)
+  -- a threshold question's arguments are bad: its list is, or T is 0 or above the list's length
+  unfoldable pub badThreshold : (list : List ℕ) (T : ℕ) → Bool
+  unfolding badList
+  badThreshold list T = badList list || eqb T 0 || ltb (length list) T
 
-  -- `symmetric`; 8 too unless the table has one entry more than the list, each 0 or 1
+  unfoldable pub askThreshold : (list : List ℕ) (T room : ℕ) → Outcome (List ℕ)
+  unfolding badThreshold refuseIf write rowCount rightRows
+  askThreshold list T room = refuseIf (badThreshold list T) 8 0 0 (write (rowCount index) (rightRows list T) room)
+
+  -- `threshold`
+  unfoldable pub threshold : (list : List ℕ) (T room : ℕ) → Outcome (List ℕ)
+  unfolding check _then_ askThreshold
+  threshold list T room = check then askThreshold list T room
+
+  -- a symmetric question's arguments are bad: its list is, or the table has not one entry more than the list, each 0 or 1
+  unfoldable pub badSymmetric : (list table : List ℕ) → Bool
+  unfolding badList badEntry
+  badSymmetric list table = badList list || not (eqb (length table) (suc (length list))) || badEntry table
+
+  unfoldable pub askSymmetric : (list table : List ℕ) (room : ℕ) → Outcome (List ℕ)
+  unfolding badSymmetric refuseIf write rowCount byTable named
+  askSymmetric list table room =
+      refuseIf (badSymmetric list table) 8 0 0 (write (rowCount index) (byTable table (named list)) room)
+
+  -- `symmetric`
   unfoldable pub symmetric : (list table : List ℕ) (room : ℕ) → Outcome (List ℕ)
-  unfolding check _then_ refuseIf badList badEntry write rowCount byTable named
-  symmetric list table room =
-      check then
-      refuseIf (badList list || not (eqb (length table) (suc (length list))) || badEntry table) 8 0 0
-      (write (rowCount index) (byTable table (named list)) room)
+  unfolding check _then_ askSymmetric
+  symmetric list table room = check then askSymmetric list table room
+
+  unfoldable pub askHistogram : (list : List ℕ) → Outcome (List ℕ)
+  unfolding badList refuseIf histogramOf rowCount named
+  askHistogram list = refuseIf (badList list) 8 0 0 (answer (histogramOf (rowCount index) (named list)))
 
   -- `histogram`
   unfoldable pub histogram : (list : List ℕ) → Outcome (List ℕ)
-  unfolding check _then_ refuseIf badList histogramOf rowCount named
-  histogram list = check then refuseIf (badList list) 8 0 0 (answer (histogramOf (rowCount index) (named list)))
+  unfolding check _then_ askHistogram
+  histogram list = check then askHistogram list
 
   -- the stretches that a threshold or symmetric answer reports: none on a refusal
   unfoldable pub stretchesReported : (list : List ℕ) → Outcome (List ℕ) → ℕ

@@ -1,8 +1,9 @@
--- Demands 2 and 3, each sentence a field, over the definitions of the other files; proved in `proofs/Demanded`.
+-- Demands 2 and 3, each sentence a field, over the definitions of the other files. `proofs/Demanded` proves them and
+-- `StretchesHold`, `proofs/Counted` what is said of nth and of histograms.
 -- Sections "Questions over a list" and "How tight the wording has to be" of paper 01.
 -- Assumes nothing.
 use Prim.Native.Nat.{ℕ, _*_, _^_, _≤_, _<_}
-use mathlib.Core.Bool.{Bool, true}
+use mathlib.Core.Bool.{Bool, true, false}
 use mathlib.Core.Path.{_≡_}
 use mathlib.Core.Logic.{_↔_}
 use mathlib.Core.List.{List, _++_}
@@ -10,12 +11,12 @@ use lib.ListN.{length, getD, drop}
 use Rattle.meaning.specs.Limits.{mostRows, mostNamed, wordBits}
 use Rattle.meaning.specs.Rows.{countBelow, nthBelow}
 use Rattle.meaning.specs.Segment.{hasRow, segmentCount, lastLimit, lastOf}
-use Rattle.meaning.specs.Refusal.{Outcome, refused, answer}
+use Rattle.meaning.specs.Refusal.{Outcome, refused, answer, sound}
 use Rattle.meaning.specs.Ewah.{Sound, rowsOf}
 use Rattle.meaning.specs.Canonical.{Canonical, canonical}
 use Rattle.meaning.specs.Index.{SoundIndex, rowCount, bitmapCount}
 use Rattle.meaning.specs.Question.{held, histogramOf, sumOf, totalWords}
-use Rattle.meaning.specs.Answer.{bufferAfter, named, namedBodies, rightRows, threshold, symmetric, expand, compress, wordsReported, stretchesReported}
+use Rattle.meaning.specs.Answer.{bufferAfter, check, badThreshold, named, namedBodies, rightRows, threshold, symmetric, expand, compress, wordsReported, stretchesReported}
 
 -- a list of 32-bit words
 abbrev pub Words : List ℕ → Type 0
@@ -36,16 +37,7 @@ pub record Fewest (R : ℕ) (p : ℕ → Bool) (n : ℕ) : Type 0 where
   pub reached : (b : List ℕ) × BodyOf R p b × (length b ≡ n)
   pub least : (b : List ℕ) → BodyOf R p b → n ≤ length b
 
--- ---- demand 3, of any outcome and of the buffer left behind
-
--- what the demand is about: a sound index, a list of 1 to 64 of its bitmaps, repeats included, a T from 1 to the list's length
-pub record Asked (index list : List ℕ) (T : ℕ) : Type 0 where
-  pub isSound : SoundIndex index
-  pub some : 1 ≤ length list
-  pub most : length list ≤ mostNamed
-  pub its : (i : ℕ) → i < length list → getD list i 0 < bitmapCount index
-  pub low : 1 ≤ T
-  pub high : T ≤ length list
+-- ---- demand 3, of any question on R rows whose right rows are p: of its outcome and of the buffer left behind
 
 -- refused with 9 and n; the buffer is as it was
 pub record NoRoom (n : ℕ) (buffer : List ℕ) (o : Outcome (List ℕ)) (buffer′ : List ℕ) : Type 0 where
@@ -61,24 +53,43 @@ pub record Written (R : ℕ) (p : ℕ → Bool) (n : ℕ) (buffer : List ℕ) (o
   pub right : BodyOf R p body
   pub fewest : length body ≡ n
 
-pub record Demand3 (index list : List ℕ) (T : ℕ) (buffer : List ℕ) (o : Outcome (List ℕ)) (buffer′ : List ℕ) : Type 0 where
-  -- the right rows are those that at least T of the list have, and no others
-  pub right : (r : ℕ) → (rightRows index list T r ≡ true) ↔ (T ≤ held (named index list) r)
+-- `bodies` are those that the question names
+pub record Demand3 (R : ℕ) (p : ℕ → Bool) (bodies : List (List ℕ)) (buffer : List ℕ) (o : Outcome (List ℕ)) (buffer′ : List ℕ) : Type 0 where
   -- the words needed are the fewest of any body with the right rows
   pub least : ℕ
-  pub least-is : Fewest (rowCount index) (rightRows index list T) least
+  pub least-is : Fewest R p least
   -- where the buffer is shorter, 9 with that number
   pub no-room : length buffer < least → NoRoom least buffer o buffer′
   -- where it is not, the body
-  pub room : least ≤ length buffer → Written (rowCount index) (rightRows index list T) least buffer o buffer′
+  pub room : least ≤ length buffer → Written R p least buffer o buffer′
   -- twice the words of the named bodies is always enough
-  pub enough : least ≤ 2 * totalWords (namedBodies index list)
+  pub enough : least ≤ 2 * totalWords bodies
 
--- the demand holds of the threshold question, for every buffer
-abbrev pub Demand3Holds : Type 0
-Demand3Holds =
+-- ---- of a threshold question
+
+-- what the demand is about: a sound index, a list of 1 to the most of its bitmaps, repeats included, a T from 1 to the list's length
+pub record Asked (index list : List ℕ) (T : ℕ) : Type 0 where
+  pub isSound : SoundIndex index
+  pub some : 1 ≤ length list
+  pub most : length list ≤ mostNamed
+  pub its : (i : ℕ) → i < length list → getD list i 0 < bitmapCount index
+  pub low : 1 ≤ T
+  pub high : T ≤ length list
+
+-- it is asked exactly where neither the check nor 8 refuses
+abbrev pub AskedMeans : Type 0
+AskedMeans = (index list : List ℕ) (T : ℕ) → Asked index list T ↔ ((check index ≡ sound) × (badThreshold index list T ≡ false))
+
+pub record ThresholdDemand (index list : List ℕ) (T : ℕ) (buffer : List ℕ) (o : Outcome (List ℕ)) (buffer′ : List ℕ) : Type 0 where
+  -- the right rows are those that at least T of the list have, and no others
+  pub right : (r : ℕ) → (rightRows index list T r ≡ true) ↔ (T ≤ held (named index list) r)
+  pub demand : Demand3 (rowCount index) (rightRows index list T) (namedBodies index list) buffer o buffer′
+
+-- it holds, for every buffer
+abbrev pub ThresholdHolds : Type 0
+ThresholdHolds =
     (index list : List ℕ) (T : ℕ) (buffer : List ℕ) → Asked index list T
-    → Demand3 index list T buffer (threshold index list T (length buffer)) (bufferAfter (threshold index list T (length buffer)) buffer)
+    → ThresholdDemand index list T buffer (threshold index list T (length buffer)) (bufferAfter (threshold index list T (length buffer)) buffer)
 
 -- ---- demand 2
 

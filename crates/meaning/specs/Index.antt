@@ -18,24 +18,24 @@ rowCount index = getD index 1 0
 unfoldable pub bitmapCount : List ℕ → ℕ
 bitmapCount index = getD index 2 0
 
--- where entry k of the contents stands; at k = N, where the contents end
-unfoldable pub entryPlace : ℕ → ℕ
-entryPlace k = headWords + entryWords * k
+-- where entry k of the contents stands; at k = N, where the contents end. The index says how long an entry is: today all are alike
+unfoldable pub entryPlace : (index : List ℕ) (k : ℕ) → ℕ
+entryPlace index k = headWords + entryWords * k
 
 -- the first word of entry k: where its body starts
 unfoldable pub startOf : List ℕ → ℕ → ℕ
 unfolding entryPlace
-startOf index k = getD index (entryPlace k) 0
+startOf index k = getD index (entryPlace index k) 0
 
 -- the second word of entry k: how many words its body has
 unfoldable pub lengthOf : List ℕ → ℕ → ℕ
 unfolding entryPlace
-lengthOf index k = getD index (entryPlace k + 1) 0
+lengthOf index k = getD index (entryPlace index k + 1) 0
 
 -- where body k has to start: behind the contents and the bodies before it. At k = N, the last end
 unfoldable pub bodyPlace : List ℕ → ℕ → ℕ
 unfolding entryPlace bitmapCount lengthOf
-bodyPlace index zero = entryPlace (bitmapCount index)
+bodyPlace index zero = entryPlace index (bitmapCount index)
 bodyPlace index (suc k) = bodyPlace index k + lengthOf index k
 
 -- the body of bitmap k
@@ -59,8 +59,8 @@ module _ (index : List ℕ) where
   -- 4, at the entry's own word: the start is not the end of the body before (of the contents, for the first); then,
   -- the length reaches past the index's end
   entriesFault k (suc more) end =
-      refuseIf (not (eqb (startOf index k) end)) 4 k (entryPlace k)
-      (refuseIf (ltb (length index) (end + lengthOf index k)) 4 k (entryPlace k + 1)
+      refuseIf (not (eqb (startOf index k) end)) 4 k (entryPlace index k)
+      (refuseIf (ltb (length index) (end + lengthOf index k)) 4 k (entryPlace index k + 1)
       (entriesFault (suc k) more (end + lengthOf index k)))
 
   -- of the bodies k, k + 1, .. , `more` in all, with places counted from word 0 of the index
@@ -78,13 +78,13 @@ module _ (index : List ℕ) where
       (refuseIf (not (eqb (getD index 0 0) indexKind)) 2 0 0
       (refuseIf (ltb mostRows (rowCount index)) 3 0 1
       (refuseIf (ltb mostBitmaps (bitmapCount index)) 3 0 2
-      (refuseIf (ltb (length index) (entryPlace (bitmapCount index))) 1 0 (length index)
+      (refuseIf (ltb (length index) (entryPlace index (bitmapCount index))) 1 0 (length index)
       sound)))))
 
   -- of the whole index: the head, then every entry and the final end, then every body
   unfoldable pub indexFault : Verdict
   unfolding headFault _then_ bitmapCount entryPlace entriesFault bodiesFault
-  indexFault = headFault then entriesFault 0 (bitmapCount index) (entryPlace (bitmapCount index)) then bodiesFault 0 (bitmapCount index)
+  indexFault = headFault then entriesFault 0 (bitmapCount index) (entryPlace index (bitmapCount index)) then bodiesFault 0 (bitmapCount index)
 
 -- an index has no fault
 abbrev pub SoundIndex : List ℕ → Type 0

@@ -1,4 +1,5 @@
--- What holds of the definitions, for a reader to find in one place; each is proved in `proofs/Lawful`.
+-- What holds of the definitions, for a reader to find in one place. `BodyLaws` is proved in `proofs/Lawful`, `IndexMeans` in
+-- `IndexSound`, `PartLaws` in `BitmapPart`, `AnswerLaws` in `Answering`.
 -- Assumes nothing.
 use Prim.Native.Nat.{ℕ, suc, _+_, _≤_, _<_}
 use mathlib.Core.Bool.{Bool}
@@ -51,7 +52,7 @@ pub record HeadFacts (index : List ℕ) : Type 0 where
   pub kind : getD index 0 0 ≡ indexKind
   pub few-rows : rowCount index ≤ mostRows
   pub few-bitmaps : bitmapCount index ≤ mostBitmaps
-  pub contents : entryPlace (bitmapCount index) ≤ length index
+  pub contents : entryPlace index (bitmapCount index) ≤ length index
 
 -- of its entries: every body starts where the one before ends and lies within the index, and the last end is the index's,
 pub record EntryFacts (index : List ℕ) : Type 0 where

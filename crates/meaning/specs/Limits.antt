@@ -1,6 +1,10 @@
 -- Every limit and size that paper 01 names, once. Section names in these comments are paper 01's.
 -- Assumes nothing.
-use Prim.Native.Nat.{ℕ}
+use Prim.Native.Nat.{ℕ, _+_, _*_}
+
+-- Numbers of refusal: the greatest
+abbrev pub mostNumber : ℕ
+mostNumber = 9
 
 -- The index: the greatest number of rows
 abbrev pub mostRows : ℕ
@@ -41,6 +45,14 @@ mostClean = 65535
 -- A body: the greatest dirty count of a marker, all that 15 bits hold
 abbrev pub mostDirty : ℕ
 mostDirty = 32767
+
+-- the index: the most words of its head and contents
+abbrev pub mostContents : ℕ
+mostContents = headWords + entryWords * mostBitmaps
+
+-- bytes of a word
+abbrev pub wordBytes : ℕ
+wordBytes = 4
 
 -- bits of a word; an EWAH segment and a segment of plain words are one word each
 abbrev pub wordBits : ℕ

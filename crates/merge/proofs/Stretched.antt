@@ -14,21 +14,21 @@ use Rattle.meaning.specs.Ewah.{Piece, cleanRun, dirtyWord, runThen, pieces, seg
 use Rattle.meaning.specs.Question.{held, endsAt, isIn, endsFrom}
 use Rattle.meaning.specs.Index.{bodyAt}
 use Rattle.meaning.specs.Laws.{SoundFacts}
-use Rattle.meaning.specs.Ahead.{Ahead, firstSize, heldAt, StretchAt}
+use Rattle.meaning.specs.Ahead.{Ahead, heldAt, StretchAt}
 use Rattle.meaning.proofs.RowWords.{has-at}
 use Rattle.meaning.proofs.Sums.{sum-ext, sum-add, held-map}
 use Rattle.meaning.proofs.Counting.{zero-clear, full-set}
-use Rattle.meaning.proofs.Walked.{ahead-run, ahead-dirty, ahead-within, ahead-some, no-end, an-end, ends-none, ends-some, count-stretch}
+use Rattle.meaning.proofs.Walked.{ahead-run, ahead-dirty, no-end, an-end, ends-none, ends-some, count-stretch}
 use Rattle.ewah.specs.declared.cursor.Cursor.{Cursor}
 use Rattle.ewah.specs.declared.cursor.Piece as code
 use Rattle.ewah.specs.declared.cursor.Piece.the-variants.{Clean, Dirty}
-use Rattle.ewah.proofs.Pieces.{first-left}
 use Rattle.ewah.specs.Cursors.{ValueLow, leftOf, pieceThen, piecesFrom}
 use Rattle.words.specs.Counters.{countAt}
 use Rattle.words.proofs.BitLaws.{bit-set}
 use Rattle.walk.specs.declared.survey.Survey.{Survey}
 use Rattle.walk.specs.Queries.{cursorOf, CursorAt, Standing, placeBody}
 use Rattle.walk.specs.Surveys.{onesIn, dirtyIn, bitIn, leastBelow, Surveyed}
+use Rattle.walk.proofs.Places.{some-left, left-size, left-within}
 
 -- ---- the least of some numbers
 
@@ -96,17 +96,6 @@ module _ (b : List ℕ) (o : ℕ) (c : Cursor) (a : CursorAt b o c) where
   ahead-of q e = subst (λ (z : code.Piece). Ahead b o (pieceThen z others)) e (a .ahead)
 
   module _ (l : o < length (segments b)) where
-    left-some : leftOf (c .piece) ≡ 0 → ⊥
-    left-some z =
-        let e : firstSize (piecesFrom b c) ≡ 0 = ap firstSize (a .at-end z) ∙ (unfold firstSize in refl) in
-        omega (arith, ahead-some b o (piecesFrom b c) (a .ahead) l)
-
-    size : firstSize (piecesFrom b c) ≡ leftOf (c .piece)
-    size = first-left b c (omega (arith, left-some))
-
-    left-within : o + leftOf (c .piece) ≤ length (segments b)
-    left-within = omega (arith, size, ahead-within b o (piecesFrom b c) (a .ahead) (omega arith))
-
     -- row j of every segment of a run, and of the segment of a dirty word
     row-run : dirtyIn (c .piece) ≡ 0 → (i : ℕ) → o ≤ i → i < o + leftOf (c .piece) → (j : ℕ) → j < 32 → bit (rowsOf b (i * 32 + j)) ≡ onesIn (c .piece)
     row-run z i g h j k = rw (row-bit b i j k) (go (c .piece) refl z h)
@@ -125,17 +114,17 @@ module _ (b : List ℕ) (o : ℕ) (c : Cursor) (a : CursorAt b o c) where
     row-first j k = go (c .piece) refl
       where
         go : (q : code.Piece) → c .piece ≡ q → bit (rowsOf b (o * 32 + j)) ≡ onesIn q + bitIn q j
-        go (Clean v n) e = omega (arith, row-run (ap dirtyIn e) o (omega arith) (omega (arith, left-some)) j k, ap onesIn e)
+        go (Clean v n) e = omega (arith, row-run (ap dirtyIn e) o (omega arith) (omega (arith, some-left b o c a l)) j k, ap onesIn e)
         go (Dirty x) e =
             let f : Ahead b o (dirtyWord x ∷ others) = unfold pieceThen in ahead-of (Dirty x) e in
             rw (row-bit b o j k, ahead-dirty b o x others f) (omega (arith, bit-set x j))
 
     -- its piece ends at the end of what is left, and not before
     left-no-end : (e : ℕ) → o < e → e < o + leftOf (c .piece) → isIn (endsFrom 0 (pieces 0 b)) e ≡ false
-    left-no-end e g h = no-end b o (piecesFrom b c) (a .ahead) e g (omega (arith, size))
+    left-no-end e g h = no-end b o (piecesFrom b c) (a .ahead) e g (omega (arith, left-size b o c a l))
 
     left-end : isIn (endsFrom 0 (pieces 0 b)) (o + leftOf (c .piece)) ≡ true
-    left-end = ap (λ (m : ℕ). isIn (endsFrom 0 (pieces 0 b)) (o + m)) (sym size) ∙ an-end b o (piecesFrom b c) (a .ahead) (omega (arith, size, left-some))
+    left-end = ap (λ (m : ℕ). isIn (endsFrom 0 (pieces 0 b)) (o + m)) (sym (left-size b o c a l)) ∙ an-end b o (piecesFrom b c) (a .ahead) (omega (arith, left-size b o c a l, some-left b o c a l))
 
 -- ---- all of them
 
@@ -179,7 +168,7 @@ module _ (index list ns : List ℕ) (R o : ℕ) (s : Survey) where
     least-low = omega (arith, least-left 0 some, st 0 some .in-order .left-low)
 
     pub least-some : 1 ≤ s .least
-    least-some = omega (arith, su .least-is, least-ge m (λ k. leftOf (piece k)) 1 (omega arith) (λ i h. omega (arith, left-some (body i) o (cursorOf ns i) (st i h) (inside i h))))
+    least-some = omega (arith, su .least-is, least-ge m (λ k. leftOf (piece k)) 1 (omega arith) (λ i h. some-left (body i) o (cursorOf ns i) (st i h) (inside i h)))
 
     held-is : (r : ℕ) → held (map rowsOf bodies) r ≡ sumBelow m (λ i. bit (rowsOf (body i) r))
     held-is r =

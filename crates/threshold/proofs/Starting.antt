@@ -21,10 +21,10 @@ use Rattle.meaning.specs.Index.{rowCount, bitmapCount}
 use Rattle.meaning.specs.Laws.{SoundFacts, IndexFacts}
 use Rattle.meaning.specs.Answer.{check, threshold, badList, write, rightRows, wordsReported}
 use Rattle.meaning.proofs.RowWords.{length-tabulate, getD-tabulate}
-use Rattle.meaning.proofs.Outcomes.{then-answer}
 use Rattle.meaning.proofs.IndexSound.{index-means, body-facts}
 use Rattle.meaning.proofs.CanonicalBody.{canonical-sound}
-use Rattle.meaning.proofs.Demanded.{answered-is, or-false}
+use Rattle.meaning.proofs.Tests.{or-false}
+use Rattle.meaning.proofs.Demanded.{answered-is}
 use Rattle.merge.proofs.Along.{segments-few}
 use Rattle.answers.specs.declared.refusal.Refusal.{Refusal}
 use Rattle.answers.specs.declared.answer.Answered.{Answered}
@@ -91,11 +91,10 @@ module _ (index : List ℕ) (T room n : ℕ) (all : List ℕ) (all-is : all ≡ 
 
 -- an answer's body is sound, and has no more rows than the limit
 answer-facts : (index list : List ℕ) (T room : ℕ) (b : List ℕ) → threshold index list T room ≡ answer b → SoundFacts (rowCount index) b × (rowCount index ≤ mostRows)
-unfolding threshold check
 answer-facts index list T room b e =
-    let p = then-answer (check index) _ b e in (
-      subst (λ (x : List ℕ). SoundFacts (rowCount index) x) (sym (answered-is index list T room b e)) (body-facts 0 0 (rowCount index) (canonical (rowCount index) (rightRows index list T)) (canonical-sound (rowCount index) (rightRows index list T))),
-      index-means index .0 (p .0) .head .few-rows,
+    let p = answered-is index list T room b e in (
+      subst (λ (x : List ℕ). SoundFacts (rowCount index) x) (sym (p .1)) (body-facts 0 0 (rowCount index) (canonical (rowCount index) (rightRows index list T)) (canonical-sound (rowCount index) (rightRows index list T))),
+      index-means index .0 (p .0 .isSound) .head .few-rows,
     )
 
 -- the outcome of the program's question is told, with its words, and an answer stands at the buffer's front

@@ -16,7 +16,8 @@ use Rattle.threshold.specs.declared.listing.Filled.{Filled}
 use Rattle.threshold.specs.Output.{line}
 use Rattle.threshold.specs.Texts.{Appended}
 use Rattle.threshold.specs.Listings.{restOf, wordIn, Standing, Stepped, Chunk, none, more, ChunksList}
-use Rattle.threshold.proofs.Walking.{rest-next, rest-past, rest-skip, row-is, none-set, some-left}
+use Rattle.threshold.proofs.Walking.{rest-next, rest-past, rest-skip, row-is, none-set}
+use Rattle.walk.proofs.Places.{some-left}
 
 -- ---- one step
 

@@ -6,22 +6,21 @@ use mathlib.Core.Bool.{Bool, true, false, cond}
 use mathlib.Core.List.{List, [], _++_}
 use native.Mathlib.Omega.{arith}
 use native.Mathlib.Numerals.{add-one}
-use native.Mathlib.Nat.{zero-div}
 use lib.ListN.{length, getD, drop}
 use lib.Dec.{leb}
-use borrow.Author.Tests.{leb-true, leb-false, ne-eqb}
+use borrow.Author.Tests.{leb-true, leb-false}
 use Rattle.meaning.specs.Limits.{mostSegments}
-use Rattle.meaning.specs.Segment.{hasRow, isSet, bitAt}
+use Rattle.meaning.specs.Segment.{hasRow, isSet}
 use Rattle.meaning.specs.Ewah.{Piece, segments, rowsOf, runThen, pieces}
-use Rattle.meaning.specs.Ahead.{Ahead, advanced, firstSize}
-use Rattle.meaning.proofs.Walked.{ahead-run, ahead-dirty, ahead-within, ahead-some}
+use Rattle.meaning.specs.Ahead.{Ahead, advanced}
+use Rattle.meaning.proofs.Counting.{zero-clear}
+use Rattle.meaning.proofs.Walked.{ahead-run, ahead-dirty}
 use Rattle.ewah.specs.declared.cursor.Cursor.{Cursor}
 use Rattle.ewah.specs.declared.cursor.Piece as code
 use Rattle.ewah.specs.declared.cursor.Piece.the-variants.{Clean, Dirty}
 use Rattle.ewah.specs.Cursors.{Stands, InOrder, leftOf, piecesFrom, pieceThen}
-use Rattle.ewah.proofs.Pieces.{first-left}
 use Rattle.walk.specs.Queries.{CursorAt}
-use Rattle.walk.proofs.Places.{opened, gone-on}
+use Rattle.walk.proofs.Places.{opened, gone-on, some-left, left-within}
 use Rattle.threshold.specs.declared.listing.Listing.{Listing}
 use Rattle.threshold.specs.Output.{line, linesFrom}
 use Rattle.threshold.specs.Listings.{wordIn, Standing}
@@ -55,15 +54,7 @@ module _ (p : ℕ → Bool) (R : ℕ) where
 
 -- ---- the cursor
 
-module _ (b : List ℕ) (o : ℕ) (c : Cursor) (a : CursorAt b o c) (h : o < length (segments b)) where
-  pub some-left : 1 ≤ leftOf (c .piece)
-  unfolding firstSize
-  some-left = go (leftOf (c .piece)) refl
-    where
-      go : (n : ℕ) → leftOf (c .piece) ≡ n → 1 ≤ leftOf (c .piece)
-      go zero e = let f = rw (a .at-end e) at (ahead-some b o (piecesFrom b c) (a .ahead) h) in absurd (omega (arith, f))
-      go (suc n) e = omega arith
-
+module _ (b : List ℕ) (o : ℕ) (c : Cursor) (a : CursorAt b o c) where
   -- each segment of the piece
   pub segment-is : (j : ℕ) → j < leftOf (c .piece) → getD (segments b) (o + j) 0 ≡ wordIn (c .piece)
   unfolding piecesFrom pieceThen runThen
@@ -74,14 +65,7 @@ module _ (b : List ℕ) (o : ℕ) (c : Cursor) (a : CursorAt b o c) (h : o < len
       go (Clean v (suc n)) ps g k = ahead-run b o v (suc n) ps g j k
       go (Dirty x) ps g k = let e : o + j ≡ o = omega arith in rw e (ahead-dirty b o x ps g)
 
-  pub left-within : o + leftOf (c .piece) ≤ length (segments b)
-  left-within = omega (arith, ahead-within b o (piecesFrom b c) (a .ahead) (omega arith), first-left b c some-left)
-
 -- ---- the rows of the piece
-
-zero-unset : (j : ℕ) → isSet 0 j ≡ false
-unfolding isSet bitAt
-zero-unset j = ne-eqb (0 / 2 ^ j % 2) 1 (λ e. omega (arith, zero-div (2 ^ j)))
 
 -- the row's bit is one of the piece's word
 module _ (b : List ℕ) (s : Listing) (st : Standing b s) (h : s .row < length (segments b) * 32) where
@@ -92,13 +76,13 @@ module _ (b : List ℕ) (s : Listing) (st : Standing b s) (h : s .row < length (
   unfolding rowsOf hasRow
   row-is =
       let e : s .row / 32 + 0 ≡ s .row / 32 = omega arith in
-      ap (λ (x : ℕ). isSet x (s .row % 32)) (rw e at (segment-is b (s .row / 32) (s .cursor) (st .at) here 0 (some-left b (s .row / 32) (s .cursor) (st .at) here)))
+      ap (λ (x : ℕ). isSet x (s .row % 32)) (rw e at (segment-is b (s .row / 32) (s .cursor) (st .at) 0 (some-left b (s .row / 32) (s .cursor) (st .at) here)))
 
   pub none-set : wordIn (s .cursor .piece) ≡ 0 → (r : ℕ) → s .row ≤ r → r < (s .row / 32 + leftOf (s .cursor .piece)) * 32 → rowsOf b r ≡ false
   unfolding rowsOf hasRow
   none-set e r l m =
       let q : s .row / 32 + (r / 32 - s .row / 32) ≡ r / 32 = omega arith in
-      ap (λ (x : ℕ). isSet x (r % 32)) ((rw q at (segment-is b (s .row / 32) (s .cursor) (st .at) here (r / 32 - s .row / 32) (omega arith))) ∙ e) ∙ zero-unset (r % 32)
+      ap (λ (x : ℕ). isSet x (r % 32)) ((rw q at (segment-is b (s .row / 32) (s .cursor) (st .at) (r / 32 - s .row / 32) (omega arith))) ∙ e) ∙ zero-clear (r % 32)
 
 -- ---- steps
 

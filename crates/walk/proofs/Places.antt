@@ -1,17 +1,17 @@
 -- Cursors that go on in their bodies, place by place.
 -- Assumes nothing.
-use Prim.Native.Nat.{ℕ, _+_, _≤_, _<_}
-use mathlib.Core.Path.{_≡_, refl, _∙_}
+use Prim.Native.Nat.{ℕ, zero, suc, _+_, _≤_, _<_}
+use mathlib.Core.Path.{_≡_, refl, ap, _∙_}
 use mathlib.Core.List.{List}
 use native.Mathlib.Nat.{le-refl}
 use native.Mathlib.Omega.{arith}
 use borrow.Author.Count.{below-more}
 use lib.ListN.{length, drop, length-take, length-drop}
-use Rattle.meaning.specs.Ewah.{pieces}
-use Rattle.meaning.specs.Ahead.{advanced}
+use Rattle.meaning.specs.Ewah.{pieces, segments}
+use Rattle.meaning.specs.Ahead.{advanced, firstSize}
 use Rattle.meaning.specs.Index.{startOf, lengthOf, bodyAt}
 use Rattle.meaning.specs.Laws.{HeadFacts}
-use Rattle.meaning.proofs.Walked.{ahead-start, ahead-on}
+use Rattle.meaning.proofs.Walked.{ahead-start, ahead-on, ahead-some, ahead-within}
 use Rattle.ewah.specs.declared.cursor.Cursor.{Cursor}
 use Rattle.ewah.specs.Cursors.{ValueLow, InOrder, Stands, leftOf, piecesFrom}
 use Rattle.ewah.proofs.Pieces.{first-left}
@@ -38,6 +38,23 @@ module _ (b : List ℕ) (c : Cursor) where
         ahead = rw (s .has) (ahead-on b o n (piecesFrom b c) (a .ahead) g (omega (arith, first-left b c (omega arith))));
         at-end = λ z. s .has ∙ s .at-end z;
       }
+
+-- before the body's end something of the piece is left, and it lies within the body
+module _ (b : List ℕ) (o : ℕ) (c : Cursor) (a : CursorAt b o c) (h : o < length (segments b)) where
+  pub some-left : 1 ≤ leftOf (c .piece)
+  some-left = go (leftOf (c .piece)) refl
+    where
+      go : (n : ℕ) → leftOf (c .piece) ≡ n → 1 ≤ leftOf (c .piece)
+      go zero e =
+          let z : firstSize (piecesFrom b c) ≡ 0 = ap firstSize (a .at-end e) ∙ (unfold firstSize in refl) in
+          absurd (omega (arith, ahead-some b o (piecesFrom b c) (a .ahead) h))
+      go (suc n) e = omega arith
+
+  pub left-size : firstSize (piecesFrom b c) ≡ leftOf (c .piece)
+  left-size = first-left b c some-left
+
+  pub left-within : o + leftOf (c .piece) ≤ length (segments b)
+  left-within = omega (arith, left-size, ahead-within b o (piecesFrom b c) (a .ahead) (omega arith))
 
 -- ---- one place
 

@@ -7,8 +7,8 @@ use lib.ListN.{length}
 use Rattle.meaning.specs.Refusal.{Outcome, Verdict, _then_}
 use Rattle.meaning.specs.Answer.{check, threshold}
 use Rattle.meaning.specs.Laws.{IndexFacts}
-use Rattle.meaning.specs.Demands.{Asked, Demand3}
-use Rattle.meaning.proofs.Demanded.{demand3}
+use Rattle.meaning.specs.Demands.{Asked, ThresholdDemand}
+use Rattle.meaning.proofs.Demanded.{threshold-demand}
 use Rattle.meaning.proofs.IndexSound.{index-means}
 use Rattle.meaning.proofs.Outcomes.{then-sound}
 use Rattle.answers.specs.declared.refusal.Checked.{Checked}
@@ -34,5 +34,5 @@ wrote-then k v o r out out′ e h w = rw (then-sound v o (sound-is k v e h)) w
 
 -- what is reported of a threshold question meets demand 3
 pub demand-met : (index list : List ℕ) (t : ℕ) (r : Answered) (out out′ : List ℕ) → Reported index list (threshold index list t (length out)) r out out′
-    → Asked index list t → Demand3 index list t out (answeredOf r out′) out′
-demand-met index list t r out out′ w a = subst₂ (λ (o : Outcome (List ℕ)) (b : List ℕ). Demand3 index list t out o b) (sym (w .told)) (sym (w .left)) (demand3 index list t out a)
+    → Asked index list t → ThresholdDemand index list t out (answeredOf r out′) out′
+demand-met index list t r out out′ w a = subst₂ (λ (o : Outcome (List ℕ)) (b : List ℕ). ThresholdDemand index list t out o b) (sym (w .told)) (sym (w .left)) (threshold-demand index list t out a)

@@ -1,3 +1,2 @@
 pub mod Alone
 pub mod Guards
-pub mod Pairs

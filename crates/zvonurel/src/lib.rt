@@ -4,10 +4,13 @@
 // what is returned, and every word of a lent buffer afterwards, for every input. The outcomes that they name are defined in
 // `meaning`'s `specs/Answer.antt`; `questions`' `specs/Told.antt` says which outcome an answer tells.
 ghost use mathlib.Core.Path.{_≡_};
+ghost use Prim.Native.Nat.{_+_, _*_};
 ghost use lib.ListN.{length};
-ghost use Rattle.meaning.specs.Refusal.{_then_};
+ghost use Rattle.meaning.specs.Limits.{wordBytes};
+ghost use Rattle.meaning.specs.Refusal.{sound};
+ghost use Rattle.meaning.specs.Index.{startOf};
 ghost use Rattle.meaning.specs.Answer as meaning;
-ghost use Rattle.meaning.specs.Demands.{Asked, Demand3};
+ghost use Rattle.meaning.specs.Demands.{Asked, ThresholdDemand};
 ghost use Rattle.answers.specs.Told.{verdictOf, flagOf, numberOf, answeredOf, Wrote, Reported, Counted};
 use answers::answer;
 pub use answers::answer::Answered;
@@ -67,7 +70,8 @@ pub fn body_nth(body: &[u32], rows: u32, n: u32) -> Number
 
 // The body's rows as plain words, 32 rows to a word, the lowest bit first.
 pub fn expand(body: &[u32], rows: u32, out: &mut [u32]) -> Written
-    ensures { λ r. ⌜ Wrote (meaning.expand rows (now (body .entry)) (length (now (out .entry)))) r (now (out .entry)) (now (out .exit)) ⌝ }
+    ensures { λ r. ⌜ Wrote (meaning.expand rows (now (body .entry)) (length (now (out .entry))))
+        r (now (out .entry)) (now (out .exit)) ⌝ }
 {
     let checked = check_body(body, rows);
     match checked {
@@ -78,7 +82,8 @@ pub fn expand(body: &[u32], rows: u32, out: &mut [u32]) -> Written
 
 // Plain words as a body in canonical form.
 pub fn compress(rows: u32, plain: &[u32], out: &mut [u32]) -> Written
-    ensures { λ r. ⌜ Wrote (meaning.compress rows (now (plain .entry)) (length (now (out .entry)))) r (now (out .entry)) (now (out .exit)) ⌝ }
+    ensures { λ r. ⌜ Wrote (meaning.compress rows (now (plain .entry)) (length (now (out .entry))))
+        r (now (out .entry)) (now (out .exit)) ⌝ }
 {
     let checked = single::plain::check_plain(plain, rows);
     match checked {
@@ -107,9 +112,13 @@ pub fn bitmap_refusal(index: &[u32], k: u32) -> Checked
     }
 }
 
-// The part of the index that is bitmap k's body: empty where the index or the number is refused.
+// The part of the index that is bitmap k's body: empty where the index or the number is refused. It lies in the lent index itself,
+// behind its first byte by as many words as the contents say; of an empty part on a refusal only the block is settled.
 pub fn bitmap(index: &[u32], k: u32) -> &[u32]
     ensures { λ r. ⌜ now r ≡ meaning.partOf (meaning.bitmap (now (index .entry)) k) ⌝ }
+    ensures { λ r. ⌜ r .ptr .0 ≡ index .entry .ptr .0 ⌝ }
+    ensures { λ r. ⌜ (meaning.bitmapRefusal (now (index .entry)) k ≡ sound
+        → r .ptr .1 ≡ index .entry .ptr .1 + wordBytes * startOf (now (index .entry)) k) ⌝ }
 {
     let checked = bitmap_refusal(index, k);
     match checked {
@@ -153,7 +162,8 @@ pub fn nth(index: &[u32], k: u32, n: u32) -> Number
 
 // The rows of bitmap k as plain words.
 pub fn expand_bitmap(index: &[u32], k: u32, out: &mut [u32]) -> Written
-    ensures { λ r. ⌜ Wrote (meaning.expandBitmap (now (index .entry)) k (length (now (out .entry)))) r (now (out .entry)) (now (out .exit)) ⌝ }
+    ensures { λ r. ⌜ Wrote (meaning.expandBitmap (now (index .entry)) k (length (now (out .entry))))
+        r (now (out .entry)) (now (out .exit)) ⌝ }
 {
     let checked = bitmap_refusal(index, k);
     match checked {
@@ -164,22 +174,12 @@ pub fn expand_bitmap(index: &[u32], k: u32, out: &mut [u32]) -> Written
 
 // ---- two bitmaps of an index, or one, as a body in canonical form
 
-// Why a question on two bitmaps is refused; `Sound` where it is not.
-fn pair_refusal(index: &[u32], first: u32, second: u32) -> Checked
-    ensures { λ r. ⌜ verdictOf r ≡ (meaning.bitmapRefusal (now (index .entry)) first then meaning.bitmapRefusal (now (index .entry)) second) ⌝ }
-{
-    let checked = bitmap_refusal(index, first);
-    match checked {
-        Checked::Refused(why) => Checked::Refused(why),
-        Checked::Sound => single::bitmap::check_number(index, second),
-    }
-}
-
 // The rows that both have.
 pub fn and(index: &[u32], j: u32, k: u32, out: &mut [u32]) -> Written
-    ensures { λ r. ⌜ Wrote (meaning.and (now (index .entry)) j k (length (now (out .entry)))) r (now (out .entry)) (now (out .exit)) ⌝ }
+    ensures { λ r. ⌜ Wrote (meaning.and (now (index .entry)) j k (length (now (out .entry))))
+        r (now (out .entry)) (now (out .exit)) ⌝ }
 {
-    let checked = pair_refusal(index, j, k);
+    let checked = check(index);
     match checked {
         Checked::Refused(refusal) => Written::Refused(refusal),
         Checked::Sound => logical::and(index, j, k, out),
@@ -188,9 +188,10 @@ pub fn and(index: &[u32], j: u32, k: u32, out: &mut [u32]) -> Written
 
 // The rows that one or both have.
 pub fn or(index: &[u32], j: u32, k: u32, out: &mut [u32]) -> Written
-    ensures { λ r. ⌜ Wrote (meaning.or (now (index .entry)) j k (length (now (out .entry)))) r (now (out .entry)) (now (out .exit)) ⌝ }
+    ensures { λ r. ⌜ Wrote (meaning.or (now (index .entry)) j k (length (now (out .entry))))
+        r (now (out .entry)) (now (out .exit)) ⌝ }
 {
-    let checked = pair_refusal(index, j, k);
+    let checked = check(index);
     match checked {
         Checked::Refused(refusal) => Written::Refused(refusal),
         Checked::Sound => logical::or(index, j, k, out),
@@ -199,9 +200,10 @@ pub fn or(index: &[u32], j: u32, k: u32, out: &mut [u32]) -> Written
 
 // The rows that just one of the two has.
 pub fn xor(index: &[u32], j: u32, k: u32, out: &mut [u32]) -> Written
-    ensures { λ r. ⌜ Wrote (meaning.xor (now (index .entry)) j k (length (now (out .entry)))) r (now (out .entry)) (now (out .exit)) ⌝ }
+    ensures { λ r. ⌜ Wrote (meaning.xor (now (index .entry)) j k (length (now (out .entry))))
+        r (now (out .entry)) (now (out .exit)) ⌝ }
 {
-    let checked = pair_refusal(index, j, k);
+    let checked = check(index);
     match checked {
         Checked::Refused(refusal) => Written::Refused(refusal),
         Checked::Sound => logical::xor(index, j, k, out),
@@ -210,9 +212,10 @@ pub fn xor(index: &[u32], j: u32, k: u32, out: &mut [u32]) -> Written
 
 // The rows that j has and k has not.
 pub fn and_not(index: &[u32], j: u32, k: u32, out: &mut [u32]) -> Written
-    ensures { λ r. ⌜ Wrote (meaning.andNot (now (index .entry)) j k (length (now (out .entry)))) r (now (out .entry)) (now (out .exit)) ⌝ }
+    ensures { λ r. ⌜ Wrote (meaning.andNot (now (index .entry)) j k (length (now (out .entry))))
+        r (now (out .entry)) (now (out .exit)) ⌝ }
 {
-    let checked = pair_refusal(index, j, k);
+    let checked = check(index);
     match checked {
         Checked::Refused(refusal) => Written::Refused(refusal),
         Checked::Sound => logical::and_not(index, j, k, out),
@@ -221,9 +224,10 @@ pub fn and_not(index: &[u32], j: u32, k: u32, out: &mut [u32]) -> Written
 
 // The rows that bitmap k has not.
 pub fn not(index: &[u32], k: u32, out: &mut [u32]) -> Written
-    ensures { λ r. ⌜ Wrote (meaning.notOf (now (index .entry)) k (length (now (out .entry)))) r (now (out .entry)) (now (out .exit)) ⌝ }
+    ensures { λ r. ⌜ Wrote (meaning.notOf (now (index .entry)) k (length (now (out .entry))))
+        r (now (out .entry)) (now (out .exit)) ⌝ }
 {
-    let checked = bitmap_refusal(index, k);
+    let checked = check(index);
     match checked {
         Checked::Refused(refusal) => Written::Refused(refusal),
         Checked::Sound => logical::not(index, k, out),
@@ -234,8 +238,12 @@ pub fn not(index: &[u32], k: u32, out: &mut [u32]) -> Written
 
 // The rows that at least t of the list have, as a body in canonical form.
 pub fn threshold(index: &[u32], list: &[u32], t: u32, out: &mut [u32]) -> Answered
-    ensures { λ r. ⌜ Reported (now (index .entry)) (now (list .entry)) (meaning.threshold (now (index .entry)) (now (list .entry)) t (length (now (out .entry)))) r (now (out .entry)) (now (out .exit)) ⌝ }
-    ensures { λ r. ⌜ (Asked (now (index .entry)) (now (list .entry)) t → Demand3 (now (index .entry)) (now (list .entry)) t (now (out .entry)) (answeredOf r (now (out .exit))) (now (out .exit))) ⌝ }
+    ensures { λ r. ⌜ Reported (now (index .entry)) (now (list .entry))
+        (meaning.threshold (now (index .entry)) (now (list .entry)) t (length (now (out .entry))))
+        r (now (out .entry)) (now (out .exit)) ⌝ }
+    ensures { λ r. ⌜ (Asked (now (index .entry)) (now (list .entry)) t
+        → ThresholdDemand (now (index .entry)) (now (list .entry)) t (now (out .entry))
+        (answeredOf r (now (out .exit))) (now (out .exit))) ⌝ }
 {
     let checked = check(index);
     match checked {
@@ -246,7 +254,9 @@ pub fn threshold(index: &[u32], list: &[u32], t: u32, out: &mut [u32]) -> Answer
 
 // The rows at whose number the table has a 1, as a body in canonical form.
 pub fn symmetric(index: &[u32], list: &[u32], table: &[u32], out: &mut [u32]) -> Answered
-    ensures { λ r. ⌜ Reported (now (index .entry)) (now (list .entry)) (meaning.symmetric (now (index .entry)) (now (list .entry)) (now (table .entry)) (length (now (out .entry)))) r (now (out .entry)) (now (out .exit)) ⌝ }
+    ensures { λ r. ⌜ Reported (now (index .entry)) (now (list .entry))
+        (meaning.symmetric (now (index .entry)) (now (list .entry)) (now (table .entry)) (length (now (out .entry))))
+        r (now (out .entry)) (now (out .exit)) ⌝ }
 {
     let checked = check(index);
     match checked {

@@ -9,9 +9,9 @@ use lib.Dec.{eqb}
 use lib.ListN.{length, take, drop}
 use lib.Seq.{take-append-seam}
 use mir.Val.{boolByte}
-use Rattle.meaning.specs.Refusal.{Outcome, refused, answer, Verdict}
+use Rattle.meaning.specs.Refusal.{Outcome, refused, answer, Verdict, Numbered}
 use Rattle.meaning.specs.Answer.{bufferAfter, wordsReported, stretchesReported, histogramReported}
-use Rattle.meaning.specs.Demands.{Demand3}
+use Rattle.meaning.specs.Demands.{ThresholdDemand}
 use Rattle.answers.specs.declared.refusal.Checked.{Checked}
 use Rattle.answers.specs.Told.{verdictOf, writtenOf, wordsOf, answeredOf, wordsIn, stretchesIn, histogramTold, Wrote, Reported, Counted}
 use Rattle.answers.specs.declared.refusal.Checked.the-variants as checked
@@ -27,7 +27,7 @@ use Rattle.zvonurel_c.specs.declared.reply.ZvWritten.{ZvWritten}
 use Rattle.zvonurel_c.specs.declared.reply.ZvAnswered.{ZvAnswered}
 use Rattle.zvonurel_c.specs.declared.reply.ZvHistogram.{ZvHistogram}
 use Rattle.zvonurel_c.specs.Exported.{numberIn, bitmapIn, wordIn, flagIn, valueIn, checkedCode, flagCode, numberCode, writtenCode, answeredCode, writtenReply, answeredReply, told, verdictTold, flagTold, numberTold, writtenTold, answeredTold, Checks, Flags, Numbers, Writes, Reports, Counts, histogramReply, histogramCode, countsTold}
-use Rattle.zvonurel_c.proofs.Numbered.{Numbered, number-of}
+use Rattle.meaning.proofs.Numbered.{number-of}
 
 -- ---- reading an outcome
 
@@ -105,8 +105,8 @@ reports index list o r s out out′ n e w =
 
 -- demand 3 of what the public call tells is demand 3 of what the caller reads
 pub demanded : (index list : List ℕ) (t : ℕ) (r : Answered) (s : ZvAnswered) (out out′ : List ℕ) (o : Outcome (List ℕ)) → answeredOf r out′ ≡ o → answeredTold s out′ ≡ o
-    → Demand3 index list t out (answeredOf r out′) out′ → Demand3 index list t out (answeredTold s out′) out′
-demanded index list t r s out out′ o e f d = subst (λ (p : Outcome (List ℕ)). Demand3 index list t out p out′) (e ∙ sym f) d
+    → ThresholdDemand index list t out (answeredOf r out′) out′ → ThresholdDemand index list t out (answeredTold s out′) out′
+demanded index list t r s out out′ o e f d = subst (λ (p : Outcome (List ℕ)). ThresholdDemand index list t out p out′) (e ∙ sym f) d
 
 -- ---- a histogram
 

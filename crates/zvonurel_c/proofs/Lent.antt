@@ -17,12 +17,9 @@ use Rattle.answers.specs.Told.{verdictOf}
 use Rattle.answers.proofs.Checks.{sound-is}
 use Rattle.zvonurel_c.specs.declared.reply.ZvPart.{ZvPart}
 use Rattle.zvonurel_c.specs.Exported.{numberIn, bitmapIn, wordIn, ifAnswered, partReply, told, Lends}
-use Rattle.zvonurel_c.proofs.Numbered.{number-of, bitmap-refusal}
+use Rattle.index.proofs.EntrySteps.{body-within}
+use Rattle.meaning.proofs.Numbered.{number-of, bitmap-refusal}
 use Rattle.zvonurel_c.proofs.Codes.{told-refused}
-
-within : (index : List ℕ) (k : ℕ) → EntryFacts index → k < bitmapCount index → startOf index k + lengthOf index k ≤ length index
-unfolding bodyPlace
-within index k f h = omega (arith, f .starts k h, f .ends (suc k) (omega arith))
 
 -- what the two places of the contents are read under
 pub there : (c : Checked) (index : List ℕ) (k : ℕ) → verdictOf c ≡ bitmapRefusal index k → c ≡ checked.Sound → HeadFacts index × (k < bitmapCount index)
@@ -56,6 +53,6 @@ module _ (index : List ℕ) (k : ℕ) where
       (record {
         code = rw e;
         tells = sound-part e;
-        within = within index k (h .facts .entries) (h .below);
+        within = body-within index k (h .facts .entries) (h .below);
         part = sym (h .part);
       })

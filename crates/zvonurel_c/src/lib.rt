@@ -4,7 +4,7 @@
 // of what is returned and every word of a lent buffer; `specs/Exported.antt` says how an outcome is told in numbers.
 ghost use lib.ListN.{length};
 ghost use Rattle.meaning.specs.Answer as meaning;
-ghost use Rattle.meaning.specs.Demands.{Asked, Demand3};
+ghost use Rattle.meaning.specs.Demands.{Asked, ThresholdDemand};
 ghost use Rattle.zvonurel_c.specs.Exported.{Checks, Flags, Numbers, Writes, Reports, Lends, Counts, answeredTold};
 use index::contents;
 pub use reply::ZvAnswered;
@@ -50,14 +50,16 @@ pub extern "C" fn zv_body_nth(body: &[u32], rows: u32, n: u32) -> ZvNumber
 
 #[no_mangle]
 pub extern "C" fn zv_expand(body: &[u32], rows: u32, out: &mut [u32]) -> ZvWritten
-    ensures { λ r. ⌜ Writes (meaning.expand rows (now (body .entry)) (length (now (out .entry)))) r (now (out .entry)) (now (out .exit)) ⌝ }
+    ensures { λ r. ⌜ Writes (meaning.expand rows (now (body .entry)) (length (now (out .entry))))
+        r (now (out .entry)) (now (out .exit)) ⌝ }
 {
     reply::written(zvonurel::expand(body, rows, out))
 }
 
 #[no_mangle]
 pub extern "C" fn zv_compress(rows: u32, plain: &[u32], out: &mut [u32]) -> ZvWritten
-    ensures { λ r. ⌜ Writes (meaning.compress rows (now (plain .entry)) (length (now (out .entry)))) r (now (out .entry)) (now (out .exit)) ⌝ }
+    ensures { λ r. ⌜ Writes (meaning.compress rows (now (plain .entry)) (length (now (out .entry))))
+        r (now (out .entry)) (now (out .exit)) ⌝ }
 {
     reply::written(zvonurel::compress(rows, plain, out))
 }
@@ -113,7 +115,8 @@ pub extern "C" fn zv_nth(index: &[u32], k: u32, n: u32) -> ZvNumber
 
 #[no_mangle]
 pub extern "C" fn zv_expand_bitmap(index: &[u32], k: u32, out: &mut [u32]) -> ZvWritten
-    ensures { λ r. ⌜ Writes (meaning.expandBitmap (now (index .entry)) k (length (now (out .entry)))) r (now (out .entry)) (now (out .exit)) ⌝ }
+    ensures { λ r. ⌜ Writes (meaning.expandBitmap (now (index .entry)) k (length (now (out .entry))))
+        r (now (out .entry)) (now (out .exit)) ⌝ }
 {
     reply::written(zvonurel::expand_bitmap(index, k, out))
 }
@@ -122,35 +125,40 @@ pub extern "C" fn zv_expand_bitmap(index: &[u32], k: u32, out: &mut [u32]) -> Zv
 
 #[no_mangle]
 pub extern "C" fn zv_and(index: &[u32], j: u32, k: u32, out: &mut [u32]) -> ZvWritten
-    ensures { λ r. ⌜ Writes (meaning.and (now (index .entry)) j k (length (now (out .entry)))) r (now (out .entry)) (now (out .exit)) ⌝ }
+    ensures { λ r. ⌜ Writes (meaning.and (now (index .entry)) j k (length (now (out .entry))))
+        r (now (out .entry)) (now (out .exit)) ⌝ }
 {
     reply::written(zvonurel::and(index, j, k, out))
 }
 
 #[no_mangle]
 pub extern "C" fn zv_or(index: &[u32], j: u32, k: u32, out: &mut [u32]) -> ZvWritten
-    ensures { λ r. ⌜ Writes (meaning.or (now (index .entry)) j k (length (now (out .entry)))) r (now (out .entry)) (now (out .exit)) ⌝ }
+    ensures { λ r. ⌜ Writes (meaning.or (now (index .entry)) j k (length (now (out .entry))))
+        r (now (out .entry)) (now (out .exit)) ⌝ }
 {
     reply::written(zvonurel::or(index, j, k, out))
 }
 
 #[no_mangle]
 pub extern "C" fn zv_xor(index: &[u32], j: u32, k: u32, out: &mut [u32]) -> ZvWritten
-    ensures { λ r. ⌜ Writes (meaning.xor (now (index .entry)) j k (length (now (out .entry)))) r (now (out .entry)) (now (out .exit)) ⌝ }
+    ensures { λ r. ⌜ Writes (meaning.xor (now (index .entry)) j k (length (now (out .entry))))
+        r (now (out .entry)) (now (out .exit)) ⌝ }
 {
     reply::written(zvonurel::xor(index, j, k, out))
 }
 
 #[no_mangle]
 pub extern "C" fn zv_and_not(index: &[u32], j: u32, k: u32, out: &mut [u32]) -> ZvWritten
-    ensures { λ r. ⌜ Writes (meaning.andNot (now (index .entry)) j k (length (now (out .entry)))) r (now (out .entry)) (now (out .exit)) ⌝ }
+    ensures { λ r. ⌜ Writes (meaning.andNot (now (index .entry)) j k (length (now (out .entry))))
+        r (now (out .entry)) (now (out .exit)) ⌝ }
 {
     reply::written(zvonurel::and_not(index, j, k, out))
 }
 
 #[no_mangle]
 pub extern "C" fn zv_not(index: &[u32], k: u32, out: &mut [u32]) -> ZvWritten
-    ensures { λ r. ⌜ Writes (meaning.notOf (now (index .entry)) k (length (now (out .entry)))) r (now (out .entry)) (now (out .exit)) ⌝ }
+    ensures { λ r. ⌜ Writes (meaning.notOf (now (index .entry)) k (length (now (out .entry))))
+        r (now (out .entry)) (now (out .exit)) ⌝ }
 {
     reply::written(zvonurel::not(index, k, out))
 }
@@ -159,8 +167,12 @@ pub extern "C" fn zv_not(index: &[u32], k: u32, out: &mut [u32]) -> ZvWritten
 
 #[no_mangle]
 pub extern "C" fn zv_threshold(index: &[u32], list: &[u32], t: u32, out: &mut [u32]) -> ZvAnswered
-    ensures { λ r. ⌜ Reports (now (index .entry)) (now (list .entry)) (meaning.threshold (now (index .entry)) (now (list .entry)) t (length (now (out .entry)))) r (now (out .entry)) (now (out .exit)) ⌝ }
-    ensures { λ r. ⌜ (Asked (now (index .entry)) (now (list .entry)) t → Demand3 (now (index .entry)) (now (list .entry)) t (now (out .entry)) (answeredTold r (now (out .exit))) (now (out .exit))) ⌝ }
+    ensures { λ r. ⌜ Reports (now (index .entry)) (now (list .entry))
+        (meaning.threshold (now (index .entry)) (now (list .entry)) t (length (now (out .entry))))
+        r (now (out .entry)) (now (out .exit)) ⌝ }
+    ensures { λ r. ⌜ (Asked (now (index .entry)) (now (list .entry)) t
+        → ThresholdDemand (now (index .entry)) (now (list .entry)) t (now (out .entry))
+        (answeredTold r (now (out .exit))) (now (out .exit))) ⌝ }
 {
     reply::answered(zvonurel::threshold(index, list, t, out))
 }
@@ -172,7 +184,9 @@ pub extern "C" fn zv_symmetric(
     table: &[u32],
     out: &mut [u32],
 ) -> ZvAnswered
-    ensures { λ r. ⌜ Reports (now (index .entry)) (now (list .entry)) (meaning.symmetric (now (index .entry)) (now (list .entry)) (now (table .entry)) (length (now (out .entry)))) r (now (out .entry)) (now (out .exit)) ⌝ }
+    ensures { λ r. ⌜ Reports (now (index .entry)) (now (list .entry))
+        (meaning.symmetric (now (index .entry)) (now (list .entry)) (now (table .entry)) (length (now (out .entry))))
+        r (now (out .entry)) (now (out .exit)) ⌝ }
 {
     reply::answered(zvonurel::symmetric(index, list, table, out))
 }

@@ -1,21 +1,27 @@
+-- `logical::xor` meets its contract: the operation chooses the rows of the question. Assumes nothing.
 use denote.Ref.{now}
 use native.Mathlib.Omega.{arith}
 use borrow.Author.Needs.{needs}
-use Rattle.logical.proofs.Pairs.{xor-rows, listed-none, listed-more}
+use Rattle.meaning.specs.Answer.{askLogical}
+use Rattle.logical.proofs.Pairs.{xor-rows, two-bad}
 use Rattle.logical.proofs.xor.Statement.{statement}
 use Rattle.logical.proofs.xor.Tie as tie
 
-slice-aggregate-ask : tie.Need-slice-aggregate-ask
-slice-aggregate-ask c = search needs
+slice-aggregate-ask-list : tie.Need-slice-aggregate-ask-list
+slice-aggregate-ask-list c = search needs
 
-ask-requires : tie.Need-ask-requires
-ask-requires c κs = let s = c .before .before .before .before in (s .pre .0, (listed-more _ _ _ (s .pre .1 .0) (omega arith) (listed-more _ _ _ (s .pre .1 .1) (omega arith) (listed-none _)), (omega arith, omega arith)))
+ask-list-requires : tie.Need-ask-list-requires
+ask-list-requires c κs = let s = c .before .before .before .before in (s .pre, (omega arith, omega arith, omega arith))
 
 same-length : tie.Need-same-length
 same-length c = search needs
 
 returns : tie.Need-returns
-returns c = let s = c .before .before .before .before .before .before .before in c .before .before .ask .ensures _ (xor-rows (now (s .args .index)) (s .args .j) (s .args .k))
+unfolding askLogical
+returns c =
+    let s = c .before .before .before .before .before .before .before in
+    let i = now (s .args .index) in
+    c .before .before .ask-list .ensures _ _ (two-bad i (s .args .j) (s .args .k)) (xor-rows i (s .args .j) (s .args .k))
 
 pub xor-spec : {M : Type 1} → statement M
-xor-spec = tie.close (tie.spec slice-aggregate-ask ask-requires same-length returns)
+xor-spec = tie.close (tie.spec slice-aggregate-ask-list ask-list-requires same-length returns)

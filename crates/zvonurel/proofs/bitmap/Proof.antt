@@ -1,6 +1,6 @@
-use mathlib.Core.Path.{sym, _∙_}
+use mathlib.Core.Path.{refl, sym, _∙_}
 use denote.Ref.{now}
-use Rattle.answers.proofs.Checks.{sound-is, refused-is}
+use Rattle.answers.proofs.Checks.{sound-is, refused-is, refused-not-sound}
 use Rattle.meaning.proofs.BitmapPart.{part-laws}
 use borrow.Author.Needs.{needs}
 use Rattle.zvonurel.proofs.bitmap.Statement.{statement}
@@ -34,13 +34,14 @@ returns : tie.Need-returns
 returns c =
     let k = c .before .before .before in
     let a = k .before .before .args in
-    sym (part-laws .none (now (a .index)) (a .k) _ _ _ (refused-is (k .bitmap-refusal .result) _ (k .bitmap-refusal .ensures) _ (c .before .enum-told .given .1)))
+    let f = refused-is (k .bitmap-refusal .result) _ (k .bitmap-refusal .ensures) _ (c .before .enum-told .given .1) in
+    (sym (part-laws .none (now (a .index)) (a .k) _ _ _ f), (refl, λ s. absurd (refused-not-sound f s)))
 
 returns-2 : tie.Need-returns-2
 returns-2 c =
     let k = c .before .before .before in
     let h = part-laws .known _ _ (sound-is (k .bitmap-refusal .result) _ (k .bitmap-refusal .ensures) (c .before .enum-told2 .given .1)) in
-    c .body .ensures ∙ sym (h .part)
+    (c .body .ensures .0 ∙ sym (h .part), (c .body .ensures .1 .0, λ s. c .body .ensures .1 .1))
 
 pub bitmap-spec : {M : Type 1} → statement M
 bitmap-spec =

@@ -43,7 +43,7 @@ plain-requires c κs =
     let k = t .before .before in
     let a = k .before .before .before .args in
     let h = part-laws .known _ _ (sound-is (k .bitmap-refusal .result) _ (k .bitmap-refusal .ensures) (t .enum-told .given .1)) in
-    (rows-as (now (a .index)) (a .k) h _ (c .before .rows .ensures), facts-as (now (a .index)) (a .k) h _ _ (c .before .rows .ensures) (c .before .before .body .ensures))
+    (rows-as (now (a .index)) (a .k) h _ (c .before .rows .ensures), facts-as (now (a .index)) (a .k) h _ _ (c .before .rows .ensures) (c .before .before .body .ensures .0))
 
 returns : tie.Need-returns
 unfolding expandBitmap
@@ -64,7 +64,7 @@ returns-2 c =
     let k = t .before .before in
     let a = k .before .before .before .args in
     wrote-then (k .bitmap-refusal .result) (bitmapRefusal (now (a .index)) (a .k)) (askPlain (rowCount (now (a .index))) (rowsAt (now (a .index)) (a .k)) (length (now (a .out)))) (p .plain .result) (now (a .out)) (p .plain .last .1 .1 .0) (k .bitmap-refusal .ensures) (t .enum-told .given .1)
-    (subst₂ (λ (R : ℕ) (b : List ℕ). Wrote (askPlain R (rowsOf b) (length (now (a .out)))) (p .plain .result) (now (a .out)) (p .plain .last .1 .1 .0)) (r .rows .ensures) (r .before .body .ensures) (p .plain .ensures))
+    (subst₂ (λ (R : ℕ) (b : List ℕ). Wrote (askPlain R (rowsOf b) (length (now (a .out)))) (p .plain .result) (now (a .out)) (p .plain .last .1 .1 .0)) (r .rows .ensures) (r .before .body .ensures .0) (p .plain .ensures))
 
 pub expand-bitmap-spec : {M : Type 1} → statement M
 expand-bitmap-spec =

@@ -3,10 +3,8 @@ use Prim.Native.Nat.{ℕ}
 use mathlib.Core.List.{List}
 use mathlib.Core.Path.{subst}
 use Rattle.answers.proofs.Checks.{refuses}
-use Rattle.meaning.specs.Refusal.{Outcome, answer, refuseIf}
-use Rattle.meaning.specs.Index.{rowCount}
-use Rattle.meaning.specs.Question.{histogramOf}
-use Rattle.meaning.specs.Answer.{check, histogram, badList, named}
+use Rattle.meaning.specs.Refusal.{Outcome}
+use Rattle.meaning.specs.Answer.{check, askHistogram, histogram}
 use Rattle.answers.specs.Told.{Counted}
 use Rattle.zvonurel.proofs.Guards.{checked-index, counted-then}
 use borrow.Author.Needs.{needs}
@@ -34,7 +32,7 @@ returns c =
     let t = c .before .before in
     let k = t .before .before in
     let a = k .before .before .before .args in
-    subst (λ (o : Outcome (List ℕ)). Counted o (c .no-histogram .result)) (refuses (k .check .result) (check (now (a .index))) (k .check .ensures) (refuseIf (badList (now (a .index)) (now (a .list))) 8 0 0 (answer (histogramOf (rowCount (now (a .index))) (named (now (a .index)) (now (a .list)))))) _ (t .checked .given .1)) (c .no-histogram .ensures)
+    subst (λ (o : Outcome (List ℕ)). Counted o (c .no-histogram .result)) (refuses (k .check .result) (check (now (a .index))) (k .check .ensures) (askHistogram (now (a .index)) (now (a .list))) _ (t .checked .given .1)) (c .no-histogram .ensures)
 
 returns-2 : tie.Need-returns-2
 unfolding histogram
@@ -42,7 +40,7 @@ returns-2 c =
     let t = c .before in
     let k = t .before .before in
     let a = k .before .before .before .args in
-    counted-then (k .check .result) (check (now (a .index))) (refuseIf (badList (now (a .index)) (now (a .list))) 8 0 0 (answer (histogramOf (rowCount (now (a .index))) (named (now (a .index)) (now (a .list)))))) (c .histogram .result) (k .check .ensures) (t .enum-told .given .1) (c .histogram .ensures)
+    counted-then (k .check .result) (check (now (a .index))) (askHistogram (now (a .index)) (now (a .list))) (c .histogram .result) (k .check .ensures) (t .enum-told .given .1) (c .histogram .ensures)
 
 pub histogram-spec : {M : Type 1} → statement M
 histogram-spec =

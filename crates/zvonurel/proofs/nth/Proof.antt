@@ -34,7 +34,7 @@ nth-requires c κs =
     let k = c .before .before .before in
     let a = k .before .before .args in
     let h = part-laws .known _ _ (sound-is (k .bitmap-refusal .result) _ (k .bitmap-refusal .ensures) (c .before .enum-told .given .1)) in
-    let f = facts-as (now (a .index)) (a .k) h _ _ refl (c .body .ensures) in
+    let f = facts-as (now (a .index)) (a .k) h _ _ refl (c .body .ensures .0) in
     (f .ended, few-segments _ _ f (h .facts .head .few-rows))
 
 returns : tie.Need-returns
@@ -51,9 +51,9 @@ returns-2 c =
     let k = t .before .before in
     let a = k .before .before .args in
     let h = part-laws .known _ _ (sound-is (k .bitmap-refusal .result) _ (k .bitmap-refusal .ensures) (t .enum-told .given .1)) in
-    let f = facts-as (now (a .index)) (a .k) h _ _ refl (c .before .body .ensures) in
+    let f = facts-as (now (a .index)) (a .k) h _ _ refl (c .before .body .ensures .0) in
     answers (k .bitmap-refusal .result) (bitmapRefusal (now (a .index)) (a .k)) (k .bitmap-refusal .ensures) (askNth (rowCount (now (a .index))) (rowsAt (now (a .index)) (a .k)) (a .n)) (numberOf (c .nth .result)) (t .enum-told .given .1)
-    ((c .nth .ensures _ f) ∙ ap (λ (b : List ℕ). askNth (rowCount (now (a .index))) (rowsOf b) (a .n)) (c .before .body .ensures))
+    ((c .nth .ensures _ f) ∙ ap (λ (b : List ℕ). askNth (rowCount (now (a .index))) (rowsOf b) (a .n)) (c .before .body .ensures .0))
 
 pub nth-spec : {M : Type 1} → statement M
 nth-spec =

@@ -40,7 +40,7 @@ row-requires c κs =
     let k = c .before .before .before .before in
     let a = k .before .before .args in
     let h = part-laws .known _ _ (sound-is (k .bitmap-refusal .result) _ (k .bitmap-refusal .ensures) (c .before .before .enum-told .given .1)) in
-    facts-as (now (a .index)) (a .k) h _ _ (c .rows .ensures) (c .before .body .ensures)
+    facts-as (now (a .index)) (a .k) h _ _ (c .rows .ensures) (c .before .body .ensures .0)
 
 returns : tie.Need-returns
 unfolding flagOf row
@@ -56,7 +56,7 @@ returns-2 c =
     let k = t .before .before in
     let a = k .before .before .args in
     answers (k .bitmap-refusal .result) (bitmapRefusal (now (a .index)) (a .k)) (k .bitmap-refusal .ensures) (askRow (rowCount (now (a .index))) (rowsAt (now (a .index)) (a .k)) (a .row)) (flagOf (c .row .result)) (t .enum-told .given .1)
-    (c .row .ensures ∙ ap₂ (λ (R : ℕ) (b : List ℕ). askRow R (rowsOf b) (a .row)) (c .before .rows .ensures) (c .before .before .body .ensures))
+    (c .row .ensures ∙ ap₂ (λ (R : ℕ) (b : List ℕ). askRow R (rowsOf b) (a .row)) (c .before .rows .ensures) (c .before .before .body .ensures .0))
 
 pub row-spec : {M : Type 1} → statement M
 row-spec =

@@ -1,13 +1,7 @@
 use denote.Ref.{now}
 use lib.ListN.{length}
 use Rattle.answers.proofs.Checks.{refuses}
-use Rattle.meaning.specs.Refusal.{refuseIf}
-use Rattle.meaning.specs.Index.{rowCount}
-use Rattle.meaning.specs.Answer.{check, symmetric, badList, badEntry, write, named}
-use mathlib.Core.Bool.{_||_, not}
-use Prim.Native.Nat.{suc}
-use Rattle.meaning.specs.Question.{byTable}
-use lib.Dec.{eqb}
+use Rattle.meaning.specs.Answer.{check, askSymmetric, symmetric}
 use Rattle.lists.proofs.Listing.{reported-refused}
 use Rattle.zvonurel.proofs.Guards.{checked-index, reported-then}
 use borrow.Author.Needs.{needs}
@@ -31,7 +25,7 @@ unfolding symmetric
 returns c =
     let k = c .before .before .before in
     let a = k .before .before .before .before .before .args in
-    reported-refused (now (a .index)) (now (a .list)) (now (a .out)) _ _ (refuses (k .check .result) (check (now (a .index))) (k .check .ensures) (refuseIf (badList (now (a .index)) (now (a .list)) || not (eqb (length (now (a .table))) (suc (length (now (a .list))))) || badEntry (now (a .table))) 8 0 0 (write (rowCount (now (a .index))) (byTable (now (a .table)) (named (now (a .index)) (now (a .list)))) (length (now (a .out))))) _ (c .before .checked .given .1))
+    reported-refused (now (a .index)) (now (a .list)) (now (a .out)) _ _ (refuses (k .check .result) (check (now (a .index))) (k .check .ensures) (askSymmetric (now (a .index)) (now (a .list)) (now (a .table)) (length (now (a .out)))) _ (c .before .checked .given .1))
 
 same-length : tie.Need-same-length
 same-length c = search needs
@@ -43,7 +37,7 @@ returns-2 c =
     let t = w .before .before in
     let k = t .before .before in
     let a = k .before .before .before .before .before .args in
-    reported-then (now (a .index)) (now (a .list)) (k .check .result) (check (now (a .index))) (refuseIf (badList (now (a .index)) (now (a .list)) || not (eqb (length (now (a .table))) (suc (length (now (a .list))))) || badEntry (now (a .table))) 8 0 0 (write (rowCount (now (a .index))) (byTable (now (a .table)) (named (now (a .index)) (now (a .list)))) (length (now (a .out))))) (w .symmetric .result) (now (a .out)) (w .symmetric .last .1 .1 .1 .0) (k .check .ensures) (t .enum-told .given .1) (w .symmetric .ensures)
+    reported-then (now (a .index)) (now (a .list)) (k .check .result) (check (now (a .index))) (askSymmetric (now (a .index)) (now (a .list)) (now (a .table)) (length (now (a .out)))) (w .symmetric .result) (now (a .out)) (w .symmetric .last .1 .1 .1 .0) (k .check .ensures) (t .enum-told .given .1) (w .symmetric .ensures)
 
 pub symmetric-spec : {M : Type 1} → statement M
 symmetric-spec =

@@ -1,11 +1,7 @@
 use denote.Ref.{now}
 use lib.ListN.{length}
 use Rattle.answers.proofs.Checks.{refuses}
-use Rattle.meaning.specs.Refusal.{refuseIf}
-use Rattle.meaning.specs.Index.{rowCount}
-use Rattle.meaning.specs.Answer.{check, threshold, badList, write, rightRows}
-use mathlib.Core.Bool.{_||_}
-use lib.Dec.{eqb, ltb}
+use Rattle.meaning.specs.Answer.{check, askThreshold, threshold}
 use Rattle.lists.proofs.Listing.{reported-refused}
 use Rattle.zvonurel.proofs.Guards.{checked-index, reported-then, demand-met}
 use borrow.Author.Needs.{needs}
@@ -29,7 +25,7 @@ unfolding threshold
 returns c =
     let k = c .before .before .before in
     let a = k .before .before .before .before .args in
-    let e = reported-refused (now (a .index)) (now (a .list)) (now (a .out)) _ _ (refuses (k .check .result) (check (now (a .index))) (k .check .ensures) (refuseIf (badList (now (a .index)) (now (a .list)) || eqb (a .t) 0 || ltb (length (now (a .list))) (a .t)) 8 0 0 (write (rowCount (now (a .index))) (rightRows (now (a .index)) (now (a .list)) (a .t)) (length (now (a .out))))) _ (c .before .checked .given .1)) in
+    let e = reported-refused (now (a .index)) (now (a .list)) (now (a .out)) _ _ (refuses (k .check .result) (check (now (a .index))) (k .check .ensures) (askThreshold (now (a .index)) (now (a .list)) (a .t) (length (now (a .out)))) _ (c .before .checked .given .1)) in
     (e, demand-met (now (a .index)) (now (a .list)) (a .t) _ (now (a .out)) _ e)
 
 same-length : tie.Need-same-length
@@ -42,7 +38,7 @@ returns-2 c =
     let t = w .before .before in
     let k = t .before .before in
     let a = k .before .before .before .before .args in
-    let e = reported-then (now (a .index)) (now (a .list)) (k .check .result) (check (now (a .index))) (refuseIf (badList (now (a .index)) (now (a .list)) || eqb (a .t) 0 || ltb (length (now (a .list))) (a .t)) 8 0 0 (write (rowCount (now (a .index))) (rightRows (now (a .index)) (now (a .list)) (a .t)) (length (now (a .out))))) (w .threshold .result) (now (a .out)) (w .threshold .last .1 .1 .1 .0) (k .check .ensures) (t .enum-told .given .1) (w .threshold .ensures) in
+    let e = reported-then (now (a .index)) (now (a .list)) (k .check .result) (check (now (a .index))) (askThreshold (now (a .index)) (now (a .list)) (a .t) (length (now (a .out)))) (w .threshold .result) (now (a .out)) (w .threshold .last .1 .1 .1 .0) (k .check .ensures) (t .enum-told .given .1) (w .threshold .ensures) in
     (e, demand-met (now (a .index)) (now (a .list)) (a .t) (w .threshold .result) (now (a .out)) (w .threshold .last .1 .1 .1 .0) e)
 
 pub threshold-spec : {M : Type 1} → statement M

@@ -1,6 +1,6 @@
 use denote.Ref.{now}
 use Rattle.meaning.specs.Answer as meaning
-use Rattle.zvonurel_c.proofs.Numbered as numbered
+use Rattle.meaning.proofs.Numbered as numbered
 use Rattle.zvonurel_c.proofs.Codes.{counts}
 use borrow.Author.Needs.{needs}
 use Rattle.zvonurel_c.proofs.zv_histogram.Statement.{statement}

@@ -27,14 +27,14 @@ unfolding verdictOf indexFault
 returns c =
     let k = c .before .before .before in
     let i = now (k .before .before .args .index) in
-    refuses (k .check-head .result) (headFault i) (k .check-head .ensures) (entriesFault i 0 (bitmapCount i) (entryPlace (bitmapCount i)) then bodiesFault i 0 (bitmapCount i)) _ (c .before .head .given .1)
+    refuses (k .check-head .result) (headFault i) (k .check-head .ensures) (entriesFault i 0 (bitmapCount i) (entryPlace i (bitmapCount i)) then bodiesFault i 0 (bitmapCount i)) _ (c .before .head .given .1)
 
 returns-2 : tie.Need-returns-2
 unfolding indexFault
 returns-2 c =
     let k = c .before .before .before in
     let i = now (k .before .before .args .index) in
-    answers (k .check-head .result) (headFault i) (k .check-head .ensures) (entriesFault i 0 (bitmapCount i) (entryPlace (bitmapCount i)) then bodiesFault i 0 (bitmapCount i)) (verdictOf (c .check-contents .result)) (c .before .enum-told .given .1) (c .check-contents .ensures)
+    answers (k .check-head .result) (headFault i) (k .check-head .ensures) (entriesFault i 0 (bitmapCount i) (entryPlace i (bitmapCount i)) then bodiesFault i 0 (bitmapCount i)) (verdictOf (c .check-contents .result)) (c .before .enum-told .given .1) (c .check-contents .ensures)
 
 pub check-spec : {M : Type 1} → statement M
 check-spec =

@@ -22,14 +22,14 @@ check-requires c κs =
     let s = c .before .before .before in
     let i = now (s .args .index) in (
       omega (arith, s .pre .0 .few-rows, s .pre .1 .1 .1),
-      omega (arith, c .before .start .ensures .1, ap length (c .body .ensures), body-length i (s .args .k) (s .pre .1 .0) (s .pre .1 .1 .0), body-within i (s .args .k) (s .pre .1 .0) (s .pre .1 .1 .0), s .pre .0 .few-words),
+      omega (arith, c .before .start .ensures .1, ap length (c .body .ensures .0), body-length i (s .args .k) (s .pre .1 .0) (s .pre .1 .1 .0), body-within i (s .args .k) (s .pre .1 .0) (s .pre .1 .1 .0), s .pre .0 .few-words),
     )
 
 returns : tie.Need-returns
 returns c =
     let s = c .before .before .before .before in
     c .check .ensures
-    ∙ ap₂ (λ (p : ℕ) (b : List ℕ). bodyFault (s .args .k) p (s .args .rows) b) (c .before .before .start .ensures .0) (c .before .body .ensures)
+    ∙ ap₂ (λ (p : ℕ) (b : List ℕ). bodyFault (s .args .k) p (s .args .rows) b) (c .before .before .start .ensures .0) (c .before .body .ensures .0)
 
 pub check-body-spec : {M : Type 1} → statement M
 check-body-spec = tie.close (tie.spec start-requires body-requires check-requires returns)

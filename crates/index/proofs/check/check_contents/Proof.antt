@@ -27,13 +27,13 @@ unfolding verdictOf
 returns c =
     let k = c .before .before .before in
     let i = now (k .before .before .args .index) in
-    refuses (k .check-entries .result) (entriesFault i 0 (bitmapCount i) (entryPlace (bitmapCount i))) (k .check-entries .ensures) (bodiesFault i 0 (bitmapCount i)) _ (c .before .entries .given .1)
+    refuses (k .check-entries .result) (entriesFault i 0 (bitmapCount i) (entryPlace i (bitmapCount i))) (k .check-entries .ensures) (bodiesFault i 0 (bitmapCount i)) _ (c .before .entries .given .1)
 
 returns-2 : tie.Need-returns-2
 returns-2 c =
     let k = c .before .before .before in
     let i = now (k .before .before .args .index) in
-    answers (k .check-entries .result) (entriesFault i 0 (bitmapCount i) (entryPlace (bitmapCount i))) (k .check-entries .ensures) (bodiesFault i 0 (bitmapCount i)) (verdictOf (c .check-bodies .result)) (c .before .enum-told .given .1) (c .check-bodies .ensures)
+    answers (k .check-entries .result) (entriesFault i 0 (bitmapCount i) (entryPlace i (bitmapCount i))) (k .check-entries .ensures) (bodiesFault i 0 (bitmapCount i)) (verdictOf (c .check-bodies .result)) (c .before .enum-told .given .1) (c .check-bodies .ensures)
 
 pub check-contents-spec : {M : Type 1} → statement M
 check-contents-spec =

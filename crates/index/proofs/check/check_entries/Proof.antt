@@ -11,7 +11,7 @@ use Rattle.index.proofs.check.check_entries.Statement.{statement}
 use Rattle.index.proofs.check.check_entries.Tie as tie
 
 abbrev Inv-loop : tie.InvT-loop
-Inv-loop index n end₀ k₀ end k = (n ≡ bitmapCount index) × (k ≤ n) × (end ≤ length index) × (entriesFault index k (n - k) end ≡ entriesFault index 0 (bitmapCount index) (entryPlace (bitmapCount index)))
+Inv-loop index n end₀ k₀ end k = (n ≡ bitmapCount index) × (k ≤ n) × (end ≤ length index) × (entriesFault index k (n - k) end ≡ entriesFault index 0 (bitmapCount index) (entryPlace index (bitmapCount index)))
 
 abbrev μ-loop : tie.MeasureT-loop
 μ-loop index n end₀ k₀ end k = n - k
@@ -28,7 +28,7 @@ loop-holds c =
     let s = n .before .before in (
       n .bitmaps .ensures,
       omega arith,
-      omega (arith, s .pre .contents, c .entry-place .ensures .0, ap entryPlace (n .bitmaps .ensures)),
+      omega (arith, s .pre .contents, c .entry-place .ensures .0, ap (entryPlace (now (s .args .index))) (n .bitmaps .ensures)),
       entries-start (now (s .args .index)) _ _ (n .bitmaps .ensures) (c .entry-place .ensures .0),
     )
 

@@ -1,3 +1,4 @@
+use mathlib.Core.Path.{refl}
 use denote.Ref.{now}
 use Rattle.meaning.specs.Index.{bodyAt}
 use Rattle.index.proofs.EntrySteps.{body-within, body-part}
@@ -29,7 +30,11 @@ part-result-end c = let s = c .before .before .before in omega (arith, body-with
 
 returns : tie.Need-returns
 unfolding bodyAt
-returns c = let w = c .before in let b = w .before in body-part (now (b .before .before .args .index)) (b .before .before .args .k) _ _ (b .start .ensures .0) (w .words .ensures .0)
+returns c =
+    let w = c .before in
+    let b = w .before in
+    let a = b .before .before .args in
+    (body-part (now (a .index)) (a .k) _ _ (b .start .ensures .0) (w .words .ensures .0), (refl, omega (arith, b .start .ensures .0)))
 
 pub body-spec : {M : Type 1} → statement M
 body-spec =

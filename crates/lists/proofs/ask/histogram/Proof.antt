@@ -1,5 +1,6 @@
 use denote.Ref.{now}
 use mathlib.Core.Path.{sym, _∙_}
+use Rattle.meaning.specs.Answer.{askHistogram}
 use Rattle.lists.proofs.Listing.{good-listed, good-some}
 use Rattle.lists.proofs.Choosing.{counted-refused, counted-sound}
 use borrow.Author.Needs.{needs}
@@ -16,6 +17,7 @@ no-histogram-requires : tie.Need-no-histogram-requires
 no-histogram-requires c κs = search needs
 
 returns : tie.Need-returns
+unfolding askHistogram
 returns c =
     let l = c .before .before .before in
     let a = l .before .before .before .args in
@@ -29,6 +31,7 @@ histogram-requires c κs =
     (s .pre, (good-listed (now (s .args .index)) (now (s .args .list)) good, good-some (now (s .args .index)) (now (s .args .list)) good))
 
 returns-2 : tie.Need-returns-2
+unfolding askHistogram
 returns-2 c =
     let l = c .before .before in
     let a = l .before .before .before .args in

@@ -4,6 +4,7 @@ use mathlib.Core.List.{List}
 use Prim.Native.Nat.{ℕ}
 use lib.ListN.{length}
 use Rattle.meaning.specs.Refusal.{Outcome}
+use Rattle.meaning.specs.Answer.{askSymmetric, badSymmetric}
 use Rattle.answers.specs.Told.{Reported}
 use Rattle.lists.proofs.Listing.{good-listed, good-some}
 use Rattle.lists.proofs.Choosing.{reported-first, reported-second, reported-third, reported-rest, symmetric-body, size-wrong, size-right}
@@ -19,6 +20,7 @@ bad-argument-requires : tie.Need-bad-argument-requires
 bad-argument-requires c κs = search needs
 
 returns : tie.Need-returns
+unfolding askSymmetric badSymmetric
 returns c =
     let l = c .before .before in
     let a = l .before .before .before .before .before .args in
@@ -31,6 +33,7 @@ bad-argument-requires-2 : tie.Need-bad-argument-requires-2
 bad-argument-requires-2 c κs = search needs
 
 returns-2 : tie.Need-returns-2
+unfolding askSymmetric badSymmetric
 returns-2 c =
     let l = c .before .before .before in
     let a = l .before .before .before .before .before .args in
@@ -43,6 +46,7 @@ bad-argument-requires-3 : tie.Need-bad-argument-requires-3
 bad-argument-requires-3 c κs = search needs
 
 returns-3 : tie.Need-returns-3
+unfolding askSymmetric badSymmetric
 returns-3 c =
     let l = c .before .before .before .before .before in
     let a = l .before .before .before .before .before .args in
@@ -61,6 +65,7 @@ same-length : tie.Need-same-length
 same-length c = search needs
 
 returns-4 : tie.Need-returns-4
+unfolding askSymmetric badSymmetric
 returns-4 c =
     let w = c .before .before in
     let e = w .before .before in

@@ -3,6 +3,7 @@ use mathlib.Core.Path.{sym, _∙_, subst}
 use mathlib.Core.List.{List}
 use Prim.Native.Nat.{ℕ}
 use Rattle.meaning.specs.Refusal.{Outcome}
+use Rattle.meaning.specs.Answer.{askThreshold, badThreshold}
 use Rattle.answers.specs.Told.{Reported}
 use native.Mathlib.Omega.{arith}
 use borrow.Author.Tests.{eq-eqb, ne-eqb, lt-ltb, le-ltb}
@@ -20,6 +21,7 @@ bad-argument-requires : tie.Need-bad-argument-requires
 bad-argument-requires c κs = search needs
 
 returns : tie.Need-returns
+unfolding askThreshold badThreshold
 returns c =
     let l = c .before .before in
     let a = l .before .before .before .before .args in
@@ -29,6 +31,7 @@ bad-argument-requires-2 : tie.Need-bad-argument-requires-2
 bad-argument-requires-2 c κs = search needs
 
 returns-2 : tie.Need-returns-2
+unfolding askThreshold badThreshold
 returns-2 c =
     let l = c .before .before .before in
     let a = l .before .before .before .before .args in
@@ -41,6 +44,7 @@ bad-argument-requires-3 : tie.Need-bad-argument-requires-3
 bad-argument-requires-3 c κs = search needs
 
 returns-3 : tie.Need-returns-3
+unfolding askThreshold badThreshold
 returns-3 c =
     let l = c .before .before .before .before .before in
     let a = l .before .before .before .before .args in
@@ -68,6 +72,7 @@ same-length : tie.Need-same-length
 same-length c = search needs
 
 returns-4 : tie.Need-returns-4
+unfolding askThreshold badThreshold
 returns-4 c =
     let w = c .before .before in
     let e = w .before .before .before in

@@ -37,7 +37,7 @@ open-requires c κs = search needs
 set-cursor-requires : tie.Need-set-cursor-requires Inv-loop μ-loop
 set-cursor-requires c κs =
     let o = c .before .«open» .ensures in
-    let b = c .before .before .body .ensures in
+    let b = c .before .before .body .ensures .0 in
     let l = c .before .before .before .before .before .loop in
     let s = c .before .before .before .before .before .before .before .before in
     (omega arith, l .inv .2, next-low (now (s .args .index)) (getD (now (s .args .list)) (l .i) 0) (c .before .«open» .result) (s .pre .0) (rw b at (o .in-order)), o .in-order .value-low)
@@ -52,7 +52,7 @@ loop-again : tie.Need-loop-again Inv-loop μ-loop
 loop-again c =
     let p = c .set-cursor .ensures in
     let o = c .before .before .«open» .ensures in
-    let b = c .before .before .before .body .ensures in
+    let b = c .before .before .before .body .ensures .0 in
     let l = c .before .before .before .before .before .before .loop in
     let s = c .before .before .before .before .before .before .before .before .before in
     let index = now (s .args .index) in

@@ -1,4 +1,4 @@
--- Every refusal has a number from 1 to 9, so that 0 can say that there is none.
+-- Every refusal of every call has one of the numbers.
 -- Assumes nothing.
 use Prim.Native.Nat.{ℕ, zero, suc, _+_, _-_, _≤_}
 use mathlib.Core.Bool.{Bool, true, false, not, _||_}
@@ -6,22 +6,15 @@ use mathlib.Core.List.{List, [], _∷_}
 use lib.Dec.{eqb, leb, ltb}
 use lib.ListN.{length, getD}
 use native.Mathlib.Omega.{arith}
-use Rattle.meaning.specs.Refusal.{Outcome, refused, answer, Verdict, sound, refuseIf, _then_}
+use Rattle.meaning.specs.Refusal.{Outcome, refused, answer, Verdict, sound, refuseIf, _then_, IsNumber, Numbered}
 use Rattle.meaning.specs.Limits.{mostRows, mostBitmaps, mostIndexWords, indexKind, headWords}
 use Rattle.meaning.specs.Rows.{countBelow, nthBelow}
 use Rattle.meaning.specs.Segment.{fill, lastRows, overPad, segmentCount, lastLimit, lastOf, hasRow, fromRows}
 use Rattle.meaning.specs.Ewah.{valueOf, cleanOf, dirtyOf, faultFrom, bodyFault, rowsOf}
 use Rattle.meaning.specs.Canonical.{canonical}
 use Rattle.meaning.specs.Index.{bitmapCount, entryPlace, startOf, lengthOf, rowCount, bodyAt, rowsAt, entriesFault, bodiesFault, headFault, indexFault}
 use Rattle.meaning.specs.Question.{intersection, union, symmetricDifference, difference, complement, byTable}
 use Rattle.meaning.specs.Answer as meaning
-
-abbrev Number : ℕ → Type 0
-Number n = (1 ≤ n) × (n ≤ 9)
-
-unfoldable pub Numbered : {A : Type 0} → Outcome A → Type 0
-Numbered (refused number bitmap word) = Number number
-Numbered (answer a) = Unit {0}
 
 pub number-of : (A : Type 0) (n b w : ℕ) → Numbered {A = A} (refused n b w) → 1 ≤ n
 unfolding Numbered
@@ -34,7 +27,7 @@ module _ {A : Type 0} where
   unfolding Numbered
   answered a = tt
 
-  refuse : (t : Bool) (n b w : ℕ) (o : Outcome A) → Number n → Numbered o → Numbered (refuseIf t n b w o)
+  refuse : (t : Bool) (n b w : ℕ) (o : Outcome A) → IsNumber n → Numbered o → Numbered (refuseIf t n b w o)
   unfolding refuseIf Numbered
   refuse true n b w o h k = h
   refuse false n b w o h k = k
@@ -69,8 +62,8 @@ module _ (index : List ℕ) where
   unfolding entriesFault
   entries k zero end = refuse (ltb end (length index)) 4 0 end sound (omega arith) (answered tt)
   entries k (suc more) end =
-      refuse (not (eqb (startOf index k) end)) 4 k (entryPlace k) _ (omega arith)
-      (refuse (ltb (length index) (end + lengthOf index k)) 4 k (entryPlace k + 1) _ (omega arith)
+      refuse (not (eqb (startOf index k) end)) 4 k (entryPlace index k) _ (omega arith)
+      (refuse (ltb (length index) (end + lengthOf index k)) 4 k (entryPlace index k + 1) _ (omega arith)
       (entries (suc k) more (end + lengthOf index k)))
 
   bodies : (k more : ℕ) → Numbered (bodiesFault index k more)
@@ -86,14 +79,14 @@ module _ (index : List ℕ) where
       (refuse (not (eqb (getD index 0 0) indexKind)) 2 0 0 _ (omega arith)
       (refuse (ltb mostRows (rowCount index)) 3 0 1 _ (omega arith)
       (refuse (ltb mostBitmaps (bitmapCount index)) 3 0 2 _ (omega arith)
-      (refuse (ltb (length index) (entryPlace (bitmapCount index))) 1 0 (length index) _ (omega arith)
+      (refuse (ltb (length index) (entryPlace index (bitmapCount index))) 1 0 (length index) _ (omega arith)
       (answered tt))))))
 
   pub check : Numbered (meaning.check index)
   unfolding meaning.check indexFault
   check =
       after (headFault index) _ head
-      (after (entriesFault index 0 (bitmapCount index) (entryPlace (bitmapCount index))) _ (entries 0 (bitmapCount index) (entryPlace (bitmapCount index))) (bodies 0 (bitmapCount index)))
+      (after (entriesFault index 0 (bitmapCount index) (entryPlace index (bitmapCount index))) _ (entries 0 (bitmapCount index) (entryPlace index (bitmapCount index))) (bodies 0 (bitmapCount index)))
 
 -- ---- the questions
 
@@ -179,13 +172,17 @@ module _ (index : List ℕ) where
     unfolding meaning.expandBitmap
     expand-bitmap room = after (meaning.bitmapRefusal index k) _ bitmap-refusal (ask-plain (rowCount index) (rowsAt index k) room)
 
-    pub not-of : (room : ℕ) → Numbered (meaning.notOf index k room)
-    unfolding meaning.notOf
-    not-of room = after (meaning.bitmapRefusal index k) _ bitmap-refusal (write (rowCount index) (complement (rowsAt index k)) room)
-
   logical : (op : (ℕ → Bool) → (ℕ → Bool) → ℕ → Bool) (j k room : ℕ) → Numbered (meaning.logical index op j k room)
-  unfolding meaning.logical
-  logical op j k room = after (meaning.bitmapRefusal index j) _ (bitmap-refusal j) (after (meaning.bitmapRefusal index k) _ (bitmap-refusal k) (write (rowCount index) (op (rowsAt index j) (rowsAt index k)) room))
+  unfolding meaning.logical meaning.askLogical
+  logical op j k room =
+      after (meaning.check index) _ (check index)
+      (refuse (meaning.badBitmap index j || meaning.badBitmap index k) 8 0 0 _ (omega arith) (write (rowCount index) (op (rowsAt index j) (rowsAt index k)) room))
+
+  pub not-of : (k room : ℕ) → Numbered (meaning.notOf index k room)
+  unfolding meaning.notOf meaning.askNot
+  not-of k room =
+      after (meaning.check index) _ (check index)
+      (refuse (meaning.badBitmap index k) 8 0 0 _ (omega arith) (write (rowCount index) (complement (rowsAt index k)) room))
 
   pub and : (j k room : ℕ) → Numbered (meaning.and index j k room)
   unfolding meaning.and
@@ -205,13 +202,17 @@ module _ (index : List ℕ) where
 
   module _ (list : List ℕ) where
     pub threshold : (T room : ℕ) → Numbered (meaning.threshold index list T room)
-    unfolding meaning.threshold
-    threshold T room = after (meaning.check index) _ (check index) (refuse (meaning.badList index list || eqb T 0 || ltb (length list) T) 8 0 0 _ (omega arith) (write (rowCount index) (meaning.rightRows index list T) room))
+    unfolding meaning.threshold meaning.askThreshold
+    threshold T room =
+        after (meaning.check index) _ (check index)
+        (refuse (meaning.badThreshold index list T) 8 0 0 _ (omega arith) (write (rowCount index) (meaning.rightRows index list T) room))
 
     pub symmetric : (table : List ℕ) (room : ℕ) → Numbered (meaning.symmetric index list table room)
-    unfolding meaning.symmetric
-    symmetric table room = after (meaning.check index) _ (check index) (refuse (meaning.badList index list || not (eqb (length table) (suc (length list))) || meaning.badEntry table) 8 0 0 _ (omega arith) (write (rowCount index) (byTable table (meaning.named index list)) room))
+    unfolding meaning.symmetric meaning.askSymmetric
+    symmetric table room =
+        after (meaning.check index) _ (check index)
+        (refuse (meaning.badSymmetric index list table) 8 0 0 _ (omega arith) (write (rowCount index) (byTable table (meaning.named index list)) room))
 
     pub histogram : Numbered (meaning.histogram index list)
-    unfolding meaning.histogram
+    unfolding meaning.histogram meaning.askHistogram
     histogram = after (meaning.check index) _ (check index) (refuse (meaning.badList index list) 8 0 0 _ (omega arith) (answered _))
