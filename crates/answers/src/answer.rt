@@ -3,6 +3,7 @@ ghost use mathlib.Core.Path.{_≡_};
 ghost use Rattle.answers.specs.Told.{refusal, Counted, refusedBy};
 use crate::refusal::Checked;
 use crate::refusal::Refusal;
+use meaning::HISTOGRAM_COUNTS;
 
 // Whether a row is set.
 pub enum Flag {
@@ -28,10 +29,10 @@ pub enum Answered {
     Refused(Refusal),
 }
 
-// For each c from 0 to 64 the number of rows that exactly c of the list have; all zeros where it was refused, and why.
+// For each c from 0 to the most that a list can name the number of rows that exactly c of the list have; all zeros where it was refused, and why.
 pub struct Histogram {
     pub checked: Checked,
-    pub counts: [u32; 65],
+    pub counts: [u32; HISTOGRAM_COUNTS],
 }
 
 // A refused histogram.
@@ -40,7 +41,7 @@ pub fn no_histogram(refusal: Refusal) -> Histogram
 {
     Histogram {
         checked: Checked::Refused(refusal),
-        counts: [0; 65],
+        counts: [0; HISTOGRAM_COUNTS],
     }
 }
 

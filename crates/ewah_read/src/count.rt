@@ -2,7 +2,7 @@
 ghost use mathlib.Core.Path.{_≡_};
 ghost use Prim.Native.Nat.{ℕ, _≤_, _<_};
 ghost use lib.ListN.{length, replicate};
-ghost use Rattle.meaning.specs.Limits.{mostSegments};
+ghost use Rattle.meaning.specs.Limits.{mostSegments, mostClean};
 ghost use Rattle.meaning.specs.Rows.{countBelow};
 ghost use Rattle.meaning.specs.Segment.{ones, fill};
 ghost use Rattle.meaning.specs.Ewah.{segments, rowsOf, dueAfter};
@@ -26,7 +26,7 @@ pub fn count_words(ws: &[u32]) -> u32
 
 // How many bits of a clean run are set.
 pub fn count_run(value: u32, clean: u32) -> u32
-    requires { ⌜ (value < 2) × (clean ≤ 65535) ⌝ }
+    requires { ⌜ (value < 2) × (clean ≤ mostClean) ⌝ }
     ensures { λ r. ⌜ r ≡ ones 32 (replicate clean (fill 32 32 value)) ⌝ }
 {
     clean * (value * 32)

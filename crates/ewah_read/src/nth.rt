@@ -3,7 +3,7 @@ ghost use mathlib.Core.Path.{_≡_};
 ghost use mathlib.Core.List.{_++_};
 ghost use Prim.Native.Nat.{ℕ, _*_, _≤_, _<_};
 ghost use lib.ListN.{length, replicate};
-ghost use Rattle.meaning.specs.Limits.{mostSegments};
+ghost use Rattle.meaning.specs.Limits.{mostSegments, mostClean, mostDirty};
 ghost use Rattle.meaning.specs.Segment.{hasRow, ones, fill};
 ghost use Rattle.meaning.specs.Ewah.{segments, rowsOf, dueAfter};
 ghost use Rattle.meaning.specs.Laws.{SoundFacts};
@@ -40,7 +40,7 @@ pub enum Sought {
 
 // The row of one marker's segments that has k set rows before it.
 fn seek(value: u32, clean: u32, ws: &[u32], k: u32) -> Sought
-    requires { ⌜ (value < 2) × (clean ≤ 65535) × (length (now ws) ≤ 32767) ⌝ }
+    requires { ⌜ (value < 2) × (clean ≤ mostClean) × (length (now ws) ≤ mostDirty) ⌝ }
     ensures { λ r. ⌜ SoughtIn (replicate clean (fill 32 32 value) ++ now (ws .entry)) k r ⌝ }
 {
     let run = count::count_run(value, clean);

@@ -143,16 +143,16 @@ module _ {out : List ℕ} {w r : Writer} {v n k m : ℕ} (s : Running out w r v 
     }
 
     module _ (z : k ≡ 0 → ⊥) where
-      full-drawn : (a : ℕ) → a ≡ marker v 65535 0 → (d : Draft) → Drawn out w d → take (w .used) (set out (w .at) a) ≡ body (longer d k)
+      full-drawn : (a : ℕ) → a ≡ marker v mostClean 0 → (d : Draft) → Drawn out w d → take (w .used) (set out (w .at) a) ≡ body (longer d k)
       full-drawn a e d b =
           let t = b .tracks in
           let o = free-open w v (omega (arith, s .free)) in
-          let c : w .last .clean + k ≡ 65535 = omega (arith, s .free, t .in-range .clean-low) in
+          let c : w .last .clean + k ≡ mostClean = omega (arith, s .free, t .in-range .clean-low) in
           let q : Names a (joined w k .last) = e ∙ rw (o .0, o .1, c) in
           let i = run-within d v k (omega (arith, s .free, free-is w d v t)) in
           longer-words out w (joined w k) d k a b (rw i at (grown-in w v k k (s .free) (omega arith) d t)) (last-placed (omega arith)) q
 
-      pub both-pushed : (a : ℕ) → a ≡ marker v 65535 0 → Pushed out (set (set out (w .at) a) (w .used) m) w (replicate n (clean v)) r
+      pub both-pushed : (a : ℕ) → a ≡ marker v mostClean 0 → Pushed out (set (set out (w .at) a) (w .used) m) w (replicate n (clean v)) r
       both-pushed a e = record {
         grown = s .grown;
         drawn = λ d b. new-drawn (set out (w .at) a) (length-set out (w .at) a) d (b .tracks) (full-drawn a e d b);

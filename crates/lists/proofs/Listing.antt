@@ -51,11 +51,11 @@ module _ (index list : List ℕ) where
   bad-none e = rw (eq-eqb (length list) 0 e)
 
   module _ (h : length list ≡ 0 → ⊥) where
-    pub bad-long : 64 < length list → true ≡ badList index list
+    pub bad-long : mostNamed < length list → true ≡ badList index list
     unfolding badList
     bad-long g = rw (ne-eqb (length list) 0 h, lt-ltb mostNamed (length list) g)
 
-    pub bad-names : length list ≤ 64 → (b : Bool) → b ≡ anyBad index list → b ≡ badList index list
+    pub bad-names : length list ≤ mostNamed → (b : Bool) → b ≡ anyBad index list → b ≡ badList index list
     unfolding badList
     bad-names g b e = rw (ne-eqb (length list) 0 h, le-ltb mostNamed (length list) g) e
 

@@ -12,6 +12,7 @@ use answers::answer::Answered;
 use answers::answer::Histogram;
 use answers::refusal::Checked;
 use index::contents;
+use meaning::MOST_NAMED;
 use merge::evaluate::Operation;
 
 // Whether some number names no bitmap.
@@ -38,7 +39,7 @@ fn list_is_bad(index: &[u32], list: &[u32]) -> bool
     if list.len() == 0 {
         return true;
     }
-    if 64 < list.len() {
+    if MOST_NAMED < list.len() {
         return true;
     }
     names_missing(index, list)

@@ -4,6 +4,7 @@ ghost use mathlib.Core.Bool.{true};
 ghost use mathlib.Core.List.{List};
 ghost use Prim.Native.Nat.{ℕ, _≤_};
 ghost use lib.ListN.{length};
+ghost use Rattle.meaning.specs.Limits.{histogramCounts, mostNamedWords};
 ghost use Rattle.meaning.specs.Question.{totalWords};
 ghost use Rattle.meaning.specs.Laws.{IndexFacts};
 ghost use Rattle.meaning.specs.Answer as meaning;
@@ -14,6 +15,7 @@ ghost use Rattle.answers.specs.Told.{Reported};
 use answers::answer;
 use answers::answer::Answered;
 use index::contents;
+use meaning::MOST_DIRTY;
 use merge::engine;
 use merge::evaluate::Operation;
 use words::rows;
@@ -22,7 +24,7 @@ use words::rows;
 fn named_words(index: &[u32], list: &[u32]) -> usize
     requires { ⌜ IndexFacts (now index) ⌝ }
     requires { ⌜ Listed (now index) (now list) ⌝ }
-    ensures { λ r. ⌜ (r ≡ totalWords (meaning.namedBodies (now (index .entry)) (now (list .entry)))) × (r ≤ 274877906944) ⌝ }
+    ensures { λ r. ⌜ (r ≡ totalWords (meaning.namedBodies (now (index .entry)) (now (list .entry)))) × (r ≤ mostNamedWords) ⌝ }
 {
     let mut total: usize = 0;
     let mut i: usize = 0;
@@ -40,7 +42,7 @@ fn most_words(index: &[u32]) -> usize
     ensures { λ r. ⌜ ((list table : List ℕ) (op : Operation) → length (answerBody (now (index .entry)) list op table) ≤ r) ⌝ }
 {
     let segments = contents::wide(rows::segment_count(contents::rows(index)));
-    segments + segments / 32767 + 1
+    segments + segments / MOST_DIRTY as usize + 1
 }
 
 // Whether a buffer surely has room for the answer, whatever is asked of the list: for any body of the index's rows, or for two
@@ -67,7 +69,7 @@ fn write_fitting(
 ) -> Answered
     requires { ⌜ IndexFacts (now index) ⌝ }
     requires { ⌜ Listed (now index) (now list) ⌝ }
-    requires { ⌜ (1 ≤ length (now list)) × (length (now table) ≤ 65) × LowNumber op ⌝ }
+    requires { ⌜ (1 ≤ length (now list)) × (length (now table) ≤ histogramCounts) × LowNumber op ⌝ }
     requires { ⌜ length (answerBody (now index) (now list) op (now table)) ≤ length (now out) ⌝ }
     ensures { λ r. ⌜ Reported (now (index .entry)) (now (list .entry)) (meaning.fits (length (now (out .entry))) (answerBody (now (index .entry)) (now (list .entry)) op (now (table .entry)))) r (now (out .entry)) (now (out .exit)) ⌝ }
 {
@@ -85,7 +87,7 @@ pub fn write_answer(
 ) -> Answered
     requires { ⌜ IndexFacts (now index) ⌝ }
     requires { ⌜ Listed (now index) (now list) ⌝ }
-    requires { ⌜ (1 ≤ length (now list)) × (length (now table) ≤ 65) × LowNumber op ⌝ }
+    requires { ⌜ (1 ≤ length (now list)) × (length (now table) ≤ histogramCounts) × LowNumber op ⌝ }
     ensures { λ r. ⌜ Reported (now (index .entry)) (now (list .entry)) (meaning.fits (length (now (out .entry))) (answerBody (now (index .entry)) (now (list .entry)) op (now (table .entry)))) r (now (out .entry)) (now (out .exit)) ⌝ }
 {
     if surely_fits(index, list, out.len()) {

@@ -7,7 +7,7 @@ use mathlib.Core.List.{List}
 use borrow.Author.Tests.{ltb-false}
 use lib.Dec.{eqb, ltb}
 use lib.ListN.{length, length-map}
-use Rattle.meaning.specs.Limits.{mostNamed}
+use Rattle.meaning.specs.Limits.{mostNamed, histogramCounts}
 use Rattle.meaning.specs.Rows.{countBelow}
 use Rattle.meaning.specs.Refusal.{answer}
 use Rattle.meaning.specs.Index.{rowCount, rowsAt}
@@ -53,15 +53,15 @@ few-named : (index list : List ℕ) → badList index list ≡ false → length 
 unfolding named
 few-named index list e = rw length-map (good-list index list e .most)
 
-of-histogram : (index list entries : List ℕ) → histogram index list ≡ answer entries → (length entries ≡ suc mostNamed) × (sumOf entries ≡ rowCount index)
+of-histogram : (index list entries : List ℕ) → histogram index list ≡ answer entries → (length entries ≡ histogramCounts) × (sumOf entries ≡ rowCount index)
 unfolding histogram askHistogram
 of-histogram index list entries e =
     let p = refuse-answer (badList index list) 8 0 0 (answer (histogramOf (rowCount index) (named index list))) entries (then-answer (check index) _ entries e .1) in
     let is : entries ≡ histogramOf (rowCount index) (named index list) = let q = p .1 in cc in
     rw is (long, histogram-adds (rowCount index) (named index list) (few-named index list (p .0)))
   where
-    long : length (histogramOf (rowCount index) (named index list)) ≡ suc mostNamed
-    long = unfold histogramOf in length-tabulate (suc mostNamed) (λ c. countBelow (rowCount index) (λ r. eqb (held (named index list) r) c))
+    long : length (histogramOf (rowCount index) (named index list)) ≡ histogramCounts
+    long = unfold histogramOf in length-tabulate (histogramCounts) (λ c. countBelow (rowCount index) (λ r. eqb (held (named index list) r) c))
 
 pub answer-laws : AnswerLaws
 answer-laws = record { of-pair = of-pair; of-not = of-not; of-threshold = of-threshold; of-symmetric = of-symmetric; of-histogram = of-histogram }

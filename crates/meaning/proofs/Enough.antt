@@ -54,7 +54,7 @@ unfolding flat pieceSize
 flat-length (cleanRun v n) ps = rw (length-append (replicate n (fill 32 32 v)) (flat ps), length-replicate n (fill 32 32 v))
 flat-length (dirtyWord w) ps = omega arith
 
--- from any segment on, a piece ends within 65,535
+-- from any segment on, a piece ends within what one marker can hold
 record Near (ends : ℕ → Bool) (most n : ℕ) : Type 0 where
   m : ℕ
   from : n ≤ m

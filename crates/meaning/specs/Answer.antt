@@ -6,7 +6,7 @@ use mathlib.Core.Bool.{Bool, false, not, _||_}
 use mathlib.Core.List.{List, [], _∷_, _++_, map}
 use lib.Dec.{eqb, leb, ltb}
 use lib.ListN.{length, drop, replicate}
-use Rattle.meaning.specs.Limits.{mostRows, mostNamed}
+use Rattle.meaning.specs.Limits.{mostRows, mostNamed, histogramCounts}
 use Rattle.meaning.specs.Rows.{countBelow, nthBelow}
 use Rattle.meaning.specs.Segment.{segmentCount, lastLimit, lastOf, hasRow, fromRows}
 use Rattle.meaning.specs.Refusal.{Outcome, refused, answer, Verdict, sound, refuseIf, _then_}
@@ -34,7 +34,7 @@ wordsReported (answer words) = length words
 
 -- the histogram reported: zeros on a refusal
 unfoldable pub histogramReported : Outcome (List ℕ) → List ℕ
-histogramReported (refused number bitmap word) = replicate (suc mostNamed) 0
+histogramReported (refused number bitmap word) = replicate (histogramCounts) 0
 histogramReported (answer counts) = counts
 
 -- the part returned: empty on a refusal

@@ -7,7 +7,7 @@ use mathlib.Core.Path.{_≡_}
 use mathlib.Core.Logic.{_↔_}
 use mathlib.Core.List.{List, [], foldl}
 use lib.ListN.{length, getD, replicate}
-use Rattle.meaning.specs.Limits.{mostClean, mostNamed, mostRows, mostBitmaps, mostIndexWords, indexKind, headWords}
+use Rattle.meaning.specs.Limits.{mostClean, mostRows, mostBitmaps, mostIndexWords, indexKind, headWords, histogramCounts}
 use Rattle.meaning.specs.Segment.{Segment, clean, segmentCount, lastLimit, lastOf}
 use Rattle.meaning.specs.Refusal.{refused, answer, sound}
 use Rattle.meaning.specs.Ewah.{Sound, segments, rowsOf, dueAfter}
@@ -99,5 +99,5 @@ pub record AnswerLaws : Type 0 where
   pub of-threshold : (index list : List ℕ) (T room : ℕ) (b : List ℕ) → threshold index list T room ≡ answer b → Answers (rowCount index) (rightRows index list T) b
   pub of-symmetric : (index list table : List ℕ) (room : ℕ) (b : List ℕ) → symmetric index list table room ≡ answer b
       → Answers (rowCount index) (byTable table (named index list)) b
-  -- a histogram has 65 entries, and they add up to the rows
-  pub of-histogram : (index list entries : List ℕ) → histogram index list ≡ answer entries → (length entries ≡ suc mostNamed) × (sumOf entries ≡ rowCount index)
+  -- a histogram has an entry for each number of holders, and they add up to the rows
+  pub of-histogram : (index list entries : List ℕ) → histogram index list ≡ answer entries → (length entries ≡ histogramCounts) × (sumOf entries ≡ rowCount index)

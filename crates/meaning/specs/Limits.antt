@@ -1,6 +1,14 @@
 -- Every limit and size that paper 01 names, once. Section names in these comments are paper 01's.
 -- Assumes nothing.
-use Prim.Native.Nat.{ℕ, _+_, _*_}
+use Prim.Native.Nat.{ℕ, _+_, _-_, _*_, _/_, _^_}
+
+-- bytes of a word
+abbrev pub wordBytes : ℕ
+wordBytes = 4
+
+-- bits of a word; an EWAH segment and a segment of plain words are one word each
+abbrev pub wordBits : ℕ
+wordBits = 32
 
 -- Numbers of refusal: the greatest
 abbrev pub mostNumber : ℕ
@@ -12,15 +20,37 @@ mostRows = 16777216
 
 -- the segments of the most rows
 abbrev pub mostSegments : ℕ
-mostSegments = 524288
+mostSegments = mostRows / wordBits
 
 -- The index: the greatest number N of bitmaps
 abbrev pub mostBitmaps : ℕ
 mostBitmaps = 64
 
--- Questions over a list: the greatest number of places in a list. A histogram counts from 0 to this
+-- Questions over a list: the greatest number of places in a list
 abbrev pub mostNamed : ℕ
 mostNamed = 64
+
+-- the entries of a histogram, and of the longest table: one for each number of holders, 0 included
+abbrev pub histogramCounts : ℕ
+histogramCounts = mostNamed + 1
+
+-- the bits of a counter of holders, and the greatest number that they hold
+abbrev pub counterPlanes : ℕ
+counterPlanes = 7
+
+abbrev pub mostCounted : ℕ
+mostCounted = 2 ^ counterPlanes - 1
+
+-- the numbers that a query keeps for each place, and in all
+abbrev pub placeNumbers : ℕ
+placeNumbers = 4
+
+abbrev pub queryNumbers : ℕ
+queryNumbers = placeNumbers * mostNamed
+
+-- the words of the bodies that a list can name: what 32 bits can say of each
+abbrev pub mostNamedWords : ℕ
+mostNamedWords = mostNamed * 2 ^ wordBits
 
 -- The index: the greatest number of words
 abbrev pub mostIndexWords : ℕ
@@ -49,11 +79,3 @@ mostDirty = 32767
 -- the index: the most words of its head and contents
 abbrev pub mostContents : ℕ
 mostContents = headWords + entryWords * mostBitmaps
-
--- bytes of a word
-abbrev pub wordBytes : ℕ
-wordBytes = 4
-
--- bits of a word; an EWAH segment and a segment of plain words are one word each
-abbrev pub wordBits : ℕ
-wordBits = 32

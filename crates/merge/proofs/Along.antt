@@ -5,7 +5,7 @@ use mathlib.Core.Path.{_≡_, _∙_}
 use mathlib.Core.List.{List}
 use native.Mathlib.Omega.{arith}
 use lib.ListN.{length, getD}
-use Rattle.meaning.specs.Limits.{mostRows, mostSegments}
+use Rattle.meaning.specs.Limits.{mostRows, mostSegments, mostNamed, queryNumbers, mostClean}
 use Rattle.meaning.specs.Segment.{segmentCount, bitAt}
 use Rattle.meaning.specs.Index.{rowCount}
 use Rattle.meaning.specs.Laws.{IndexFacts, SoundFacts}
@@ -43,15 +43,15 @@ module _ (index list : List ℕ) where
   pub record Along (ns : List ℕ) (s : Survey) (o : ℕ) : Type 0 where
     pub here : o ≤ S
     pub standing : Standing index list ns (length list) o
-    pub long : length ns ≡ 256
+    pub long : length ns ≡ queryNumbers
     pub surveyed : Surveyed ns (length list) s
 
-  pub along-none : (ns : List ℕ) (s : Survey) → Standing index list ns (length list) 0 → length ns ≡ 256 → Surveyed ns (length list) s → Along ns s 0
+  pub along-none : (ns : List ℕ) (s : Survey) → Standing index list ns (length list) 0 → length ns ≡ queryNumbers → Surveyed ns (length list) s → Along ns s 0
   along-none ns s st n su = record { here = omega arith; standing = st; long = n; surveyed = su }
 
   module _ (f : IndexFacts index) (li : Listed index list) (some : 1 ≤ length list) (ns : List ℕ) (s : Survey) (o : ℕ) (g : Along ns s o) where
     -- a row of a piece is one of a run of ones or of a dirty word, and only a dirty word is counted by rows
-    pub held-low : s .ones + s .dirty ≤ 64
+    pub held-low : s .ones + s .dirty ≤ mostNamed
     held-low =
         omega (
           arith,
@@ -62,7 +62,7 @@ module _ (index list : List ℕ) where
           sum-le (length list) (λ i. onesIn (cursorOf ns i .piece) + dirtyIn (cursorOf ns i .piece)) (λ i h. piece-most (cursorOf ns i .piece) (g .standing i h .in-order .value-low)),
         )
 
-    pub ones-low : s .ones ≤ 64
+    pub ones-low : s .ones ≤ mostNamed
     ones-low = omega (arith, held-low)
 
     pub counts-low : (j : ℕ) → j < 32 → countAt (s .planes) j ≤ s .dirty
@@ -85,7 +85,7 @@ module _ (index list : List ℕ) where
       pub n-some : 1 ≤ s .least
       n-some = least-some index list ns R o s sound (g .standing) (g .surveyed) some l
 
-      pub n-low : s .least ≤ 65535
+      pub n-low : s .least ≤ mostClean
       n-low = least-low index list ns R o s sound (g .standing) (g .surveyed) some l
 
       pub n-left : (i : ℕ) → i < length list → s .least ≤ leftOf (cursorOf ns i .piece)

@@ -10,7 +10,7 @@ use lib.Seq.{ext-getD, getD-set-same, getD-set-other}
 use native.Mathlib.Decide.{ℕ-discrete}
 use native.Mathlib.Omega.{arith}
 use borrow.Author.Tests.{eq-eqb, ne-eqb}
-use Rattle.meaning.specs.Limits.{mostRows}
+use Rattle.meaning.specs.Limits.{mostRows, mostNamed, histogramCounts}
 use Rattle.meaning.specs.Rows.{countBelow}
 use Rattle.meaning.specs.Segment.{isSet, segmentCount, tabulate}
 use Rattle.meaning.specs.Ewah.{rowsOf}
@@ -71,7 +71,7 @@ module _ (counts : List ℕ) (s : Survey) (mask : ℕ) where
             ∙ t c l
             ∙ sym (count-out R (λ k. eqb k c) bodies o (s .least) (s .ones) (s .dirty) (countAt (s .planes)) st z (ne-eqb (s .ones) c (λ q. e (sym q))))
 
-    on-mixed : (s .dirty ≡ 0 → ⊥) → (r : List ℕ) → ((c : ℕ) → c < 65 → getD r c 0 ≡ getD counts c 0 + 1 * rowsAt c)
+    on-mixed : (s .dirty ≡ 0 → ⊥) → (r : List ℕ) → ((c : ℕ) → c < histogramCounts → getD r c 0 ≡ getD counts c 0 + 1 * rowsAt c)
         → Tally R bodies (o + s .least) r
     on-mixed d r g c l =
         let here : o + s .least - 1 ≡ o = omega (arith, st .single d) in
@@ -84,13 +84,13 @@ module _ (counts : List ℕ) (s : Survey) (mask : ℕ) where
               (λ j k. ap (λ (b : Bool). b && eqb (s .ones + countAt (s .planes) j) c) (m .rows j k ∙ ap (λ (i : ℕ). ltb (i * 32 + j) R) here)),
         )
 
-  pub tallied-clean : length counts ≡ 65 → s .ones ≤ 64 → s .dirty ≡ 0 → Tallied counts s mask grown
+  pub tallied-clean : length counts ≡ histogramCounts → s .ones ≤ mostNamed → s .dirty ≡ 0 → Tallied counts s mask grown
   tallied-clean n h z = record {
     long = length-set counts (s .ones) _ ∙ n;
     on = λ R o bodies st m t. on-clean R o bodies st m t z (omega arith);
   }
 
-  pub tallied-mixed : (s .dirty ≡ 0 → ⊥) → (r : List ℕ) → length r ≡ 65 → ((c : ℕ) → c < 65 → getD r c 0 ≡ getD counts c 0 + 1 * rowsAt c)
+  pub tallied-mixed : (s .dirty ≡ 0 → ⊥) → (r : List ℕ) → length r ≡ histogramCounts → ((c : ℕ) → c < histogramCounts → getD r c 0 ≡ getD counts c 0 + 1 * rowsAt c)
       → Tallied counts s mask r
   tallied-mixed d r n g = record { long = n; on = λ R o bodies st m t. on-mixed R o bodies st m t d r g }
 
@@ -112,14 +112,14 @@ module _ (index list : List ℕ) where
 
   pub record Tallying (ns : List ℕ) (s : Survey) (counts : List ℕ) (o : ℕ) : Type 0 where
     pub along : Along index list ns s o
-    pub long : length counts ≡ 65
+    pub long : length counts ≡ histogramCounts
     pub tally : Tally R bodies o counts
 
-  pub tallying-none : (ns : List ℕ) (s : Survey) (counts : List ℕ) → Along index list ns s 0 → length counts ≡ 65 → ((c : ℕ) → c < 65 → getD counts c 0 ≡ 0) → Tallying ns s counts 0
+  pub tallying-none : (ns : List ℕ) (s : Survey) (counts : List ℕ) → Along index list ns s 0 → length counts ≡ histogramCounts → ((c : ℕ) → c < histogramCounts → getD counts c 0 ≡ 0) → Tallying ns s counts 0
   tallying-none ns s counts a n z = record { along = a; long = n; tally = λ c l. omega (arith, z c l, count-le (min R (0 * 32)) (answerRows (λ k. eqb k c) bodies)) }
 
   module _ (ns : List ℕ) (s : Survey) (counts : List ℕ) (o : ℕ) (g : Tallying ns s counts o) where
-    pub tally-low : R ≤ mostRows → (c : ℕ) → c < 65 → getD counts c 0 ≤ mostRows
+    pub tally-low : R ≤ mostRows → (c : ℕ) → c < histogramCounts → getD counts c 0 ≤ mostRows
     tally-low h c l = omega (arith, g .tally c l, count-le (min R (o * 32)) (answerRows (λ k. eqb k c) bodies))
 
     pub tallying-more : (f : IndexFacts index) (li : Listed index list) (some : 1 ≤ length list) (l : o < S) (mask : ℕ) → MaskOf R (o + s .least) mask
@@ -134,5 +134,5 @@ module _ (index list : List ℕ) where
     unfolding histogramOf answerRows
     tallying-all h =
         let end : min R (o * 32) ≡ R = omega (arith, rows-fit 32 (omega arith) R) in
-        tabulated 65 (λ c. countBelow R (answerRows (λ k. eqb k c) bodies)) counts (g .long)
+        tabulated histogramCounts (λ c. countBelow R (answerRows (λ k. eqb k c) bodies)) counts (g .long)
         (λ c l. g .tally c l ∙ ap (λ (k : ℕ). countBelow k (answerRows (λ k′. eqb k′ c) bodies)) end)

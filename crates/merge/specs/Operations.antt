@@ -5,6 +5,7 @@ use mathlib.Core.Bool.{Bool}
 use mathlib.Core.List.{List}
 use lib.Dec.{eqb, leb}
 use lib.ListN.{getD}
+use Rattle.meaning.specs.Limits.{mostNamed}
 use Rattle.merge.specs.declared.evaluate.Operation.{Operation}
 use Rattle.merge.specs.declared.evaluate.Operation.the-variants.{AtLeast, Exactly, Table}
 
@@ -16,6 +17,6 @@ chosen Table table c = eqb (getD table c 0) 1
 
 -- its number is one that a list can reach
 abbrev pub LowNumber : Operation → Type 0
-LowNumber (AtLeast t) = t ≤ 64
-LowNumber (Exactly t) = t ≤ 64
+LowNumber (AtLeast t) = t ≤ mostNamed
+LowNumber (Exactly t) = t ≤ mostNamed
 LowNumber Table = Unit {0}

@@ -5,6 +5,7 @@ use mathlib.Core.Path.{_≡_}
 use mathlib.Core.List.{List}
 use lib.Dec.{eqb}
 use lib.ListN.{length, getD}
+use Rattle.meaning.specs.Limits.{histogramCounts}
 use Rattle.meaning.specs.Rows.{countBelow}
 use Rattle.meaning.specs.Ahead.{StretchAt, answerRows}
 use Rattle.words.specs.Counters.{countAt}
@@ -17,10 +18,10 @@ heldBefore R bodies o c = countBelow (min R (o * 32)) (answerRows (λ k. eqb k c
 
 -- the numbers of the first o segments
 abbrev pub Tally : (R : ℕ) (bodies : List (List ℕ)) (o : ℕ) (counts : List ℕ) → Type 0
-Tally R bodies o counts = (c : ℕ) → c < 65 → getD counts c 0 ≡ heldBefore R bodies o c
+Tally R bodies o counts = (c : ℕ) → c < histogramCounts → getD counts c 0 ≡ heldBefore R bodies o c
 
 -- the stretch that the survey s is of is counted in, wherever it stands and whatever bodies it is over
 pub record Tallied (counts : List ℕ) (s : Survey) (mask : ℕ) (r : List ℕ) : Type 0 where
-  pub long : length r ≡ 65
+  pub long : length r ≡ histogramCounts
   pub on : (R o : ℕ) (bodies : List (List ℕ)) → StretchAt R bodies o (s .least) (s .ones) (s .dirty) (countAt (s .planes)) → MaskOf R (o + s .least) mask
       → Tally R bodies o counts → Tally R bodies (o + s .least) r

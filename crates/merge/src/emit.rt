@@ -3,6 +3,7 @@ ghost use mathlib.Core.Path.{_≡_};
 ghost use mathlib.Core.Bool.{true};
 ghost use Prim.Native.Nat.{_<_, _≤_, _^_};
 ghost use lib.ListN.{length};
+ghost use Rattle.meaning.specs.Limits.{mostClean};
 ghost use Rattle.ewah_write.specs.Drafts.{Writing, RoomFor, Grown, Pushed};
 ghost use Rattle.merge.specs.Parts.{partSegments, PartLow};
 ghost use Rattle.merge.specs.Emitted.{Emitted};
@@ -40,7 +41,7 @@ fn push(out: &mut [u32], w: Writer, part: Part) -> Writer
 // So many segments of ones, and then a word.
 fn push_tail(out: &mut [u32], w: Writer, n: u32, x: u32) -> Writer
     requires { ⌜ RoomFor (partSegments (Part.Tail n x)) w (length (now out)) ⌝ }
-    requires { ⌜ n ≤ 65535 ⌝ }
+    requires { ⌜ n ≤ mostClean ⌝ }
     ensures { λ r. ⌜ Pushed (now (out .entry)) (now (out .exit)) w (partSegments (Part.Tail n x)) r ⌝ }
 {
     let r = writer::push_run(out, w, 1, n);

@@ -3,10 +3,12 @@ ghost use mathlib.Core.Path.{_≡_};
 ghost use Prim.Native.Nat.{ℕ, _+_, _≤_, _<_};
 ghost use lib.Dec.{eqb};
 ghost use lib.ListN.{length, getD};
+ghost use Rattle.meaning.specs.Limits.{mostNamed, histogramCounts};
 ghost use Rattle.meaning.specs.Segment.{isSet, segmentCount};
 ghost use Rattle.words.specs.Counters.{countAt};
 ghost use Rattle.merge.specs.Operations.{chosen, LowNumber};
 ghost use Rattle.merge.specs.Parts.{Evaluated, MaskOf};
+use meaning::PLANES;
 use walk::survey::Survey;
 use words::bits;
 use words::counters;
@@ -43,8 +45,8 @@ fn entry_is_one(table: &[u32], c: u32) -> bool
 }
 
 // The rows of a segment that are in the answer, where base of the list have every row of it, and the counters' number more.
-fn word(op: Operation, table: &[u32], base: u32, planes: [u32; 7]) -> u32
-    requires { ⌜ (base ≤ 64) × (length (now table) ≤ 65) × LowNumber op ⌝ }
+fn word(op: Operation, table: &[u32], base: u32, planes: [u32; PLANES]) -> u32
+    requires { ⌜ (base ≤ mostNamed) × (length (now table) ≤ histogramCounts) × LowNumber op ⌝ }
     ensures { λ r. ⌜ ((j : ℕ) → j < 32 → isSet r j ≡ chosen op (now (table .entry)) (base + countAt planes j)) ⌝ }
 {
     match op {
@@ -84,7 +86,7 @@ pub enum Part {
 
 // The part of the answer in a stretch of n segments, of whose last one the mask has the rows.
 pub fn evaluate(op: Operation, table: &[u32], s: Survey, mask: u32) -> Part
-    requires { ⌜ (length (now table) ≤ 65) × LowNumber op × (s .ones ≤ 64) × (1 ≤ s .least) ⌝ }
+    requires { ⌜ (length (now table) ≤ histogramCounts) × LowNumber op × (s .ones ≤ mostNamed) × (1 ≤ s .least) ⌝ }
     ensures { λ r. ⌜ Evaluated op (now (table .entry)) s mask r ⌝ }
 {
     let n = s.least;

@@ -3,7 +3,7 @@ ghost use mathlib.Core.Path.{_≡_};
 ghost use mathlib.Core.List.{map};
 ghost use Prim.Native.Nat.{ℕ, _+_, _≤_, _<_};
 ghost use lib.ListN.{length, getD};
-ghost use Rattle.meaning.specs.Limits.{mostRows};
+ghost use Rattle.meaning.specs.Limits.{mostRows, mostNamed, histogramCounts, mostClean};
 ghost use Rattle.meaning.specs.Ewah.{rowsOf};
 ghost use Rattle.meaning.specs.Index.{rowCount, bodyAt};
 ghost use Rattle.meaning.specs.Laws.{IndexFacts};
@@ -13,6 +13,7 @@ ghost use Rattle.walk.specs.Queries.{Listed};
 ghost use Rattle.merge.specs.Tallies.{Tallied};
 use crate::evaluate;
 use index::contents;
+use meaning::HISTOGRAM_COUNTS;
 use walk::survey;
 use walk::survey::Survey;
 use words::bits;
@@ -20,8 +21,8 @@ use words::counters;
 use words::rows;
 
 // The numbers with the rows of a stretch counted in, of whose last segment the mask has the rows.
-fn count_stretch(counts: [u32; 65], s: Survey, mask: u32) -> [u32; 65]
-    requires { ⌜ (s .ones + s .dirty ≤ 64) × (1 ≤ s .least) × (s .least ≤ 65535) × ((c : ℕ) → c < 65 → getD counts c 0 ≤ mostRows) × ((j : ℕ) → j < 32 → countAt (s .planes) j ≤ s .dirty) ⌝ }
+fn count_stretch(counts: [u32; HISTOGRAM_COUNTS], s: Survey, mask: u32) -> [u32; HISTOGRAM_COUNTS]
+    requires { ⌜ (s .ones + s .dirty ≤ mostNamed) × (1 ≤ s .least) × (s .least ≤ mostClean) × ((c : ℕ) → c < histogramCounts → getD counts c 0 ≤ mostRows) × ((j : ℕ) → j < 32 → countAt (s .planes) j ≤ s .dirty) ⌝ }
     ensures { λ r. ⌜ Tallied counts s mask r ⌝ }
 {
     let n = s.least;
@@ -37,8 +38,8 @@ fn count_stretch(counts: [u32; 65], s: Survey, mask: u32) -> [u32; 65]
     r
 }
 
-// For each c from 0 to 64 the number of rows that exactly c of the list have.
-pub fn histogram(index: &[u32], list: &[u32]) -> [u32; 65]
+// For each c from 0 to the most that a list can name the number of rows that exactly c of the list have.
+pub fn histogram(index: &[u32], list: &[u32]) -> [u32; HISTOGRAM_COUNTS]
     requires { ⌜ IndexFacts (now index) ⌝ }
     requires { ⌜ Listed (now index) (now list) ⌝ }
     requires { ⌜ 1 ≤ length (now list) ⌝ }
@@ -48,7 +49,7 @@ pub fn histogram(index: &[u32], list: &[u32]) -> [u32; 65]
     let segments = rows::segment_count(rows);
     let mut q = survey::open(index, list);
     let mut s = survey::all(q);
-    let mut counts: [u32; 65] = [0; 65];
+    let mut counts: [u32; HISTOGRAM_COUNTS] = [0; HISTOGRAM_COUNTS];
     let mut o: u32 = 0;
     while o < segments {
         let n = s.least;

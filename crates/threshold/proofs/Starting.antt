@@ -58,7 +58,7 @@ pub all-names : (l : List ℕ) → length l ≡ mostBitmaps → ((k : ℕ) → k
 unfolding allNamed
 all-names l h all = ext-getD 0 l (tabulate mostBitmaps (λ k. k)) (omega (arith, length-tabulate mostBitmaps (λ k. k))) (λ i m. all i m ∙ sym (getD-tabulate mostBitmaps (λ k. k) i (omega arith)))
 
--- the first n of 64
+-- the first n of the most
 first-names : (n : ℕ) → n ≤ mostBitmaps → take n (allNamed mostBitmaps) ≡ allNamed n
 unfolding allNamed
 first-names n h =
@@ -76,7 +76,7 @@ unfolding _then_
 then-same (refused number bitmap word) a b f = refl
 then-same (answer u) a b f = f refl
 
--- more names than 64 are of no account: the index is refused then
+-- more names than the most are of no account: the index is refused then
 module _ (index : List ℕ) (T room n : ℕ) (all : List ℕ) (all-is : all ≡ allNamed mostBitmaps) (n-is : n ≡ min (bitmapCount index) mostBitmaps) where
   pub same-question : threshold index (take n all) T room ≡ threshold index (allNamed (bitmapCount index)) T room
   unfolding threshold check

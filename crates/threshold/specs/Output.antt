@@ -5,6 +5,7 @@ use mathlib.Core.Bool.{Bool, cond, not, _||_}
 use mathlib.Core.List.{List, [], _∷_, _++_}
 use lib.Dec.{eqb, ltb}
 use lib.ListN.{length, getD, drop}
+use Rattle.meaning.specs.Limits.{wordBytes}
 use Rattle.meaning.specs.Rows.{countBelow}
 use Rattle.meaning.specs.Segment.{tabulate}
 use Rattle.meaning.specs.Refusal.{Outcome, refused, answer}
@@ -20,7 +21,7 @@ mostBytes = 65536
 
 -- the words of the answer buffer
 abbrev pub answerRoom : ℕ
-answerRoom = 16384
+answerRoom = mostBytes / wordBytes
 
 -- ---- numbers and lines, in ASCII
 
@@ -109,7 +110,7 @@ wordsOf (a ∷ b ∷ c ∷ d ∷ bytes) = (a + 256 * b + 65536 * c + 16777216 * 
 
 -- they are no whole words, or not even the one of T
 unfoldable pub ragged : (n : ℕ) → Bool
-ragged n = ltb n 4 || not (eqb (n % 4) 0)
+ragged n = ltb n wordBytes || not (eqb (n % wordBytes) 0)
 
 -- of all bytes of the input: too many is tested first, then whether they are words, T among them
 unfoldable pub outputOf : (input : List ℕ) → List ℕ

@@ -1,8 +1,10 @@
 // The program of paper 01: T and an index on standard input, and the rows that at least T of its bitmaps have on standard output.
-ghost use Prim.Native.Nat.{_≤_};
+ghost use Prim.Native.Nat.{_+_, _≤_};
 ghost use mathlib.Core.Path.{_≡_};
 ghost use lib.ListN.{length};
+ghost use Rattle.threshold.specs.Output.{mostBytes};
 ghost use Rattle.threshold.specs.Listings.{Covers};
+use input::MOST_BYTES;
 
 mod input;
 mod listing;
@@ -10,10 +12,10 @@ mod start;
 mod text;
 
 // Room for the longest input, and one byte more.
-fn room() -> [u8; 65537]
-    ensures { λ r. ⌜ 65537 ≡ length r ⌝ }
+fn room() -> [u8; MOST_BYTES + 1]
+    ensures { λ r. ⌜ mostBytes + 1 ≡ length r ⌝ }
 {
-    [0; 65537]
+    [0; MOST_BYTES + 1]
 }
 
 // Writes the lines of a body's set rows, chunk by chunk: each is what comes next of the listing, and all together are the

@@ -8,8 +8,13 @@ ghost use Rattle.meaning.specs.Index.{bitmapCount};
 ghost use Rattle.threshold.specs.Output as output;
 ghost use Rattle.threshold.specs.Listings.{Begins};
 use crate::input;
+use crate::input::ANSWER_ROOM;
+use crate::input::MOST_BYTES;
+use crate::input::WORD_BYTES;
 use crate::text;
 use answers::answer::Answered;
+use meaning::MOST_BITMAPS;
+use meaning::MOST_NAMED;
 
 // The chunk's bytes; the body's words, at the front of the answer buffer; and its rows, none on a refusal.
 pub struct Begun {
@@ -19,34 +24,34 @@ pub struct Begun {
 }
 
 // Room for the words of the input, and for those of the answer.
-pub fn word_room() -> [u32; 16384]
-    ensures { λ r. ⌜ 16384 ≡ length r ⌝ }
+pub fn word_room() -> [u32; ANSWER_ROOM]
+    ensures { λ r. ⌜ output.answerRoom ≡ length r ⌝ }
 {
-    [0; 16384]
+    [0; ANSWER_ROOM]
 }
 
-// Each number below 64.
-fn names() -> [u32; 64]
+// Each number below the most bitmaps.
+fn names() -> [u32; MOST_NAMED]
     ensures { λ r. ⌜ r ≡ output.allNamed mostBitmaps ⌝ }
 {
-    let mut list = [0u32; 64];
+    let mut list = [0u32; MOST_NAMED];
     let mut i = 0;
-    while i < 64 {
+    while i < MOST_NAMED {
         list[i] = i as u32;
         i += 1;
     }
     list
 }
 
-// How many bitmaps to name: as many as the index says, and at most 64, since an index that says more is refused.
+// How many bitmaps to name: as many as the index says, and at most as many as one may have, since an index that says more is refused.
 fn named(index: &[u32]) -> usize
     ensures { λ r. ⌜ r ≡ min (bitmapCount (now (index .entry))) mostBitmaps ⌝ }
 {
     let n = input::word_at(index, 2);
-    if n < 64 {
+    if n < MOST_BITMAPS {
         return n as usize;
     }
-    64
+    MOST_NAMED
 }
 
 // A refusal: its line is all.
@@ -96,10 +101,10 @@ fn question(words: &[u32], answer: &mut [u32], out: &mut [u8]) -> Begun
 fn ragged(n: usize) -> bool
     ensures { λ r. ⌜ r ≡ output.ragged n ⌝ }
 {
-    if n < 4 {
+    if n < WORD_BYTES {
         return true;
     }
-    n % 4 != 0
+    n % WORD_BYTES != 0
 }
 
 // All bytes of the input.
@@ -109,14 +114,14 @@ pub fn begin(input: &[u8], answer: &mut [u32], out: &mut [u8]) -> Begun
     ensures { λ r. ⌜ Begins (output.outputOf (now (input .entry))) (now (answer .exit)) (now (out .entry)) (now (out .exit)) r ⌝ }
 {
     let n = input.len();
-    if 65536 < n {
+    if MOST_BYTES < n {
         return refused(out, 3, 0, 0);
     }
     if ragged(n) {
         return refused(out, 1, 0, 0);
     }
     let mut words = word_room();
-    let end = n / 4;
+    let end = n / WORD_BYTES;
     input::words(input, &mut words[..end]);
     question(&words[..end], answer, out)
 }

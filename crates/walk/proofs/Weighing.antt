@@ -7,7 +7,7 @@ use native.Mathlib.Nat.{zero-div}
 use native.Mathlib.Numerals.{add-one}
 use native.Mathlib.Omega.{arith}
 use lib.ListN.{length, replicate}
-use Rattle.meaning.specs.Limits.{mostNamed}
+use Rattle.meaning.specs.Limits.{mostNamed, counterPlanes}
 use Rattle.meaning.specs.Rows.{sumBelow}
 use Rattle.meaning.specs.Segment.{bitAt}
 use Rattle.meaning.proofs.Sums.{sum-ext, sum-le}
@@ -48,7 +48,7 @@ module _ (s : Survey) (p : code.Piece) where
       }
 
   pub weigh-dirty : (x least : ℕ) (planes : List ℕ) → p ≡ Dirty x → least ≡ min (s .least) 1
-      → (length planes ≡ 7) × ((j : ℕ) → j < 32 → countAt planes j ≡ countAt (s .planes) j + bitAt x j)
+      → (length planes ≡ counterPlanes) × ((j : ℕ) → j < 32 → countAt planes j ≡ countAt (s .planes) j + bitAt x j)
       → Weighed s p (record { least = least; ones = s .ones; dirty = s .dirty + 1; planes = planes })
   weigh-dirty x least planes e l a =
       record {
@@ -67,9 +67,9 @@ unfolding countAt bitAt
 count-zero zero j = refl
 count-zero (suc k) j = rw (zero-div, count-zero k j)
 
-pub surveyed-none : (ns : List ℕ) → Surveyed ns 0 (record { least = 4294967295; ones = 0; dirty = 0; planes = replicate 7 0 })
+pub surveyed-none : (ns : List ℕ) → Surveyed ns 0 (record { least = 4294967295; ones = 0; dirty = 0; planes = replicate counterPlanes 0 })
 unfolding leastBelow sumBelow
-surveyed-none ns = record { least-is = refl; ones-is = refl; dirty-is = refl; long = refl; counts = λ j h. count-zero 7 j }
+surveyed-none ns = record { least-is = refl; ones-is = refl; dirty-is = refl; long = refl; counts = λ j h. count-zero counterPlanes j }
 
 least-ext : (m : ℕ) (f g : ℕ → ℕ) → ((i : ℕ) → i < m → f i ≡ g i) → leastBelow m f ≡ leastBelow m g
 unfolding leastBelow

@@ -6,7 +6,7 @@ use mathlib.Core.Path.{_≡_}
 use mathlib.Core.List.{List, []}
 use lib.Dec.{eqb}
 use lib.ListN.{length, getD}
-use Rattle.meaning.specs.Limits.{mostNamed}
+use Rattle.meaning.specs.Limits.{mostNamed, placeNumbers}
 use Rattle.meaning.specs.Index.{bitmapCount, bodyAt}
 use Rattle.meaning.specs.Ahead.{Ahead}
 use Rattle.ewah.specs.declared.cursor.Cursor.{Cursor}
@@ -31,9 +31,9 @@ pieceOf tag number = cond (eqb tag 2) (Dirty number) (Clean tag number)
 unfoldable pub cursorOf : List ℕ → ℕ → Cursor
 unfolding pieceOf
 cursorOf ns i = record {
-  piece = pieceOf (getD ns (4 * i) 0) (getD ns (4 * i + 1) 0);
-  next = getD ns (4 * i + 2) 0;
-  dirty = getD ns (4 * i + 3) 0;
+  piece = pieceOf (getD ns (placeNumbers * i) 0) (getD ns (placeNumbers * i + 1) 0);
+  next = getD ns (placeNumbers * i + 2) 0;
+  dirty = getD ns (placeNumbers * i + 3) 0;
 }
 
 -- the cursor c was put at place i, and the other places stay

@@ -4,7 +4,7 @@ use Prim.Native.Nat.{ℕ, zero, suc, _+_, _<_, min}
 use mathlib.Core.Path.{_≡_}
 use mathlib.Core.List.{List}
 use lib.ListN.{length}
-use Rattle.meaning.specs.Limits.{mostNamed}
+use Rattle.meaning.specs.Limits.{mostNamed, counterPlanes}
 use Rattle.meaning.specs.Rows.{sumBelow}
 use Rattle.meaning.specs.Segment.{bitAt}
 use Rattle.ewah.specs.declared.cursor.Piece as code
@@ -38,7 +38,7 @@ leastBelow (suc m) f = min (leastBelow m f) (f m)
 pub record Room (s : Survey) : Type 0 where
   pub ones-low : s .ones < mostNamed
   pub dirty-low : s .dirty < mostNamed
-  pub long : length (s .planes) ≡ 7
+  pub long : length (s .planes) ≡ counterPlanes
   pub counts-low : (j : ℕ) → j < 32 → countAt (s .planes) j < mostNamed
 
 -- from s to r one piece was counted in
@@ -46,7 +46,7 @@ pub record Weighed (s : Survey) (p : code.Piece) (r : Survey) : Type 0 where
   pub least-is : r .least ≡ min (s .least) (leftOf p)
   pub ones-is : r .ones ≡ s .ones + onesIn p
   pub dirty-is : r .dirty ≡ s .dirty + dirtyIn p
-  pub long : length (r .planes) ≡ 7
+  pub long : length (r .planes) ≡ counterPlanes
   pub counts : (j : ℕ) → j < 32 → countAt (r .planes) j ≡ countAt (s .planes) j + bitIn p j
 
 -- s is the survey of the first m places
@@ -54,7 +54,7 @@ pub record Surveyed (ns : List ℕ) (m : ℕ) (s : Survey) : Type 0 where
   pub least-is : s .least ≡ leastBelow m (λ i. leftOf (cursorOf ns i .piece))
   pub ones-is : s .ones ≡ sumBelow m (λ i. onesIn (cursorOf ns i .piece))
   pub dirty-is : s .dirty ≡ sumBelow m (λ i. dirtyIn (cursorOf ns i .piece))
-  pub long : length (s .planes) ≡ 7
+  pub long : length (s .planes) ≡ counterPlanes
   pub counts : (j : ℕ) → j < 32 → countAt (s .planes) j ≡ sumBelow m (λ i. bitIn (cursorOf ns i .piece) j)
 
 -- the cursor at place i of a body b went n segments on, from any segment o, and its piece was counted in

@@ -2,25 +2,28 @@
 ghost use mathlib.Core.Path.{_≡_};
 ghost use Prim.Native.Nat.{_<_};
 ghost use lib.ListN.{length};
+ghost use Rattle.meaning.specs.Limits.{mostNamed, queryNumbers};
 ghost use Rattle.ewah.specs.Cursors.{ValueLow};
 ghost use Rattle.walk.specs.Queries.{cursorOf, tagOf, numberOf, Stored};
 use ewah::cursor::Cursor;
 use ewah::cursor::Piece;
 use index::contents;
+use meaning::PLACE_NUMBERS;
+use meaning::QUERY_NUMBERS;
 
-// Four numbers for each of up to 64 places: what the cursor's piece is (its clean value, or 2 for a dirty word), what is left of
+// Four numbers for each place of a list: what the cursor's piece is (its clean value, or 2 for a dirty word), what is left of
 // the run or the word, the next word, and the dirty words due there.
 pub struct Query {
-    pub numbers: [u32; 256],
+    pub numbers: [u32; QUERY_NUMBERS],
     pub len: usize,
 }
 
 // The cursor at place i.
-pub fn cursor_at(numbers: &[u32; 256], i: usize) -> Cursor
-    requires { ⌜ (i < 64) × (length (now numbers) ≡ 256) ⌝ }
+pub fn cursor_at(numbers: &[u32; QUERY_NUMBERS], i: usize) -> Cursor
+    requires { ⌜ (i < mostNamed) × (length (now numbers) ≡ queryNumbers) ⌝ }
     ensures { λ r. ⌜ r ≡ cursorOf (now (numbers .entry)) i ⌝ }
 {
-    let at = 4 * i;
+    let at = PLACE_NUMBERS * i;
     let tag = numbers[at];
     let x = numbers[at + 1];
     let next = contents::wide(numbers[at + 2]);
@@ -60,14 +63,14 @@ fn number(piece: Piece) -> u32
 }
 
 // A cursor put at place i; the other places stay.
-pub fn set_cursor(numbers: &mut [u32; 256], i: usize, c: Cursor)
-    requires { ⌜ (i < 64) × (length (now numbers) ≡ 256) × (c .next < 4294967296) × ValueLow (c .piece) ⌝ }
+pub fn set_cursor(numbers: &mut [u32; QUERY_NUMBERS], i: usize, c: Cursor)
+    requires { ⌜ (i < mostNamed) × (length (now numbers) ≡ queryNumbers) × (c .next < 4294967296) × ValueLow (c .piece) ⌝ }
     ensures { λ _. ⌜ Stored (now (numbers .entry)) i c (now (numbers .exit)) ⌝ }
 {
     let piece = c.piece;
     let next = c.next as u32;
     let dirty = c.dirty;
-    let at = 4 * i;
+    let at = PLACE_NUMBERS * i;
     numbers[at] = tag(piece);
     numbers[at + 1] = number(piece);
     numbers[at + 2] = next;

@@ -3,7 +3,7 @@ ghost use mathlib.Core.Path.{_≡_};
 ghost use mathlib.Core.List.{List};
 ghost use Prim.Native.Nat.{ℕ, _≤_, _<_, min};
 ghost use lib.ListN.{length, getD};
-ghost use Rattle.meaning.specs.Limits.{mostNamed};
+ghost use Rattle.meaning.specs.Limits.{mostNamed, queryNumbers};
 ghost use Rattle.meaning.specs.Laws.{HeadFacts, EntryFacts};
 ghost use Rattle.meaning.specs.Index.{bitmapCount, bodyAt};
 ghost use Rattle.ewah.specs.Cursors.{ValueLow, InOrder, leftOf};
@@ -14,6 +14,8 @@ use crate::query::Query;
 use ewah::cursor;
 use ewah::cursor::Piece;
 use index::contents;
+use meaning::PLANES;
+use meaning::QUERY_NUMBERS;
 use words::counters;
 
 // The fewest segments that a piece has left, the places in a run of ones, those on a dirty word, and for each row the dirty words
@@ -22,7 +24,7 @@ pub struct Survey {
     pub least: u32,
     pub ones: u32,
     pub dirty: u32,
-    pub planes: [u32; 7],
+    pub planes: [u32; PLANES],
 }
 
 // Of no places.
@@ -33,7 +35,7 @@ pub fn nothing() -> Survey
         least: 0xFFFF_FFFF,
         ones: 0,
         dirty: 0,
-        planes: [0; 7],
+        planes: [0; PLANES],
     }
 }
 
@@ -71,14 +73,14 @@ fn weigh(s: Survey, piece: Piece) -> Survey
 fn move_place(
     index: &[u32],
     k: u32,
-    numbers: &mut [u32; 256],
+    numbers: &mut [u32; QUERY_NUMBERS],
     i: usize,
     n: u32,
     s: Survey,
 ) -> Survey
     requires { ⌜ HeadFacts (now index) ⌝ }
     requires { ⌜ EntryFacts (now index) ⌝ }
-    requires { ⌜ (k < bitmapCount (now index)) × (i < 64) × (length (now numbers) ≡ 256) × (1 ≤ n) × (n ≤ leftOf (cursorOf (now numbers) i .piece)) ⌝ }
+    requires { ⌜ (k < bitmapCount (now index)) × (i < mostNamed) × (length (now numbers) ≡ queryNumbers) × (1 ≤ n) × (n ≤ leftOf (cursorOf (now numbers) i .piece)) ⌝ }
     requires { ⌜ InOrder (bodyAt (now index) k) (cursorOf (now numbers) i) ⌝ }
     requires { ⌜ Room s ⌝ }
     ensures { λ r. ⌜ Moved (bodyAt (now (index .entry)) k) (now (numbers .entry)) i n (now (numbers .exit)) s r ⌝ }
@@ -91,11 +93,11 @@ fn move_place(
 }
 
 // Every cursor goes n segments on.
-pub fn advance(index: &[u32], list: &[u32], numbers: &mut [u32; 256], n: u32) -> Survey
+pub fn advance(index: &[u32], list: &[u32], numbers: &mut [u32; QUERY_NUMBERS], n: u32) -> Survey
     requires { ⌜ HeadFacts (now index) ⌝ }
     requires { ⌜ EntryFacts (now index) ⌝ }
     requires { ⌜ Listed (now index) (now list) ⌝ }
-    requires { ⌜ (length (now numbers) ≡ 256) × (1 ≤ n) × ((i : ℕ) → i < length (now list) → (n ≤ leftOf (cursorOf (now numbers) i .piece)) × InOrder (bodyAt (now index) (getD (now list) i 0)) (cursorOf (now numbers) i)) ⌝ }
+    requires { ⌜ (length (now numbers) ≡ queryNumbers) × (1 ≤ n) × ((i : ℕ) → i < length (now list) → (n ≤ leftOf (cursorOf (now numbers) i .piece)) × InOrder (bodyAt (now index) (getD (now list) i 0)) (cursorOf (now numbers) i)) ⌝ }
     ensures { λ r. ⌜ MovedAll (now (index .entry)) (now (list .entry)) (now (numbers .entry)) n (now (numbers .exit)) r ⌝ }
 {
     let mut s = nothing();
@@ -113,10 +115,10 @@ pub fn open(index: &[u32], list: &[u32]) -> Query
     requires { ⌜ HeadFacts (now index) ⌝ }
     requires { ⌜ EntryFacts (now index) ⌝ }
     requires { ⌜ Listed (now index) (now list) ⌝ }
-    ensures { λ r. ⌜ (r .len ≡ length (now (list .entry))) × (length (r .numbers) ≡ 256) × Standing (now (index .entry)) (now (list .entry)) (r .numbers) (length (now (list .entry))) 0 ⌝ }
+    ensures { λ r. ⌜ (r .len ≡ length (now (list .entry))) × (length (r .numbers) ≡ queryNumbers) × Standing (now (index .entry)) (now (list .entry)) (r .numbers) (length (now (list .entry))) 0 ⌝ }
 {
     let mut q = Query {
-        numbers: [0; 256],
+        numbers: [0; QUERY_NUMBERS],
         len: list.len(),
     };
     let mut i: usize = 0;
@@ -130,7 +132,7 @@ pub fn open(index: &[u32], list: &[u32]) -> Query
 
 // The survey of all places.
 pub fn all(q: Query) -> Survey
-    requires { ⌜ (q .len ≤ mostNamed) × (length (q .numbers) ≡ 256) × ((i : ℕ) → i < q .len → ValueLow (cursorOf (q .numbers) i .piece)) ⌝ }
+    requires { ⌜ (q .len ≤ mostNamed) × (length (q .numbers) ≡ queryNumbers) × ((i : ℕ) → i < q .len → ValueLow (cursorOf (q .numbers) i .piece)) ⌝ }
     ensures { λ r. ⌜ Surveyed (q .numbers) (q .len) r ⌝ }
 {
     let mut s = nothing();

@@ -1,22 +1,25 @@
-// A counter of seven bits for each of the 32 rows of a segment, in seven planes: bit k of the counter of row j is bit j of planes[k].
+// A counter of a few bits for each of the 32 rows of a segment, in planes: bit k of the counter of row j is bit j of planes[k].
 ghost use mathlib.Core.Path.{_≡_};
 ghost use mathlib.Core.Bool.{_&&_};
 ghost use Prim.Native.Nat.{ℕ, _+_, _*_, _≤_, _<_};
 ghost use lib.Dec.{leb, eqb};
 ghost use lib.ListN.{length, getD};
+ghost use Rattle.meaning.specs.Limits.{mostNamed, histogramCounts, counterPlanes, mostCounted, mostRows, mostSegments};
 ghost use Rattle.meaning.specs.Rows.{countBelow};
 ghost use Rattle.meaning.specs.Segment.{bitAt, isSet};
 ghost use Rattle.words.specs.Counters.{countAt};
 use crate::bits;
+use meaning::HISTOGRAM_COUNTS;
+use meaning::PLANES;
 
 // One more for each row of a word: a carry goes up the planes until it is empty.
-pub fn add(planes: [u32; 7], x: u32) -> [u32; 7]
-    requires { ⌜ ((j : ℕ) → j < 32 → countAt planes j < 127) ⌝ }
-    ensures { λ r. ⌜ (length r ≡ 7) × ((j : ℕ) → j < 32 → countAt r j ≡ countAt planes j + bitAt x j) ⌝ }
+pub fn add(planes: [u32; PLANES], x: u32) -> [u32; PLANES]
+    requires { ⌜ ((j : ℕ) → j < 32 → countAt planes j < mostCounted) ⌝ }
+    ensures { λ r. ⌜ (length r ≡ counterPlanes) × ((j : ℕ) → j < 32 → countAt r j ≡ countAt planes j + bitAt x j) ⌝ }
 {
     let mut r = planes;
     let mut carry = x;
-    for k in 0..7 {
+    for k in 0..PLANES {
         if carry == 0 {
             return r;
         }
@@ -28,12 +31,12 @@ pub fn add(planes: [u32; 7], x: u32) -> [u32; 7]
 }
 
 // The rows whose counter is at least t.
-pub fn at_least(planes: [u32; 7], t: u32) -> u32
-    requires { ⌜ t ≤ 127 ⌝ }
+pub fn at_least(planes: [u32; PLANES], t: u32) -> u32
+    requires { ⌜ t ≤ mostCounted ⌝ }
     ensures { λ r. ⌜ ((j : ℕ) → j < 32 → isSet r j ≡ leb t (countAt planes j)) ⌝ }
 {
     let mut r: u32 = 0xFFFF_FFFF;
-    for k in 0..7 {
+    for k in 0..PLANES {
         if (t >> k) & 1 == 1 {
             r = r & planes[k];
         } else {
@@ -44,12 +47,12 @@ pub fn at_least(planes: [u32; 7], t: u32) -> u32
 }
 
 // The rows whose counter is t.
-pub fn equals(planes: [u32; 7], t: u32) -> u32
-    requires { ⌜ t ≤ 127 ⌝ }
+pub fn equals(planes: [u32; PLANES], t: u32) -> u32
+    requires { ⌜ t ≤ mostCounted ⌝ }
     ensures { λ r. ⌜ ((j : ℕ) → j < 32 → isSet r j ≡ eqb (countAt planes j) t) ⌝ }
 {
     let mut r: u32 = 0xFFFF_FFFF;
-    for k in 0..7 {
+    for k in 0..PLANES {
         if (t >> k) & 1 == 1 {
             r = r & planes[k];
         } else {
@@ -60,8 +63,8 @@ pub fn equals(planes: [u32; 7], t: u32) -> u32
 }
 
 // The rows at whose count the table says 1, where base more bitmaps have every row.
-pub fn by_table(planes: [u32; 7], base: u32, table: &[u32]) -> u32
-    requires { ⌜ (base ≤ 64) × (length (now table) ≤ 65) ⌝ }
+pub fn by_table(planes: [u32; PLANES], base: u32, table: &[u32]) -> u32
+    requires { ⌜ (base ≤ mostNamed) × (length (now table) ≤ histogramCounts) ⌝ }
     ensures { λ r. ⌜ ((j : ℕ) → j < 32 → isSet r j ≡ eqb (getD (now (table .entry)) (base + countAt planes j) 0) 1) ⌝ }
 {
     let mut r: u32 = 0;
@@ -79,15 +82,15 @@ pub fn by_table(planes: [u32; 7], base: u32, table: &[u32]) -> u32
 // How many rows have each count, with each row of the mask counted so many times more, where base more bitmaps have every row and no
 // counter passes `most`: only the counts from base to base + most can grow.
 pub fn add_to_histogram(
-    counts: [u32; 65],
-    planes: [u32; 7],
+    counts: [u32; HISTOGRAM_COUNTS],
+    planes: [u32; PLANES],
     base: u32,
     most: u32,
     mask: u32,
     times: u32,
-) -> [u32; 65]
-    requires { ⌜ (base + most ≤ 64) × (times ≤ 524288) × ((c : ℕ) → c < 65 → getD counts c 0 ≤ 16777216) × ((j : ℕ) → j < 32 → countAt planes j ≤ most) ⌝ }
-    ensures { λ r. ⌜ (length r ≡ 65) × ((c : ℕ) → c < 65 → getD r c 0 ≡ getD counts c 0 + times * countBelow 32 (λ j. isSet mask j && eqb (base + countAt planes j) c)) ⌝ }
+) -> [u32; HISTOGRAM_COUNTS]
+    requires { ⌜ (base + most ≤ mostNamed) × (times ≤ mostSegments) × ((c : ℕ) → c < histogramCounts → getD counts c 0 ≤ mostRows) × ((j : ℕ) → j < 32 → countAt planes j ≤ most) ⌝ }
+    ensures { λ r. ⌜ (length r ≡ histogramCounts) × ((c : ℕ) → c < histogramCounts → getD r c 0 ≡ getD counts c 0 + times * countBelow 32 (λ j. isSet mask j && eqb (base + countAt planes j) c)) ⌝ }
 {
     let mut r = counts;
     let from = base as usize;

@@ -78,7 +78,7 @@ partCode index k =
       length = ifAnswered (bitmapRefusal index k) (lengthOf index k);
     }
 
--- the 65 numbers, zeros on a refusal
+-- the numbers, zeros on a refusal
 abbrev pub histogramCode : Outcome (List ℕ) → ZvHistogram
 histogramCode o = record { number = numberIn o; bitmap = bitmapIn o; word = wordIn o; counts = histogramReported o }
 

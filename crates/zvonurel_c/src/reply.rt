@@ -3,6 +3,7 @@
 ghost use mathlib.Core.Path.{_≡_};
 ghost use Rattle.answers.specs.Told.{verdictOf, flagOf, numberOf};
 ghost use Rattle.zvonurel_c.specs.Exported.{checkedCode, flagCode, numberCode, writtenReply, answeredReply, partReply, histogramReply};
+use meaning::HISTOGRAM_COUNTS;
 use zvonurel::Answered;
 use zvonurel::Checked;
 use zvonurel::Flag;
@@ -62,13 +63,13 @@ pub struct ZvPart {
     pub length: u64,
 }
 
-// `counts` has for each c from 0 to 64 how many rows exactly c of the list have; all 0 on a refusal.
+// `counts` has for each c from 0 to the most that a list can name how many rows exactly c of the list have; all 0 on a refusal.
 #[repr(C)]
 pub struct ZvHistogram {
     pub number: u32,
     pub bitmap: u32,
     pub word: u64,
-    pub counts: [u32; 65],
+    pub counts: [u32; HISTOGRAM_COUNTS],
 }
 
 pub fn checked(told: Checked) -> ZvChecked

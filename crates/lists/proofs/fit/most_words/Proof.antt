@@ -16,6 +16,12 @@ segment-count-requires c κs = omega (arith, c .rows .ensures, c .before .before
 wide-requires : tie.Need-wide-requires
 wide-requires c κs = search needs
 
+cast-result : tie.Need-cast-result
+cast-result c = search needs
+
+div-result : tie.Need-div-result
+div-result c = search needs
+
 add-result : tie.Need-add-result
 add-result c = omega (arith, c .wide .ensures .1)
 
@@ -30,4 +36,4 @@ returns c = λ list table op.
 pub most-words-spec : {M : Type 1} → statement M
 most-words-spec =
     tie.close
-    (tie.spec rows-requires segment-count-requires wide-requires add-result add-result-2 returns)
+    (tie.spec rows-requires segment-count-requires wide-requires cast-result div-result add-result add-result-2 returns)

@@ -1,5 +1,5 @@
 use denote.Ref.{now}
-use mathlib.Core.Bool.{false≢true}
+use Rattle.lists.proofs.Fitting.{not-stored}
 use Rattle.lists.proofs.Listing.{measured-none, measured-room, measured-words}
 use borrow.Author.Needs.{needs}
 use Rattle.lists.proofs.fit.write_answer.Statement.{statement}
@@ -23,7 +23,7 @@ returns c = search needs
 merge-requires : tie.Need-merge-requires
 merge-requires c κs =
     let s = c .before .before .before .before .before .before .before in
-    (s .pre .0, (s .pre .1 .0, (s .pre .1 .1, λ e. absurd (false≢true e))))
+    (s .pre .0, (s .pre .1 .0, (s .pre .1 .1, λ e. not-stored (now (s .args .index)) (now (s .args .list)) (s .args .op) (now (s .args .table)) (now (s .args .out)) e)))
 
 no-room-requires : tie.Need-no-room-requires
 no-room-requires c κs = search needs

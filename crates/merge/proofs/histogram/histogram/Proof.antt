@@ -5,6 +5,7 @@ use Prim.Native.Nat.{ℕ, _+_, _-_, _≤_, _<_}
 use mathlib.Core.Path.{_≡_, ap, _∙_, subst}
 use lib.ListN.{length-replicate, getD-replicate}
 use denote.Ref.{now}
+use Rattle.meaning.specs.Limits.{histogramCounts, mostClean}
 use Rattle.meaning.specs.Segment.{segmentCount}
 use Rattle.meaning.specs.Index.{rowCount}
 use Rattle.walk.specs.Surveys.{Surveyed}
@@ -35,7 +36,7 @@ module _ (i : tie.In-loop Inv-loop μ-loop) where
       let s = i .before .before .before .before .before .before .before .before in
       n-some (now (s .args .index)) (now (s .args .list)) (s .pre .0) (s .pre .1 .0) (s .pre .1 .1) (l .q .numbers) (l .s) (l .o) (l .inv .along) inside
 
-  low-of : i .before .loop .s .least ≤ 65535
+  low-of : i .before .loop .s .least ≤ mostClean
   low-of =
       let l = i .before .loop in
       let s = i .before .before .before .before .before .before .before .before in
@@ -77,7 +78,7 @@ loop-holds c =
     let e = c .before .«open» .ensures in
     tallying-none (now (a .index)) (now (a .list)) _ _ _
     (along-none (now (a .index)) (now (a .list)) _ _ (e .2) (e .1) (subst (λ (m : ℕ). Surveyed (c .before .«open» .result .numbers) m (c .all .result)) (e .0) (c .all .ensures)))
-    (length-replicate {A = ℕ} 65 0) (λ k h. getD-replicate {A = ℕ} 65 k 0 0 h)
+    (length-replicate {A = ℕ} histogramCounts 0) (λ k h. getD-replicate {A = ℕ} histogramCounts k 0 0 h)
 
 add-mask-before : tie.Need-add-mask-before Inv-loop μ-loop
 add-mask-before c = omega (arith, fits c)

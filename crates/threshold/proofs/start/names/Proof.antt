@@ -3,6 +3,7 @@
 use Prim.Native.Nat.{ℕ, _-_, _≤_, _<_}
 use mathlib.Core.Path.{_≡_, refl}
 use lib.ListN.{length, getD, length-set}
+use Rattle.meaning.specs.Limits.{mostNamed}
 use Rattle.threshold.proofs.Starting.{name-more, all-names}
 use borrow.Author.Needs.{needs}
 use native.Mathlib.Omega.{arith}
@@ -10,10 +11,10 @@ use Rattle.threshold.proofs.start.names.Statement.{statement}
 use Rattle.threshold.proofs.start.names.Tie as tie
 
 abbrev Inv-loop : tie.InvT-loop
-Inv-loop list₀ i₀ list i = (i ≤ 64) × (length list ≡ 64) × ((k : ℕ) → k < i → getD list k 0 ≡ k)
+Inv-loop list₀ i₀ list i = (i ≤ mostNamed) × (length list ≡ mostNamed) × ((k : ℕ) → k < i → getD list k 0 ≡ k)
 
 abbrev μ-loop : tie.MeasureT-loop
-μ-loop list₀ i₀ list i = 64 - i
+μ-loop list₀ i₀ list i = mostNamed - i
 
 loop-holds : tie.Need-loop-holds Inv-loop μ-loop
 loop-holds c = (omega arith, refl, λ k l. absurd (omega arith))

@@ -4,6 +4,7 @@ use mathlib.Core.Path.{_≡_, refl, _∙_}
 use Prim.Native.Nat.{_-_, _≤_}
 use denote.Ref.{now}
 use lib.ListN.{length, getD}
+use Rattle.meaning.specs.Limits.{queryNumbers}
 use Rattle.walk.specs.Queries.{Standing, placeBody}
 use Rattle.walk.proofs.Places.{next-low, opened, standing-more}
 use borrow.Author.Needs.{needs}
@@ -12,7 +13,7 @@ use Rattle.walk.proofs.survey.open.Statement.{statement}
 use Rattle.walk.proofs.survey.open.Tie as tie
 
 abbrev Inv-loop : tie.InvT-loop
-Inv-loop index list q₀ i₀ q i = (i ≤ length list) × (q .len ≡ length list) × (length (q .numbers) ≡ 256) × Standing index list (q .numbers) i 0
+Inv-loop index list q₀ i₀ q i = (i ≤ length list) × (q .len ≡ length list) × (length (q .numbers) ≡ queryNumbers) × Standing index list (q .numbers) i 0
 
 abbrev μ-loop : tie.MeasureT-loop
 μ-loop index list q₀ i₀ q i = length list - i

@@ -2,6 +2,7 @@
 -- Assumes nothing.
 use mathlib.Core.Path.{_≡_}
 use Prim.Native.Nat.{_-_, _≤_}
+use Rattle.meaning.specs.Limits.{counterPlanes}
 use Rattle.words.proofs.CounterLaws.{Added, added-none, added-more, added-early, added-all}
 use borrow.Author.Needs.{needs}
 use native.Mathlib.Omega.{arith}
@@ -9,10 +10,10 @@ use Rattle.words.proofs.counters.add.Statement.{statement}
 use Rattle.words.proofs.counters.add.Tie as tie
 
 abbrev Inv-loop : tie.InvT-loop
-Inv-loop x r₀ carry₀ k₀ r carry k = (k ≤ 7) × Added r₀ x r carry k
+Inv-loop x r₀ carry₀ k₀ r carry k = (k ≤ counterPlanes) × Added r₀ x r carry k
 
 abbrev μ-loop : tie.MeasureT-loop
-μ-loop x r₀ carry₀ k₀ r carry k = 7 - k
+μ-loop x r₀ carry₀ k₀ r carry k = counterPlanes - k
 
 loop-holds : tie.Need-loop-holds Inv-loop μ-loop
 loop-holds c = (search needs, added-none _ _)
@@ -48,7 +49,7 @@ loop-again c =
 returns-2 : tie.Need-returns-2 Inv-loop μ-loop
 returns-2 c =
     let h = c .before .loop in
-    let k-is : h .k ≡ 7 = omega arith in
+    let k-is : h .k ≡ counterPlanes = omega arith in
     (search needs, λ j l. added-all (rw k-is at (h .inv .1)) j (omega (arith, c .before .before .pre j l)))
 
 pub add-spec : {M : Type 1} → statement M

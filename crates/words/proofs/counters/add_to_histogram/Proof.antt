@@ -10,6 +10,7 @@ use borrow.Author.Tests.{ne-eqb}
 use lib.Bits.{bitAnd}
 use lib.Dec.{eqb}
 use lib.ListN.{getD}
+use Rattle.meaning.specs.Limits.{mostRows}
 use Rattle.meaning.specs.Rows.{countBelow}
 use Rattle.meaning.specs.Segment.{isSet}
 use Rattle.meaning.proofs.Counting.{count-ext, count-le}
@@ -87,7 +88,7 @@ count-requires : tie.Need-count-requires Inv-loop μ-loop
 count-requires c κs = search needs
 
 -- what is added is no more than all the rows that there can be
-added-most : (c : tie.After-count Inv-loop μ-loop) → c .before .before .before .before .args .times * c .count .result ≤ 16777216
+added-most : (c : tie.After-count Inv-loop μ-loop) → c .before .before .before .before .args .times * c .count .result ≤ mostRows
 added-most c =
     let s = c .before .before .before .before in
     let rows = bitAnd (s .args .mask) (c .before .equals .result) in

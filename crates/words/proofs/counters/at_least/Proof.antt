@@ -6,6 +6,7 @@ use mathlib.Core.Logic.{⊎-elim}
 use Prim.Native.Nat.{ℕ, _-_, _/_, _^_, _≤_}
 use lib.Bits.{and-mask}
 use lib.ListN.{getD}
+use Rattle.meaning.specs.Limits.{counterPlanes}
 use Rattle.meaning.specs.Segment.{isSet}
 use Rattle.words.specs.Counters.{countAt}
 use Rattle.words.proofs.BitLaws.{and-set, or-set}
@@ -16,10 +17,10 @@ use Rattle.words.proofs.counters.at_least.Statement.{statement}
 use Rattle.words.proofs.counters.at_least.Tie as tie
 
 abbrev Inv-loop : tie.InvT-loop
-Inv-loop t planes r₀ k₀ r k = (k ≤ 7) × Compared reaches 32 planes t r k
+Inv-loop t planes r₀ k₀ r k = (k ≤ counterPlanes) × Compared reaches 32 planes t r k
 
 abbrev μ-loop : tie.MeasureT-loop
-μ-loop t planes r₀ k₀ r k = 7 - k
+μ-loop t planes r₀ k₀ r k = counterPlanes - k
 
 loop-holds : tie.Need-loop-holds Inv-loop μ-loop
 loop-holds c = (search needs, compared-none reaches 32 _ _)
@@ -67,8 +68,8 @@ returns : tie.Need-returns Inv-loop μ-loop
 returns c j l =
     let h = c .before .loop in
     let a = c .before .before .args in
-    let k-is : h .k ≡ 7 = omega arith in
-    sym (reaches-flag (isSet (h .r) j)) ∙ compared-all reaches 32 (a .t1) (a .t) (h .r) 7 (omega arith) (omega arith) (rw k-is at (h .inv .1)) j l ∙ reaches-is (a .t) (countAt (a .t1) j)
+    let k-is : h .k ≡ counterPlanes = omega arith in
+    sym (reaches-flag (isSet (h .r) j)) ∙ compared-all reaches 32 (a .t1) (a .t) (h .r) counterPlanes (omega arith) (omega arith) (rw k-is at (h .inv .1)) j l ∙ reaches-is (a .t) (countAt (a .t1) j)
 
 pub at-least-spec : {M : Type 1} → statement M
 at-least-spec =

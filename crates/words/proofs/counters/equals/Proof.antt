@@ -8,6 +8,7 @@ use lib.Bits.{and-mask}
 use lib.ListN.{getD}
 use mir.Syntax.{w32}
 use mir.Val.{Fits}
+use Rattle.meaning.specs.Limits.{counterPlanes}
 use Rattle.meaning.specs.Segment.{isSet}
 use Rattle.words.proofs.BitLaws.{and-set, and-not-set}
 use Rattle.words.proofs.CounterLaws.{Compared, compared-none, compared-more, compared-all, agrees, agrees-one, agrees-zero}
@@ -17,10 +18,10 @@ use Rattle.words.proofs.counters.equals.Statement.{statement}
 use Rattle.words.proofs.counters.equals.Tie as tie
 
 abbrev Inv-loop : tie.InvT-loop
-Inv-loop t planes r₀ k₀ r k = (k ≤ 7) × Compared agrees 32 planes t r k
+Inv-loop t planes r₀ k₀ r k = (k ≤ counterPlanes) × Compared agrees 32 planes t r k
 
 abbrev μ-loop : tie.MeasureT-loop
-μ-loop t planes r₀ k₀ r k = 7 - k
+μ-loop t planes r₀ k₀ r k = counterPlanes - k
 
 loop-holds : tie.Need-loop-holds Inv-loop μ-loop
 loop-holds c = (search needs, compared-none agrees 32 _ _)
@@ -69,8 +70,8 @@ returns : tie.Need-returns Inv-loop μ-loop
 returns c j l =
     let h = c .before .loop in
     let a = c .before .before .args in
-    let k-is : h .k ≡ 7 = omega arith in
-    sym (and-true (isSet (h .r) j)) ∙ compared-all agrees 32 (a .t1) (a .t) (h .r) 7 (omega arith) (omega arith) (rw k-is at (h .inv .1)) j l
+    let k-is : h .k ≡ counterPlanes = omega arith in
+    sym (and-true (isSet (h .r) j)) ∙ compared-all agrees 32 (a .t1) (a .t) (h .r) counterPlanes (omega arith) (omega arith) (rw k-is at (h .inv .1)) j l
 
 pub equals-spec : {M : Type 1} → statement M
 equals-spec =
