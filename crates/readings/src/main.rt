@@ -1,5 +1,6 @@
-// The readings of paper 01 without a star: bodies too long to be computed by the prover are written by the compiled calls, and
-// what they are is printed. The file `stdout` has what the paper says, and the gate compares.
+// The readings of paper 01 without a star. Their bodies are too long for the prover to compute, so the compiled calls
+// write them, and what they are is printed. The file `stdout` has what the paper says, and the gate compares.
+ghost use Prim.Native.Nat.{_≤_};
 ghost use mathlib.Core.Path.{_≡_};
 ghost use lib.ListN.{length};
 use zvonurel::Number;
@@ -21,92 +22,89 @@ fn refusal(r: Refusal) {
     number(b" refused ", wide(r.number));
     number(b" ", wide(r.bitmap));
     number(b" ", r.word);
-    io::write_all(1, b"\n");
 }
 
-// One word, if there are so many.
-fn word(out: &[u32], i: usize) {
-    if i < out.len() {
-        io::write_all(1, b" ");
-        io::print_hex(1, wide(out[i]), 8);
-    }
-}
-
-// The words from one place to another.
-fn words(out: &[u32], from: usize, to: usize) {
+// A body's words from one place to another, or to its end.
+fn words(body: &[u32], from: usize, to: usize) {
     let mut i = from;
-    while i < to {
-        word(out, i);
+    while i < to && i < body.len() {
+        io::write_all(1, b" ");
+        io::print_hex(1, wide(body[i]), 8);
         i += 1;
     }
 }
 
-// How many rows are set in the body of so many words that a buffer begins with.
-fn set(out: &[u32], n: usize, rows: u32) {
-    if out.len() < n {
-        return;
-    }
-    match zvonurel::body_count(&out[0..n], rows) {
+// How many rows are set in a body.
+fn set(body: &[u32], rows: u32) {
+    match zvonurel::body_count(body, rows) {
         Number::Is(count) => number(b", set ", wide(count)),
         Number::Refused(r) => refusal(r),
     }
 }
 
-// The body of these rows: its number of words, and the words from one place to another; how many rows it has when read again.
-fn reading(rows: u32, plain: &[u32], out: &mut [u32], from: usize, to: usize) {
+// What a call wrote: the number of words, the words from one place to another, and how many rows are set when they are
+// read again.
+fn reading(rows: u32, written: Written, out: &[u32], from: usize, to: usize) {
     number(b"rows ", wide(rows));
-    let written = zvonurel::compress(rows, plain, out);
     match written {
         Written::Words(n) => {
             number(b", words ", n as u64);
             number(b", from ", from as u64);
             io::write_all(1, b":");
-            words(out, from, to);
-            set(out, n, rows);
-            io::write_all(1, b"\n");
+            if n <= out.len() {
+                words(&out[0..n], from, to);
+                set(&out[0..n], rows);
+            }
         }
         Written::Refused(r) => refusal(r),
     }
+    io::write_all(1, b"\n");
 }
 
-// So many zeros, and so many ones: only the length is told, since the prover would otherwise spell them out.
-fn zeros() -> [u32; 524289]
-    ensures { λ r. ⌜ 524289 ≡ length r ⌝ }
-{
-    [0; 524289]
+// No row is set in the XOR of a bitmap with itself. The bitmap has every row, in runs that are not in canonical form:
+// the call has to part them anew. (Plain words would need a large array.)
+fn none_set(rows: u32, index: &[u32]) {
+    let mut out: [u32; 16] = [0; 16];
+    let written = zvonurel::xor(index, 0, 0, &mut out);
+    reading(rows, written, &out, 0, 16);
 }
 
-fn ones() -> [u32; 32768]
-    ensures { λ r. ⌜ 32768 ≡ length r ⌝ }
-{
-    [1; 32768]
+// An index whose bitmap is a run of 8 segments, eight runs of 65,535, and a last marker.
+fn most_rows(rows: u32, last: u32) {
+    let f = 0x0001_FFFF;
+    none_set(
+        rows,
+        &[1, rows, 1, 5, 10, 0x11, f, f, f, f, f, f, f, f, last],
+    );
 }
 
-fn buffer() -> [u32; 32770]
+// Only the length is told, so that the prover never spells the words out.
+fn filled(x: u32) -> [u32; 32770]
     ensures { λ r. ⌜ 32770 ≡ length r ⌝ }
 {
-    [0; 32770]
+    [x; 32770]
 }
 
-// Long runs of clean segments.
-fn none_set() {
-    let plain = zeros();
-    let mut out: [u32; 16] = [0; 16];
-    reading(2097152, &plain[0..65536], &mut out, 0, 2);
-    reading(2097120, &plain[0..65535], &mut out, 0, 1);
-    reading(16777216, &plain[0..524288], &mut out, 0, 9);
-    reading(16777217, &plain, &mut out, 0, 0);
-}
-
-// Long rows of mixed segments: rows 0, 32, 64 and so on.
-fn every_32nd() {
-    let plain = ones();
-    let mut out = buffer();
-    reading(1048544, &plain[0..32767], &mut out, 0, 2);
-    reading(1048576, &plain, &mut out, 32768, 32770);
+// Rows 0, 32, 64 and so on: n mixed segments. (A range up to a large literal, in place of n, costs the prover by its
+// length.)
+fn every_32nd(rows: u32, n: usize, from: usize, to: usize)
+    requires { ⌜ n ≤ 32770 ⌝ }
+{
+    let plain = filled(1);
+    let mut out = filled(0);
+    let written = zvonurel::compress(rows, &plain[0..n], &mut out);
+    reading(rows, written, &out, from, to);
 }
 
 fn main() {
-    none_set();
-    every_32nd();
+    // Runs of 1 and 65,535 segments; of 0 and 65,535.
+    none_set(2097152, &[1, 2097152, 1, 5, 2, 0x0000_0003, 0x0001_FFFF]);
+    none_set(2097120, &[1, 2097120, 1, 5, 2, 0x0000_0001, 0x0001_FFFF]);
+    // The last marker is empty; with one row more it has the last segment, so that nothing but the rows is wrong.
+    most_rows(16777216, 0x0000_0000);
+    most_rows(16777217, 0x0000_0002);
+    every_32nd(1048544, 32767, 0, 2);
+    every_32nd(1048576, 32768, 32768, 32770);
+    // Plain words are refused for too many rows before their own number is.
+    every_32nd(16777217, 32770, 0, 0);
 }
