@@ -12,13 +12,13 @@
  *     before the call returns.
  * Of the words themselves nothing is owed: what is wrong with them is refused.
  *
- * ROWS. Row r stands in segment r / 32, at bit r % 32, the lowest bit first. R rows have (R + 31) / 32 segments; in
- * the last one the bits past row R - 1 are pad bits, and are zero. A body says the segments by markers and dirty
- * words. Plain words are the segments themselves.
+ * ROWS. Row r stands in segment r / ZV_WORD_BITS, at bit r % ZV_WORD_BITS, the lowest bit first. R rows have
+ * (R + ZV_WORD_BITS - 1) / ZV_WORD_BITS segments; in the last one the bits past row R - 1 are pad bits, and are zero.
+ * A body says the segments by markers and dirty words. Plain words are the segments themselves.
  *
- * AN INDEX has in word 0 the number 1, in word 1 the rows, in word 2 the number N of bitmaps, then for each bitmap
- * where its body starts and how many words it has, then the bodies, one behind the other. The whole of it is checked
- * for every question. Bitmaps are numbered from 0.
+ * AN INDEX has a head of ZV_HEAD_WORDS words: ZV_INDEX_KIND in word 0, the rows in word 1, the number N of bitmaps in
+ * word 2. Then ZV_ENTRY_WORDS words for each bitmap: where its body starts and how many words it has. Then the bodies,
+ * one behind the other. The whole of it is checked for every question. Bitmaps are numbered from 0.
  *
  * ANSWERS. `number` is 0 where the call was not refused. Else `number`, `bitmap` and `word` say why, every value
  * beside them is 0, and no word of the buffer changes. A call that writes puts its words at the front of the buffer;
@@ -34,27 +34,40 @@
 extern "C" {
 #endif
 
-/* The most rows, bitmaps, index words and listed numbers; and how many numbers a histogram has. */
+/* Every limit and size, once. */
+
+/* The most rows of a bitmap, bitmaps of an index, words of an index, and numbers in a list. */
 #define ZV_MOST_ROWS 16777216u
 #define ZV_MOST_BITMAPS 64u
 #define ZV_MOST_INDEX_WORDS 67108864u
 #define ZV_MOST_NAMED 64u
-#define ZV_HISTOGRAM_COUNTS 65u
+/* How many numbers a histogram has: one for each c from 0 to ZV_MOST_NAMED. */
+#define ZV_HISTOGRAM_COUNTS (ZV_MOST_NAMED + 1u)
+/* An index: what word 0 says, the words before the contents, and the words of an entry of the contents. */
+#define ZV_INDEX_KIND 1u
+#define ZV_HEAD_WORDS 3u
+#define ZV_ENTRY_WORDS 2u
+/* The most clean segments, and the most dirty words, that one marker counts. */
+#define ZV_MOST_CLEAN 65535u
+#define ZV_MOST_DIRTY 32767u
+/* The bits of a word, which are the rows of a segment. */
+#define ZV_WORD_BITS 32u
 
 /*
  * Numbers of refusal, with what `bitmap` and `word` are beside each. The first fault in this order is told: the index's
- * length (3), three words (1), word 0 (2), rows and N (3), room for the contents (1), the contents (4), the bodies in
+ * length (3), its head (1), word 0 (2), rows and N (3), room for the contents (1), the contents (4), the bodies in
  * order, each front to back (5, 6, 7), the arguments (8), the buffer (9). A body alone is bitmap 0 with places counted
  * in the body, and its rows are tested first (3). Plain words: 3, then 8, 7 and 9.
  */
 
 /* Not refused. */
 #define ZV_FINE 0u
-/* The index has fewer than 3 words, or ends within its contents. bitmap 0; word: the index's length. */
+/* The index has fewer than ZV_HEAD_WORDS words, or ends within its contents. bitmap 0; word: the index's length. */
 #define ZV_TOO_SHORT 1u
-/* Word 0 is not 1. bitmap 0, word 0. */
+/* Word 0 is not ZV_INDEX_KIND. bitmap 0, word 0. */
 #define ZV_NOT_AN_INDEX 2u
-/* The index has too many words (word 0), too many rows (word 1) or too many bitmaps (word 2). bitmap 0. */
+/* More than ZV_MOST_INDEX_WORDS words (word 0), ZV_MOST_ROWS rows (word 1) or ZV_MOST_BITMAPS bitmaps (word 2).
+ * bitmap 0. */
 #define ZV_TOO_LARGE 3u
 /* An entry of the contents has the wrong start, or a length that passes the index's end: its bitmap, and the place of
  * that word. Or words are left behind the last body: bitmap 0, and the place where that body ends. */
@@ -67,9 +80,9 @@ extern "C" {
 /* A pad bit is set: the bitmap, and the place of the marker whose run of ones covers it, or of the dirty or plain word
  * that has it. */
 #define ZV_PAD_BIT 7u
-/* A bad argument: no such bitmap; no such row; fewer set rows than asked for; a list of no numbers or more than 64; a
- * threshold of 0 or above the list's length; a table without one entry more than the list, or with an entry other
- * than 0 and 1; not as many plain words as the rows have segments. bitmap 0, word 0. */
+/* A bad argument: no such bitmap; no such row; fewer set rows than asked for; a list of no numbers or more than
+ * ZV_MOST_NAMED; a threshold of 0 or above the list's length; a table without one entry more than the list, or with an
+ * entry other than 0 and 1; not as many plain words as the rows have segments. bitmap 0, word 0. */
 #define ZV_BAD_ARGUMENT 8u
 /* The answer does not fit into the buffer. bitmap 0; word: the words needed. */
 #define ZV_NO_ROOM 9u
@@ -123,7 +136,7 @@ typedef struct zv_part {
     uint64_t length;
 } zv_part;
 
-/* How many rows exactly c of the list have, at c, from 0 to 64. All are 0 on a refusal. */
+/* How many rows exactly c of the list have, at c, from 0 to ZV_MOST_NAMED. All are 0 on a refusal. */
 typedef struct zv_histogram_counts {
     uint32_t number;
     uint32_t bitmap;
@@ -193,8 +206,8 @@ zv_written zv_and_not(const uint32_t *index, size_t index_words, uint32_t j, uin
 /* The rows that bitmap k has not. */
 zv_written zv_not(const uint32_t *index, size_t index_words, uint32_t k, uint32_t *out, size_t out_words);
 
-/* ---- a list of 1 to 64 bitmap numbers of an index. A bitmap counts as often as it is named. A buffer of twice the
- * words of the named bodies is long enough for each of the first two answers. */
+/* ---- a list of 1 to ZV_MOST_NAMED bitmap numbers of an index. A bitmap counts as often as it is named. A buffer of
+ * twice the words of the named bodies is long enough for each of the first two answers. */
 
 /* The rows that at least t of the list have, as such a body. 8; 9. */
 zv_answered zv_threshold(const uint32_t *index, size_t index_words, const uint32_t *list, size_t list_words, uint32_t t,
@@ -205,7 +218,7 @@ zv_answered zv_threshold(const uint32_t *index, size_t index_words, const uint32
 zv_answered zv_symmetric(const uint32_t *index, size_t index_words, const uint32_t *list, size_t list_words,
                          const uint32_t *table, size_t table_words, uint32_t *out, size_t out_words);
 
-/* For each c from 0 to 64 the number of rows that exactly c of the list have. 8. */
+/* For each c from 0 to ZV_MOST_NAMED the number of rows that exactly c of the list have. 8. */
 zv_histogram_counts zv_histogram(const uint32_t *index, size_t index_words, const uint32_t *list, size_t list_words);
 
 #ifdef __cplusplus

@@ -199,7 +199,8 @@ static void bad_indexes(void)
     } faults[] = {
         {0, 1, 0, ZV_TOO_SHORT, 0, 0},       {0, 1, 8, ZV_TOO_SHORT, 0, 8},
         {0, 2, 15, ZV_NOT_AN_INDEX, 0, 0},   {1, ZV_MOST_ROWS + 1, 15, ZV_TOO_LARGE, 0, 1},
-        {2, 65, 15, ZV_TOO_LARGE, 0, 2},     {5, 12, 15, ZV_BAD_CONTENTS, 1, 5},
+        {2, ZV_MOST_BITMAPS + 1, 15, ZV_TOO_LARGE, 0, 2},
+        {5, 12, 15, ZV_BAD_CONTENTS, 1, 5},
         {8, 3, 15, ZV_BAD_CONTENTS, 2, 8},   {8, 1, 15, ZV_BAD_CONTENTS, 0, 14},
         {11, 0x00040000, 15, ZV_DIRTY_PAST_END, 1, 11},
         {11, 0x00020002, 15, ZV_BAD_COUNT, 1, 11},
@@ -239,6 +240,7 @@ static void lists(void)
     static const uint32_t two[] = {0x00020000, 0xA}, exactly_one[] = {0x00020000, 0x5};
     static const uint32_t table[] = {0, 1, 0, 0}, bad_table[] = {0, 2, 0, 0};
     static const uint32_t counts[ZV_HISTOGRAM_COUNTS] = {0, 2, 2};
+    static const uint32_t most[ZV_MOST_NAMED], one_more[ZV_MOST_NAMED + 1];
 
     ANSWERED(zv_threshold(WORDS(looped), WORDS(three), 2, WORDS(out)), two, 1);
     NOT_ANSWERED(zv_threshold(WORDS(looped), WORDS(three), 4, WORDS(out)), ZV_BAD_ARGUMENT, 0, 0);
@@ -250,6 +252,9 @@ static void lists(void)
     NOT_ANSWERED(zv_symmetric(WORDS(looped), WORDS(three), WORDS(table), out, 0), ZV_NO_ROOM, 0, 2);
     COUNTED(zv_histogram(WORDS(looped), WORDS(three)), counts, 0, 0, 0);
     COUNTED(zv_histogram(WORDS(looped), three, 0), zeros, ZV_BAD_ARGUMENT, 0, 0);
+    FINE(zv_histogram(WORDS(looped), WORDS(most)));
+    SAME("the last count", zv_histogram(WORDS(looped), WORDS(most)).counts[ZV_MOST_NAMED], 2);
+    COUNTED(zv_histogram(WORDS(looped), WORDS(one_more)), zeros, ZV_BAD_ARGUMENT, 0, 0);
 }
 
 int main(void)
