@@ -4,9 +4,9 @@
 //! buffer afterwards, is settled for every input. Nothing is asked of the words; what is wrong with them is refused,
 //! with a [`Refusal`], and then no word of a buffer changes. No call allocates, keeps anything, or panics.
 //!
-//! An **index** is words: 1, the rows, the number of bitmaps, then for each bitmap where its body starts and how many
-//! words it has, then the bodies. The whole of it is checked for every question. A **body** says which rows of a bitmap
-//! are set, by markers and dirty words. **Plain words** have 32 rows each, the lowest bit first.
+//! An **index** is words: [`INDEX_KIND`], the rows, the number of bitmaps, then for each bitmap where its body starts
+//! and how many words it has, then the bodies. The whole of it is checked for every question. A **body** says which rows
+//! of a bitmap are set, by markers and dirty words. **Plain words** have [`WORD_BITS`] rows each, the lowest bit first.
 //!
 //! ```
 //! // three bitmaps of four rows: rows 0, 1; rows 1, 2, 3; row 3
@@ -28,6 +28,7 @@
 #![deny(unsafe_op_in_unsafe_fn)]
 #![warn(clippy::undocumented_unsafe_blocks)]
 
+mod limits;
 mod raw;
 mod refusal;
 
@@ -42,22 +43,8 @@ mod pages {
     struct Refusals;
 }
 
+pub use limits::*;
 pub use refusal::Refusal;
-
-/// The most rows that a bitmap can have.
-pub const MOST_ROWS: u32 = 16_777_216;
-
-/// The most bitmaps that an index can have.
-pub const MOST_BITMAPS: u32 = 64;
-
-/// The most words that an index can have.
-pub const MOST_INDEX_WORDS: usize = 67_108_864;
-
-/// The most numbers that a list can have.
-pub const MOST_NAMED: usize = 64;
-
-/// How many numbers a histogram has: one for each number of holders from 0 to [`MOST_NAMED`].
-pub const HISTOGRAM_COUNTS: usize = 65;
 
 /// A body that answers a question over a list.
 #[derive(Clone, Copy, Debug, PartialEq, Eq, Hash)]
@@ -145,7 +132,7 @@ pub fn body_nth(body: &[u32], rows: u32, n: u32) -> Result<u32, Refusal> {
     settled(told.number, told.bitmap, told.word, told.value)
 }
 
-/// Writes the body's rows as plain words, one for each 32 rows, and returns how many.
+/// Writes the body's rows as plain words, one for each [`WORD_BITS`] rows, and returns how many.
 ///
 /// # Errors
 /// 3 for too many rows; 5, 6 or 7 for the body's first fault; 9 for a short buffer.
@@ -164,8 +151,8 @@ pub fn expand(body: &[u32], rows: u32, out: &mut [u32]) -> Result<usize, Refusal
 /// Writes plain words as a body, in the one form with the fewest words, and returns how many.
 ///
 /// # Errors
-/// 3 for too many rows; 8 unless there is one word for each 32 rows; 7 where the last has a bit behind the last row;
-/// 9 for a short buffer.
+/// 3 for too many rows; 8 unless there is one word for each [`WORD_BITS`] rows; 7 where the last has a bit behind the
+/// last row; 9 for a short buffer.
 ///
 /// ```
 /// let mut body = [0; 3];
@@ -271,7 +258,7 @@ pub fn nth(index: &[u32], k: u32, n: u32) -> Result<u32, Refusal> {
     settled(told.number, told.bitmap, told.word, told.value)
 }
 
-/// Writes the rows of bitmap k as plain words, one for each 32 rows, and returns how many.
+/// Writes the rows of bitmap k as plain words, one for each [`WORD_BITS`] rows, and returns how many.
 ///
 /// # Errors
 /// 1 to 7 for the index's first fault; 8 where there is no bitmap k; 9 for a short buffer.
@@ -384,8 +371,8 @@ pub fn not(index: &[u32], k: u32, out: &mut [u32]) -> Result<usize, Refusal> {
 /// of the named bodies is always room enough.
 ///
 /// # Errors
-/// 1 to 7 for the index's first fault; 8 for a list of no numbers, more than 64 or one that is no bitmap's, or a t of
-/// 0 or above the list's length; 9 for a short buffer.
+/// 1 to 7 for the index's first fault; 8 for a list of no numbers, more than [`MOST_NAMED`] or one that is no bitmap's,
+/// or a t of 0 or above the list's length; 9 for a short buffer.
 ///
 /// ```
 /// let index = [1, 4, 3, 9, 2, 11, 2, 13, 2, 0x20000, 0x3, 0x20000, 0xE, 0x20000, 0x8];
@@ -434,7 +421,7 @@ pub fn symmetric(index: &[u32], list: &[u32], table: &[u32], out: &mut [u32]) ->
     settled(told.number, told.bitmap, told.word, Answer { words: words(told.words), stretches: told.stretches })
 }
 
-/// For each c from 0 to 64, how many rows exactly c of the list have.
+/// For each c from 0 to [`MOST_NAMED`], how many rows exactly c of the list have.
 ///
 /// # Errors
 /// 1 to 7 for the index's first fault; 8 for a bad list.

@@ -5,6 +5,8 @@
 //! nothing, and nobody else changes the words before the call returns. So a call with the pointer and the length of
 //! each slice is sound, whatever the words are.
 
+use crate::HISTOGRAM_COUNTS;
+
 #[repr(C)]
 pub struct Checked {
     pub number: u32,
@@ -59,7 +61,7 @@ pub struct HistogramCounts {
     pub number: u32,
     pub bitmap: u32,
     pub word: u64,
-    pub counts: [u32; crate::HISTOGRAM_COUNTS],
+    pub counts: [u32; HISTOGRAM_COUNTS],
 }
 
 type In = *const u32;

@@ -3,7 +3,7 @@
 use std::error::Error;
 use std::fmt;
 
-use crate::{MOST_BITMAPS, MOST_INDEX_WORDS, MOST_ROWS};
+use crate::{ENTRY_WORDS, HEAD_WORDS, INDEX_KIND, MOST_BITMAPS, MOST_INDEX_WORDS, MOST_ROWS};
 
 /// Why a call was refused: a number from 1 to 9, and where.
 ///
@@ -20,8 +20,9 @@ pub struct Refusal {
     /// What is wrong:
     ///
     /// 1. the index is too short for its head and its contents; `word` is its length
-    /// 2. word 0 of the index isn't 1
-    /// 3. too many words (`word` 0), rows (`word` 1) or bitmaps (`word` 2)
+    /// 2. word 0 of the index isn't [`INDEX_KIND`]
+    /// 3. more than [`MOST_INDEX_WORDS`] words (`word` 0), [`MOST_ROWS`] rows (`word` 1) or [`MOST_BITMAPS`] bitmaps
+    ///    (`word` 2)
     /// 4. the contents name a wrong start or length, at `word`, or the index goes on behind the last body, which ends
     ///    at `word`
     /// 5. the dirty words of the marker at `word` pass the body's end
@@ -41,7 +42,7 @@ impl fmt::Display for Refusal {
         let Refusal { number, bitmap, word } = *self;
         match number {
             1 => write!(f, "the index has {word} words, too few for its head and its contents")?,
-            2 => write!(f, "word 0 is not 1, so this is no index")?,
+            2 => write!(f, "word 0 is not {INDEX_KIND}, so this is no index")?,
             3 => match word {
                 0 => write!(f, "the index has more than {MOST_INDEX_WORDS} words")?,
                 1 => write!(f, "there are more than {MOST_ROWS} rows")?,
@@ -67,13 +68,22 @@ impl fmt::Display for Refusal {
     }
 }
 
-/// Entry k's start stands at word 3 + 2k and its length behind it, so an odd place is a start's. With bitmap 0 a place
-/// past its own entry is where the last body ends; word 3 may be either.
+const ENTRY: u64 = ENTRY_WORDS as u64;
+/// The places of bitmap 0's entry and of bitmap 1's.
+const FIRST: u64 = HEAD_WORDS as u64;
+const SECOND: u64 = FIRST + ENTRY;
+
+/// An entry is a start with its length behind it, so a place that is whole entries from `FIRST` is a start's. With
+/// bitmap 0 a place past its own entry is where the last body ends; `FIRST` may be either.
 fn contents_fault(f: &mut fmt::Formatter<'_>, bitmap: u32, word: u64) -> fmt::Result {
     match (bitmap, word) {
-        (0, 3) => write!(f, "word 3: bitmap 0 has the wrong start, or there is no bitmap and the index goes on"),
-        (0, 5..) => write!(f, "word {word}: the last body ends here, and the index goes on"),
-        _ if word % 2 == 1 => write!(f, "bitmap {bitmap}, word {word}: this start is not where the words before end"),
+        (0, FIRST) => {
+            write!(f, "word {word}: bitmap 0 has the wrong start, or there is no bitmap and the index goes on")
+        }
+        (0, SECOND..) => write!(f, "word {word}: the last body ends here, and the index goes on"),
+        _ if word % ENTRY == FIRST % ENTRY => {
+            write!(f, "bitmap {bitmap}, word {word}: this start is not where the words before end")
+        }
         _ => write!(f, "bitmap {bitmap}, word {word}: this length passes the index's end"),
     }
 }

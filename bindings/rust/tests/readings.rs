@@ -51,7 +51,7 @@ fn bodies() {
     body_of(2_097_120, &vec![0; 65_535], &[0x1FFFE]);
     let mut most = vec![0x1FFFE; 8];
     most.push(0x10);
-    body_of(MOST_ROWS, &vec![0; 524_288], &most);
+    body_of(16_777_216, &vec![0; 524_288], &most);
     assert_eq!(check_body(&most, MOST_ROWS + 1), Err(refusal(3, 0, 1)));
     // sound, and wasteful
     writes(&[0x20, 0, 0x1], |out| expand(&[0x60000, 0x20, 0, 1], 96, out));
@@ -180,6 +180,10 @@ fn sentences() {
     let said = |number, bitmap, word| refusal(number, bitmap, word).to_string();
     assert_eq!(said(2, 0, 0), "word 0 is not 1, so this is no index (refusal 2)");
     assert_eq!(said(3, 0, 1), "there are more than 16777216 rows (refusal 3)");
+    let first = "word 3: bitmap 0 has the wrong start, or there is no bitmap and the index goes on (refusal 4)";
+    assert_eq!(said(4, 0, 3), first);
+    assert_eq!(said(4, 0, 4), "bitmap 0, word 4: this length passes the index's end (refusal 4)");
+    assert_eq!(said(4, 0, 5), "word 5: the last body ends here, and the index goes on (refusal 4)");
     assert_eq!(said(4, 1, 5), "bitmap 1, word 5: this start is not where the words before end (refusal 4)");
     assert_eq!(said(4, 2, 8), "bitmap 2, word 8: this length passes the index's end (refusal 4)");
     assert_eq!(said(4, 0, 14), "word 14: the last body ends here, and the index goes on (refusal 4)");

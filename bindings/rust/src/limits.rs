@@ -1,0 +1,40 @@
+//! Every limit and size, once.
+
+/// The most rows that a bitmap can have.
+pub const MOST_ROWS: u32 = 16_777_216;
+
+/// The most bitmaps that an index can have.
+pub const MOST_BITMAPS: u32 = 64;
+
+/// The most words that an index can have.
+pub const MOST_INDEX_WORDS: usize = 67_108_864;
+
+/// The most numbers that a list can have.
+pub const MOST_NAMED: usize = 64;
+
+/// How many numbers a histogram has: one for each number of holders from 0 to [`MOST_NAMED`].
+pub const HISTOGRAM_COUNTS: usize = MOST_NAMED + 1;
+
+/// What word 0 of an index says.
+pub const INDEX_KIND: u32 = 1;
+
+/// The words of an index before its contents: [`INDEX_KIND`], the rows and the number of bitmaps.
+pub const HEAD_WORDS: usize = 3;
+
+/// The words of a bitmap's entry in the contents: where its body starts, and how many words it has.
+pub const ENTRY_WORDS: usize = 2;
+
+/// The most clean segments that one marker can count.
+pub const MOST_CLEAN: usize = 65_535;
+
+/// The most dirty words that one marker can count.
+pub const MOST_DIRTY: usize = 32_767;
+
+/// The lowest bit of a marker's clean count. The bit below it is the clean segments' value.
+pub const CLEAN_SHIFT: u32 = 1;
+
+/// The lowest bit of a marker's dirty count, which goes up to the highest bit.
+pub const DIRTY_SHIFT: u32 = 17;
+
+/// The bits of a word: as many rows stand in a segment, and in a plain word.
+pub const WORD_BITS: usize = 32;
