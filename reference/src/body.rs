@@ -1,11 +1,8 @@
 //! One body: checking, reading, writing.
 
+use crate::limits::{CLEAN_SHIFT, DIRTY_SHIFT, MOST_CLEAN, MOST_DIRTY, MOST_ROWS, WORD_BITS};
 use crate::mistakes::{mistaken, Mistake};
 use crate::refusal::{bad_argument, must_fit, refusal, too_many_rows, Refusal};
-
-pub(crate) const MOST_ROWS: u32 = 16_777_216;
-const MOST_CLEAN: usize = 65_535;
-const MOST_DIRTY: usize = 32_767;
 
 // ---- markers ----
 
@@ -15,14 +12,16 @@ struct Marker {
     dirty: usize,
 }
 
-/// Bit 0, bits 1 to 16, bits 17 to 31.
+/// The value at the bottom, then the two counts.
 fn marker_of(word: u32) -> Marker {
-    Marker { value: word & 1 == 1, clean: ((word >> 1) & 0xFFFF) as usize, dirty: (word >> 17) as usize }
+    let counts = word as usize;
+    Marker { value: word & 1 == 1, clean: (counts >> CLEAN_SHIFT) & MOST_CLEAN, dirty: counts >> DIRTY_SHIFT }
 }
 
 /// The fields are added up, so that a count too large spills as it would.
 fn word_of(marker: Marker) -> u32 {
-    let sum = u64::from(marker.value) + ((marker.clean as u64) << 1) + ((marker.dirty as u64) << 17);
+    let (clean, dirty) = (marker.clean as u64, marker.dirty as u64);
+    let sum = u64::from(marker.value) + (clean << CLEAN_SHIFT) + (dirty << DIRTY_SHIFT);
     sum as u32
 }
 
@@ -30,12 +29,12 @@ fn word_of(marker: Marker) -> u32 {
 
 /// S, the number of segments of `rows` rows.
 pub(crate) fn segments_of(rows: u32) -> usize {
-    (rows as usize).div_ceil(32)
+    (rows as usize).div_ceil(WORD_BITS)
 }
 
 /// The pad bits of the last segment; zero where it has none.
 fn pad_mask(rows: u32) -> u32 {
-    match rows % 32 {
+    match rows as usize % WORD_BITS {
         0 => 0,
         used => u32::MAX << used,
     }
@@ -123,14 +122,14 @@ pub(crate) fn read(body: &[u32], rows: u32) -> Body {
         let marker = marker_of(body[at]);
         at += 1;
         if marker.clean > 0 {
-            bits.extend(std::iter::repeat_n(marker.value, 32 * marker.clean));
+            bits.extend(std::iter::repeat_n(marker.value, WORD_BITS * marker.clean));
             segment += marker.clean;
             pieces.push(Piece { last: segment - 1, dirty: false });
         }
         for _ in 0..marker.dirty {
             let word = body[at];
             at += 1;
-            bits.extend((0..32).map(|bit| (word >> bit) & 1 == 1));
+            bits.extend((0..WORD_BITS).map(|bit| (word >> bit) & 1 == 1));
             segment += 1;
             pieces.push(Piece { last: segment - 1, dirty: true });
         }
@@ -175,7 +174,7 @@ pub(crate) fn nth_in(bits: &[bool], n: u32) -> Result<u32, Refusal> {
 /// Plain words of rows; bits past the last row are zero.
 pub(crate) fn plain_words(bits: &[bool]) -> Vec<u32> {
     let word = |rows: &[bool]| (0..rows.len()).filter(|&bit| rows[bit]).map(|bit| 1 << bit).sum();
-    bits.chunks(32).map(word).collect()
+    bits.chunks(WORD_BITS).map(word).collect()
 }
 
 pub(crate) fn expand_rows(bits: &[bool], rows: u32, room: usize) -> Result<Vec<u32>, Refusal> {
@@ -328,7 +327,7 @@ mod tests {
     #[test]
     fn settled_has_the_fewest_words_of_all() {
         let kinds = [Segment::Clean(false), Segment::Clean(true), Segment::Mixed(6)];
-        let limits = [(1, 1), (1, 2), (2, 1), (2, 2), (3, 2), (2, 3), (5, 3), (65_535, 32_767)];
+        let limits = [(1, 1), (1, 2), (2, 1), (2, 2), (3, 2), (2, 3), (5, 3), (MOST_CLEAN, MOST_DIRTY)];
         for length in 0..=8u32 {
             for code in 0..3usize.pow(length) {
                 let segments: Vec<Segment> = (0..length).map(|place| kinds[code / 3usize.pow(place) % 3]).collect();

@@ -2,12 +2,10 @@
 
 use std::ops::Range;
 
-use crate::body::{self, check_words, count_in, expand_rows, nth_in, row_in, Body, MOST_ROWS};
+use crate::body::{self, check_words, count_in, expand_rows, nth_in, row_in, Body};
+use crate::limits::{ENTRY_WORDS, HEAD_WORDS, INDEX_KIND, MOST_BITMAPS, MOST_INDEX_WORDS, MOST_ROWS};
 use crate::mistakes::{mistaken, Mistake};
 use crate::refusal::{bad_argument, refusal, too_many_rows, Refusal};
-
-const MOST_WORDS: usize = 67_108_864;
-const MOST_BITMAPS: u32 = 64;
 
 /// A sound index.
 pub(crate) struct Index<'a> {
@@ -32,16 +30,21 @@ impl Index<'_> {
     }
 }
 
+/// Where entry `k` of the contents lies; with N for `k`, where the bodies begin.
+fn entry_place(k: usize) -> usize {
+    HEAD_WORDS + ENTRY_WORDS * k
+}
+
 /// Checks everything, in the order the refusals have.
 pub(crate) fn open(words: &[u32]) -> Result<Index<'_>, Refusal> {
     let length = words.len();
-    if length > MOST_WORDS {
+    if length > MOST_INDEX_WORDS {
         return Err(refusal(3, 0, 0));
     }
-    if length < 3 {
+    if length < HEAD_WORDS {
         return Err(refusal(1, 0, length));
     }
-    if words[0] != 1 {
+    if words[0] != INDEX_KIND {
         return Err(refusal(2, 0, 0));
     }
     let rows = words[1];
@@ -52,7 +55,7 @@ pub(crate) fn open(words: &[u32]) -> Result<Index<'_>, Refusal> {
         return Err(refusal(3, 0, 2));
     }
     let bitmaps = words[2] as usize;
-    if length < 3 + 2 * bitmaps {
+    if length < entry_place(bitmaps) {
         return Err(refusal(1, 0, length));
     }
     let parts = contents(words, bitmaps)?;
@@ -65,9 +68,9 @@ pub(crate) fn open(words: &[u32]) -> Result<Index<'_>, Refusal> {
 /// The bodies' places, entry by entry.
 fn contents(words: &[u32], bitmaps: usize) -> Result<Vec<Range<usize>>, Refusal> {
     let mut parts = Vec::new();
-    let mut end = 3 + 2 * bitmaps;
+    let mut end = entry_place(bitmaps);
     for k in 0..bitmaps {
-        let start_place = 3 + 2 * k;
+        let start_place = entry_place(k);
         let length_place = start_place + 1;
         let start = words[start_place] as usize;
         let length = words[length_place] as usize;

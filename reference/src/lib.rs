@@ -7,6 +7,7 @@
 
 mod body;
 mod index;
+pub mod limits;
 pub mod mistakes;
 mod program;
 mod questions;

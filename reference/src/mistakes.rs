@@ -7,9 +7,9 @@ use std::cell::Cell;
 pub enum Mistake {
     /// A symmetric table with a yes at 0 sets the pad bits.
     TableFillsPads,
-    /// A ones run over pad bits passes and is worth 32 rows in that segment.
+    /// A ones run over pad bits passes and is worth a whole word of rows in that segment.
     OnesRunOverPads,
-    /// Clean counts go up to 65,536, which spills into the dirty count.
+    /// Clean counts go up to one over `MOST_CLEAN`, which spills into the dirty count.
     RunCarries,
     /// Room is judged by twice the named words.
     RoomByBound,
@@ -23,11 +23,11 @@ pub enum Mistake {
     StretchPerBitmap,
     /// AND-NOT takes its operands the other way round.
     AndNotSwapped,
-    /// The tally takes the last segment for 32 rows.
+    /// The tally takes every bit of the last segment for a row.
     TallyCountsPads,
     /// An answer segment under a dirty word stays a dirty word, even if clean.
     CleanKeptDirty,
-    /// A full marker takes 32,768 dirty words.
+    /// A full marker takes one dirty word over `MOST_DIRTY`.
     FullMarkerOneMore,
     /// NOT sets the pad bits.
     NotFillsPads,

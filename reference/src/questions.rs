@@ -4,6 +4,7 @@ use std::collections::BTreeSet;
 
 use crate::body::{plain_words, segment_of, settle, Segment};
 use crate::index::{open, Index};
+use crate::limits::{MOST_NAMED, TALLY_ENTRIES, WORD_BITS};
 use crate::mistakes::{mistaken, Mistake};
 use crate::refusal::{bad_argument, must_fit, Refusal};
 
@@ -69,7 +70,7 @@ impl Named {
 
 /// Sets every pad of the last segment: what some mistakes do.
 fn fill_pads(rows: &mut Vec<bool>) {
-    let whole = rows.len().next_multiple_of(32);
+    let whole = rows.len().next_multiple_of(WORD_BITS);
     rows.resize(whole, true);
 }
 
@@ -116,9 +117,9 @@ pub fn not(index: &[u32], k: u32, room: usize) -> Result<Vec<u32>, Refusal> {
 
 // ---- a list ----
 
-/// The list itself: 1 to 64 numbers, each of a bitmap that is there.
+/// The list itself: 1 to `MOST_NAMED` numbers, each of a bitmap that is there.
 fn check_list(index: &Index, list: &[u32]) -> Result<(), Refusal> {
-    let good = (1..=64).contains(&list.len()) && list.iter().all(|&k| k < index.bitmaps());
+    let good = (1..=MOST_NAMED).contains(&list.len()) && list.iter().all(|&k| k < index.bitmaps());
     if good {
         Ok(())
     } else {
@@ -189,16 +190,16 @@ pub fn symmetric(index: &[u32], list: &[u32], table: &[u32], room: usize) -> Res
 }
 
 /// Entry c: how many rows have c holders.
-pub fn histogram(index: &[u32], list: &[u32]) -> Result<[u32; 65], Refusal> {
+pub fn histogram(index: &[u32], list: &[u32]) -> Result<[u32; TALLY_ENTRIES], Refusal> {
     let index = open(index)?;
     check_list(&index, list)?;
     let held = holders(&index, list, &mut Named::default())?;
-    let mut tally = [0; 65];
+    let mut tally = [0; TALLY_ENTRIES];
     for &c in &held {
         tally[c] += 1;
     }
     if mistaken(Mistake::TallyCountsPads) {
-        tally[0] += index.rows.next_multiple_of(32) - index.rows;
+        tally[0] += (held.len().next_multiple_of(WORD_BITS) - held.len()) as u32;
     }
     Ok(tally)
 }

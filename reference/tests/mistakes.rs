@@ -2,9 +2,15 @@
 
 mod common;
 use common::*;
+use reference::limits::{MOST_CLEAN, MOST_DIRTY, WORD_BITS};
 use reference::*;
 
 const ANY: usize = usize::MAX;
+
+/// So many segments of this word, compressed.
+fn repeated(word: u32, segments: usize) -> Result<Vec<u32>, Refusal> {
+    compress((WORD_BITS * segments) as u32, &vec![word; segments], ANY)
+}
 
 /// A result in words, the case chosen for this mistake.
 fn case(m: Mistake) -> String {
@@ -14,7 +20,7 @@ fn case(m: Mistake) -> String {
     match m {
         Mistake::TableFillsPads => format!("{:x?}", symmetric(&padded, &[0], &[1, 0], ANY)),
         Mistake::OnesRunOverPads => format!("{:?}", body_count(&[5], 40)),
-        Mistake::RunCarries => format!("{:x?}", compress(2_097_152, &vec![0; 65_536], ANY)),
+        Mistake::RunCarries => format!("{:x?}", repeated(0, MOST_CLEAN + 1)),
         Mistake::RoomByBound => format!("{:x?}", threshold(&LOOPED, &list, 2, 2)),
         Mistake::NthPastGivesLast => format!("{:?}", nth(&LOOPED, 0, 2)),
         Mistake::ThresholdAboveT => format!("{:x?}", threshold(&LOOPED, &list, 2, ANY)),
@@ -24,7 +30,7 @@ fn case(m: Mistake) -> String {
         Mistake::TallyCountsPads => format!("{:?}", &histogram(&LOOPED, &list).unwrap()[..4]),
         Mistake::CleanKeptDirty => format!("{:x?}", and(&LOOPED, 0, 2, ANY)),
         Mistake::FullMarkerOneMore => {
-            let words = compress(1_048_576, &vec![1; 32_768], ANY).unwrap();
+            let words = repeated(1, MOST_DIRTY + 1).unwrap();
             format!("{} {:x}", words.len(), words[0])
         }
         Mistake::NotFillsPads => format!("{:x?}", not(&padded, 0, ANY)),

@@ -2,6 +2,7 @@
 
 mod common;
 use common::*;
+use reference::limits::*;
 use reference::program;
 
 fn prints(input: &[u8], text: &str) {
@@ -26,10 +27,10 @@ fn by_length_of_input() {
     prints(&[2, 0, 0], "refused 1 0 0\n");
     prints(&[2, 0, 0, 0, 1], "refused 1 0 0\n");
     prints(&input(2, &LOOPED)[..63], "refused 1 0 0\n");
-    prints(&[0; 65_537], "refused 3 0 0\n");
-    prints(&[0; 65_540], "refused 3 0 0\n");
+    prints(&[0; PROGRAM_BYTES + 1], "refused 3 0 0\n");
+    prints(&[0; PROGRAM_BYTES + WORD_BYTES], "refused 3 0 0\n");
     // The most that is read at all.
-    prints(&[0; 65_536], "refused 2 0 0\n");
+    prints(&[0; PROGRAM_BYTES], "refused 2 0 0\n");
 }
 
 #[test]
@@ -38,8 +39,8 @@ fn one_to_eight() {
     prints(&input(1, &[1, 4]), "refused 1 0 2\n");
     prints(&input(1, &[1, 4, 1, 5]), "refused 1 0 4\n");
     prints(&input(1, &[3, 4, 0]), "refused 2 0 0\n");
-    prints(&input(1, &[1, 16_777_217, 0]), "refused 3 0 1\n");
-    prints(&input(1, &[1, 4, 65]), "refused 3 0 2\n");
+    prints(&input(1, &[1, MOST_ROWS + 1, 0]), "refused 3 0 1\n");
+    prints(&input(1, &[1, 4, MOST_BITMAPS + 1]), "refused 3 0 2\n");
     prints(&input(1, &[1, 4, 1, 6, 0]), "refused 4 0 3\n");
     prints(&input(1, &[1, 32, 1, 5, 2, 2]), "refused 4 0 4\n");
     prints(&input(1, &[1, 32, 1, 5, 1, 2, 2]), "refused 4 0 6\n");
@@ -58,13 +59,13 @@ fn one_to_eight() {
 /// The largest answers an input can ask for still go into the buffer.
 #[test]
 fn widest_answer_fits() {
-    // 16,383 words of index; one body of one marker and 16,377 dirty words.
-    let dirty = 16_377;
-    let mut body = vec![dirty << 17];
-    body.extend(vec![1; dirty as usize]);
-    let index = index_of(32 * dirty, &[&body]);
+    // T, an index of one bitmap, and its one marker; the rest are dirty words.
+    let dirty = PROGRAM_BYTES / WORD_BYTES - 1 - HEAD_WORDS - ENTRY_WORDS - 1;
+    let mut body = vec![(dirty as u32) << DIRTY_SHIFT];
+    body.extend(vec![1; dirty]);
+    let index = index_of((WORD_BITS * dirty) as u32, &[&body]);
     let bytes = input(1, &index);
-    assert_eq!(bytes.len(), 65_536);
+    assert_eq!(bytes.len(), PROGRAM_BYTES);
     let out = String::from_utf8(program(&bytes)).unwrap();
     let mut lines = out.lines();
     assert_eq!(lines.next(), Some("rows 524064"));

@@ -2,14 +2,15 @@
 
 mod common;
 use common::*;
+use reference::limits::{CLEAN_SHIFT, DIRTY_SHIFT, MOST_BITMAPS, WORD_BITS};
 use reference::*;
 
 const ANY: usize = usize::MAX;
 
 /// A sound body, often wasteful, with the plain words it spells.
 fn throw_body(dice: &mut Dice, rows: u32) -> (Vec<u32>, Vec<u32>) {
-    let segments = rows.div_ceil(32) as usize;
-    let last_mask = match rows % 32 {
+    let segments = (rows as usize).div_ceil(WORD_BITS);
+    let last_mask = match rows as usize % WORD_BITS {
         0 => u32::MAX,
         used => (1 << used) - 1,
     };
@@ -23,7 +24,7 @@ fn throw_body(dice: &mut Dice, rows: u32) -> (Vec<u32>, Vec<u32>) {
         if value == 1 && clean == left && last_mask != u32::MAX {
             clean = clean.saturating_sub(1);
         }
-        body.push(value | clean << 1 | dirty << 17);
+        body.push(value | clean << CLEAN_SHIFT | dirty << DIRTY_SHIFT);
         plain.extend(vec![value * u32::MAX; clean as usize]);
         for _ in 0..dirty {
             let mut word = match dice.below(4) {
@@ -42,7 +43,7 @@ fn throw_body(dice: &mut Dice, rows: u32) -> (Vec<u32>, Vec<u32>) {
 }
 
 fn bit(plain: &[u32], r: u32) -> bool {
-    (plain[(r / 32) as usize] >> (r % 32)) & 1 == 1
+    (plain[r as usize / WORD_BITS] >> (r as usize % WORD_BITS)) & 1 == 1
 }
 
 #[test]
@@ -132,7 +133,7 @@ fn nothing_panics() {
         let mut index = index_of(rows, &bodies);
         if dice.below(2) == 0 {
             let place = dice.below(index.len() as u32) as usize;
-            index[place] ^= 1 << dice.below(32);
+            index[place] ^= 1 << dice.below(WORD_BITS as u32);
         }
         if dice.below(6) == 0 {
             index.truncate(dice.below(index.len() as u32) as usize);
@@ -145,14 +146,14 @@ fn nothing_panics() {
     }
 }
 
-/// 64 bitmaps of 100,000 rows stay quick.
+/// A full index of 100,000 rows stays quick.
 #[test]
-fn sixty_four_by_a_hundred_thousand() {
+fn most_bitmaps_by_a_hundred_thousand() {
     let mut dice = Dice(4);
-    let thrown: Vec<_> = (0..64).map(|_| throw_body(&mut dice, 100_000)).collect();
+    let thrown: Vec<_> = (0..MOST_BITMAPS).map(|_| throw_body(&mut dice, 100_000)).collect();
     let bodies: Vec<&[u32]> = thrown.iter().map(|(body, _)| &body[..]).collect();
     let index = index_of(100_000, &bodies);
-    let list: Vec<u32> = (0..64).collect();
+    let list: Vec<u32> = (0..MOST_BITMAPS).collect();
     let begun = std::time::Instant::now();
     let answer = threshold(&index, &list, 30, ANY).unwrap();
     let took = begun.elapsed();

@@ -2,15 +2,16 @@
 
 mod common;
 use common::*;
+use reference::limits::{TALLY_ENTRIES, WORD_BITS};
 use reference::*;
 
 const ANY: usize = usize::MAX;
 
 /// Plain words with these rows set.
 fn plain(rows: u32, set: &[u32]) -> Vec<u32> {
-    let mut words = vec![0; rows.div_ceil(32) as usize];
-    for r in set {
-        words[(r / 32) as usize] |= 1 << (r % 32);
+    let mut words = vec![0; (rows as usize).div_ceil(WORD_BITS)];
+    for &r in set {
+        words[r as usize / WORD_BITS] |= 1 << (r as usize % WORD_BITS);
     }
     words
 }
@@ -112,7 +113,7 @@ fn looped_example() {
     let answer = Answer { words: vec![0x0002_0000, 0xA], stretches: 1 };
     assert_eq!(threshold(&LOOPED, &list, 2, 2), Ok(answer.clone()));
     assert_eq!(symmetric(&LOOPED, &list, &[0, 0, 1, 1], 2), Ok(answer));
-    let mut tally = [0; 65];
+    let mut tally = [0; TALLY_ENTRIES];
     tally[1] = 2;
     tally[2] = 2;
     assert_eq!(histogram(&LOOPED, &list), Ok(tally));

@@ -2,6 +2,7 @@
 
 mod common;
 use common::*;
+use reference::limits::*;
 use reference::*;
 
 const ANY: usize = usize::MAX;
@@ -18,24 +19,21 @@ fn one_too_short() {
 
 #[test]
 fn two_wrong_first_word() {
-    assert_eq!(check(&[0, 16_777_217, 65]), Err(no(2, 0, 0)));
+    assert_eq!(check(&[0, MOST_ROWS + 1, MOST_BITMAPS + 1]), Err(no(2, 0, 0)));
     assert_eq!(check(&[2, 4, 0]), Err(no(2, 0, 0)));
 }
 
 #[test]
 fn three_too_much() {
-    assert_eq!(check(&[1, 16_777_217, 65]), Err(no(3, 0, 1)));
+    assert_eq!(check(&[1, MOST_ROWS + 1, MOST_BITMAPS + 1]), Err(no(3, 0, 1)));
     assert_eq!(check(&[1, u32::MAX, 0]), Err(no(3, 0, 1)));
-    assert_eq!(check(&[1, 4, 65]), Err(no(3, 0, 2)));
+    assert_eq!(check(&[1, 4, MOST_BITMAPS + 1]), Err(no(3, 0, 2)));
     assert_eq!(check(&[1, 4, u32::MAX]), Err(no(3, 0, 2)));
-    assert_eq!(check(&[1, 4, 64]), Err(no(1, 0, 3)));
-    assert_eq!(check(&vec![0; 67_108_865]), Err(no(3, 0, 0)));
-    assert_eq!(check(&vec![0; 67_108_864]), Err(no(2, 0, 0)));
-    let mut sixty_four = vec![1, 0, 64];
-    for _ in 0..64 {
-        sixty_four.extend([131, 0]);
-    }
-    assert_eq!(check(&sixty_four), Ok(()));
+    assert_eq!(check(&[1, 4, MOST_BITMAPS]), Err(no(1, 0, 3)));
+    assert_eq!(check(&vec![0; MOST_INDEX_WORDS + 1]), Err(no(3, 0, 0)));
+    assert_eq!(check(&vec![0; MOST_INDEX_WORDS]), Err(no(2, 0, 0)));
+    let full = index_of(0, &[&[][..]; MOST_BITMAPS as usize]);
+    assert_eq!(check(&full), Ok(()));
 }
 
 #[test]
@@ -149,7 +147,7 @@ fn eight_bad_arguments() {
         assert_eq!(ask(&LOOPED, 3, 0, 0), Err(bad));
     }
     assert_eq!(not(&LOOPED, 3, 0), Err(bad));
-    for wrong in [&[][..], &[3], &[0, 3], &[0; 65]] {
+    for wrong in [&[][..], &[3], &[0, 3], &[0; MOST_NAMED + 1]] {
         assert_eq!(threshold(&LOOPED, wrong, 1, 0), Err(bad));
         let table = vec![0; wrong.len() + 1];
         assert_eq!(symmetric(&LOOPED, wrong, &table, 0), Err(bad));

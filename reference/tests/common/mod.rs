@@ -1,6 +1,7 @@
 //! Small helpers of the tests.
 #![allow(dead_code)]
 
+use reference::limits::{ENTRY_WORDS, HEAD_WORDS, INDEX_KIND};
 use reference::Refusal;
 
 /// A refusal in short.
@@ -10,8 +11,8 @@ pub fn no(number: u32, bitmap: u32, word: u64) -> Refusal {
 
 /// An index of these bodies, contents filled in.
 pub fn index_of(rows: u32, bodies: &[&[u32]]) -> Vec<u32> {
-    let mut words = vec![1, rows, bodies.len() as u32];
-    let mut start = 3 + 2 * bodies.len() as u32;
+    let mut words = vec![INDEX_KIND, rows, bodies.len() as u32];
+    let mut start = (HEAD_WORDS + ENTRY_WORDS * bodies.len()) as u32;
     for body in bodies {
         words.extend([start, body.len() as u32]);
         start += body.len() as u32;

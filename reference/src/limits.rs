@@ -1,0 +1,38 @@
+//! Every limit and size of the rules, once.
+
+/// Rows of a bitmap, at most.
+pub const MOST_ROWS: u32 = 16_777_216;
+/// Bitmaps of an index, at most.
+pub const MOST_BITMAPS: u32 = 64;
+/// Words of an index, at most.
+pub const MOST_INDEX_WORDS: usize = 67_108_864;
+/// Numbers in a list, at most.
+pub const MOST_NAMED: usize = 64;
+/// Entries of a tally: 0 to `MOST_NAMED` holders.
+pub const TALLY_ENTRIES: usize = MOST_NAMED + 1;
+
+/// Word 0 of an index.
+pub const INDEX_KIND: u32 = 1;
+/// Words in front of the contents.
+pub const HEAD_WORDS: usize = 3;
+/// Words of an entry of the contents: start, length.
+pub const ENTRY_WORDS: usize = 2;
+
+/// Clean segments of a marker, at most. All ones in binary.
+pub const MOST_CLEAN: usize = 65_535;
+/// Dirty words of a marker, at most.
+pub const MOST_DIRTY: usize = 32_767;
+/// The lowest bit of a marker's clean count.
+pub const CLEAN_SHIFT: u32 = 1;
+/// The lowest bit of a marker's dirty count.
+pub const DIRTY_SHIFT: u32 = 17;
+
+/// Bits of a word, rows of a segment.
+pub const WORD_BITS: usize = 32;
+/// Bytes of a word.
+pub const WORD_BYTES: usize = 4;
+
+/// Bytes that the program reads, at most.
+pub const PROGRAM_BYTES: usize = 65_536;
+/// Words that the program has for its answer.
+pub const PROGRAM_ROOM: usize = 16_384;
