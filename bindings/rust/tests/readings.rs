@@ -1,4 +1,4 @@
-//! Every call, on the paper's LOOPED and 8-row readings and others, and a refusal of each number.
+//! Every call, on the paper's LOOPED and 8-row readings and others, a refusal of each number, and each limit.
 
 use zvonurel::*;
 
@@ -126,7 +126,6 @@ fn bad_indexes() {
     assert_eq!(check(&[]), Err(refusal(1, 0, 0)));
     assert_eq!(check(&LOOPED[..8]), Err(refusal(1, 0, 8)));
     assert_eq!(changed(0, 2), refusal(2, 0, 0));
-    assert_eq!(check(&vec![0; MOST_INDEX_WORDS + 1]), Err(refusal(3, 0, 0)));
     assert_eq!(changed(1, MOST_ROWS + 1), refusal(3, 0, 1));
     assert_eq!(changed(2, MOST_BITMAPS + 1), refusal(3, 0, 2));
     assert_eq!(changed(5, 12), refusal(4, 1, 5));
@@ -135,6 +134,38 @@ fn bad_indexes() {
     assert_eq!(changed(11, 0x40000), refusal(5, 1, 11));
     assert_eq!(changed(11, 0x20002), refusal(6, 1, 11));
     assert_eq!(changed(12, 0x1E), refusal(7, 1, 12));
+}
+
+/// The library has each limit where its name says: so many pass, and one more does not.
+#[test]
+fn limits() {
+    assert_eq!(check(&[INDEX_KIND, MOST_ROWS, 0]), Ok(()));
+    assert_eq!(check(&[INDEX_KIND, MOST_ROWS + 1, 0]), Err(refusal(3, 0, 1)));
+
+    // bitmaps of no rows, without a word
+    let end = HEAD_WORDS + ENTRY_WORDS * MOST_BITMAPS as usize;
+    let mut full = vec![INDEX_KIND, 0, MOST_BITMAPS];
+    full.extend([end as u32, 0].repeat(MOST_BITMAPS as usize));
+    assert_eq!(check(&full), Ok(()));
+    full[2] += 1;
+    assert_eq!(check(&full), Err(refusal(3, 0, 2)));
+
+    assert_eq!(check(&vec![0; MOST_INDEX_WORDS]), Err(refusal(2, 0, 0)));
+    assert_eq!(check(&vec![0; MOST_INDEX_WORDS + 1]), Err(refusal(3, 0, 0)));
+
+    assert_eq!(histogram(&LOOPED, &[0; MOST_NAMED]).unwrap()[MOST_NAMED], 2);
+    assert_eq!(histogram(&LOOPED, &[0; MOST_NAMED + 1]), Err(BAD));
+
+    let body = |word: u32, segments: usize| {
+        let mut out = vec![0; segments + 2];
+        let words = compress((WORD_BITS * segments) as u32, &vec![word; segments], &mut out).unwrap();
+        (out[0], words)
+    };
+    let (clean, dirty) = ((MOST_CLEAN as u32) << CLEAN_SHIFT, (MOST_DIRTY as u32) << DIRTY_SHIFT);
+    assert_eq!(body(0, MOST_CLEAN), (clean, 1));
+    assert_eq!(body(0, MOST_CLEAN + 1), (clean, 2));
+    assert_eq!(body(1, MOST_DIRTY), (dirty, MOST_DIRTY + 1));
+    assert_eq!(body(1, MOST_DIRTY + 1), (dirty, MOST_DIRTY + 3));
 }
 
 #[test]
@@ -167,8 +198,6 @@ fn lists() {
     want[1] = 2;
     want[2] = 2;
     assert_eq!(histogram(&LOOPED, &ALL), Ok(want));
-    assert_eq!(histogram(&LOOPED, &[0; MOST_NAMED + 1]), Err(BAD));
-    assert_eq!(histogram(&LOOPED, &[0; MOST_NAMED]).unwrap()[MOST_NAMED], 2);
 
     // 96 rows: three stretches
     let index = [1, 96, 2, 7, 1, 8, 4, 0x6, 0x20000, 0x20, 0x20002, 0x1];
