@@ -4,6 +4,7 @@ use std::panic::{catch_unwind, set_hook, take_hook, AssertUnwindSafe};
 use std::sync::atomic::{AtomicBool, Ordering::Relaxed};
 
 use reference::{with_mistake, Mistake};
+use zvonurel::HISTOGRAM_COUNTS;
 
 use crate::question::{Call, Question};
 
@@ -21,7 +22,7 @@ pub enum Value {
     Words(usize),
     /// Words written and stretches.
     Answer(usize, u32),
-    Tally(Box<[u32; 65]>),
+    Tally(Box<[u32; HISTOGRAM_COUNTS]>),
     Panicked(String),
 }
 
@@ -78,7 +79,7 @@ pub fn ask_library(words: &[u32], question: &Question) -> Outcome {
 /// Where a part lies in the words it was lent from.
 fn part(words: &[u32], part: &[u32]) -> Value {
     let bytes = (part.as_ptr() as usize).wrapping_sub(words.as_ptr() as usize);
-    Value::Part((!part.is_empty()).then_some(bytes / 4), part.len())
+    Value::Part((!part.is_empty()).then_some(bytes / size_of::<u32>()), part.len())
 }
 
 fn library(words: &[u32], q: &Question, out: &mut [u32]) -> Result<Value, zvonurel::Refusal> {

@@ -1,7 +1,9 @@
 //! Every question on an input, with good and bad arguments.
 
+use zvonurel::{HISTOGRAM_COUNTS, MOST_NAMED, MOST_ROWS, WORD_BITS};
+
 use crate::ask::words_needed;
-use crate::encode::{last_mask, segments_of};
+use crate::encode::{entry_place, last_mask, segments_of};
 use crate::generate::{Effort, Form, Input};
 use crate::question::{Call, Question};
 use crate::random::Random;
@@ -9,6 +11,11 @@ use crate::session::Session;
 
 /// A buffer is never made longer than this just to be long.
 const LONGEST: usize = 200_000;
+
+/// Lengths of a list and of a table that are far too long.
+const FAR_LIST: usize = 300;
+const FAR_TABLE: usize = 400;
+const _: () = assert!(FAR_LIST > MOST_NAMED && FAR_TABLE > HISTOGRAM_COUNTS);
 
 const PAIRS: [Call; 4] = [Call::And, Call::Or, Call::Xor, Call::AndNot];
 
@@ -73,7 +80,7 @@ impl Asker<'_> {
     /// Words of the bodies named, by the contents.
     fn named_words(&self, list: &[u32]) -> usize {
         let words = &self.input.words;
-        let length = |&k: &u32| words.get(4 + 2 * k as usize).copied().unwrap_or(0);
+        let length = |&k: &u32| words.get(entry_place(k as usize) + 1).copied().unwrap_or(0);
         let lengths = list.iter().map(|k| length(k).min(words.len() as u32));
         lengths.map(|length| length as usize).sum()
     }
@@ -145,7 +152,7 @@ impl Asker<'_> {
         if let Some(last) = other.last_mut() {
             let pads = !last_mask(rows);
             let some = pads & self.random.word();
-            *last |= self.random.pick(&[pads, some, 1 << 31]);
+            *last |= self.random.pick(&[pads, some, 1 << (WORD_BITS - 1)]);
         }
         self.ask_rooms(&other, question(rows));
         other.pop();
@@ -154,11 +161,11 @@ impl Asker<'_> {
         other.extend([0, self.random.word()]);
         self.session.ask(&other, question(rows).room(room));
         let anything = self.random.word();
-        for wrong in [16_777_217, u32::MAX, anything, rows ^ 1] {
+        for wrong in [MOST_ROWS + 1, u32::MAX, anything, rows ^ 1] {
             let room = self.any_room();
             self.session.ask(plain, question(wrong).room(room));
         }
-        let whole = 32 * plain.len() as u32;
+        let whole = (WORD_BITS * plain.len()) as u32;
         if segments_of(whole) == plain.len() {
             self.ask_rooms(plain, question(whole));
         }
@@ -227,7 +234,7 @@ impl Asker<'_> {
 
     fn lists(&mut self) {
         let most = match self.input.effort {
-            Effort::Full if self.random.one_in(5) => 63,
+            Effort::Full if self.random.one_in(5) => MOST_NAMED - 1,
             Effort::Few if self.input.bitmaps < 3 => 3,
             _ => 9,
         };
@@ -243,14 +250,14 @@ impl Asker<'_> {
             self.good_list(&all);
         }
         if self.random.one_in(4) && self.input.effort != Effort::Few {
-            let most = self.some_list(64);
+            let most = self.some_list(MOST_NAMED);
             self.good_list(&most);
         }
         let mut wrong = some.clone();
         let at = self.random.below(wrong.len());
         wrong[at] = self.bad();
-        let over = self.some_list(65);
-        let far = self.some_list(300);
+        let over = self.some_list(MOST_NAMED + 1);
+        let far = self.some_list(FAR_LIST);
         for list in [&[][..], &wrong, &over, &far] {
             self.bad_list(list);
         }
@@ -305,7 +312,14 @@ impl Asker<'_> {
         entry[at] = self.random.pick(&[2, 2, 3, 256, u32::MAX]);
         let mut long_entry = self.some_table(length + 2);
         long_entry[length + 1] = 2;
-        vec![self.some_table(length), self.some_table(length + 2), Vec::new(), self.some_table(400), entry, long_entry]
+        vec![
+            self.some_table(length),
+            self.some_table(length + 2),
+            Vec::new(),
+            self.some_table(FAR_TABLE),
+            entry,
+            long_entry,
+        ]
     }
 
     fn bad_list(&mut self, list: &[u32]) {

@@ -1,24 +1,28 @@
 //! Plain words, and bodies and indexes made of them.
 
+use zvonurel::{CLEAN_SHIFT, DIRTY_SHIFT, ENTRY_WORDS, HEAD_WORDS, INDEX_KIND, MOST_CLEAN, MOST_DIRTY, WORD_BITS};
+
 use crate::random::Random;
 
-const MOST_CLEAN: usize = 65_535;
-const MOST_DIRTY: usize = 32_767;
-
 pub fn segments_of(rows: u32) -> usize {
-    (rows as usize).div_ceil(32)
+    (rows as usize).div_ceil(WORD_BITS)
 }
 
 /// The bits of the last segment that are rows.
 pub fn last_mask(rows: u32) -> u32 {
-    match rows % 32 {
+    match rows as usize % WORD_BITS {
         0 => u32::MAX,
         used => !(u32::MAX << used),
     }
 }
 
-pub fn marker(value: bool, clean: usize, dirty: usize) -> u32 {
-    u32::from(value) | (clean as u32) << 1 | (dirty as u32) << 17
+pub const fn marker(value: bool, clean: usize, dirty: usize) -> u32 {
+    value as u32 | (clean as u32) << CLEAN_SHIFT | (dirty as u32) << DIRTY_SHIFT
+}
+
+/// The dirty count of a marker.
+pub fn dirty_of(marker: u32) -> usize {
+    (marker >> DIRTY_SHIFT) as usize
 }
 
 fn is_clean(word: u32) -> bool {
@@ -53,6 +57,16 @@ pub fn settled(plain: &[u32]) -> Vec<u32> {
         body.push(marker(value, clean, dirty));
         body.extend(&rest[..dirty]);
         rest = &rest[dirty..];
+    }
+    body
+}
+
+/// The settled body of one run.
+pub fn one_run(value: bool, segments: usize) -> Vec<u32> {
+    let mut body = vec![marker(value, MOST_CLEAN, 0); segments / MOST_CLEAN];
+    match segments % MOST_CLEAN {
+        0 => {}
+        rest => body.push(marker(value, rest, 0)),
     }
     body
 }
@@ -97,10 +111,15 @@ fn some_dirty(rest: &[u32], random: &mut Random) -> usize {
     wanted.min(rest.len()).min(MOST_DIRTY)
 }
 
+/// Where bitmap `k`'s entry stands, its start and then its length; with N for `k`, where the bodies begin.
+pub const fn entry_place(k: usize) -> usize {
+    HEAD_WORDS + ENTRY_WORDS * k
+}
+
 /// The index of these bodies, with its contents right.
 pub fn index_of(rows: u32, bodies: &[Vec<u32>]) -> Vec<u32> {
-    let mut words = vec![1, rows, bodies.len() as u32];
-    let mut start = 3 + 2 * bodies.len();
+    let mut words = vec![INDEX_KIND, rows, bodies.len() as u32];
+    let mut start = entry_place(bodies.len());
     for body in bodies {
         words.push(start as u32);
         words.push(body.len() as u32);

@@ -1,13 +1,13 @@
 //! Cases that always run, so that rare places are reached every time.
 
+use zvonurel::{INDEX_KIND, MOST_BITMAPS, MOST_INDEX_WORDS, MOST_ROWS};
+
 use crate::choose::ask_all;
-use crate::encode::index_of;
+use crate::encode::{entry_place, index_of, one_run, segments_of};
 use crate::generate::{Effort, Form, Input};
 use crate::question::{Call, Question};
 use crate::random::Random;
 use crate::session::Session;
-
-const MOST_WORDS: usize = 67_108_864;
 
 /// The LOOPED example of the paper: 4 rows, three bitmaps.
 pub const LOOPED: [u32; 15] = [1, 4, 3, 9, 2, 11, 2, 13, 2, 0x20000, 0x3, 0x20000, 0xE, 0x20000, 0x8];
@@ -50,15 +50,15 @@ fn heads() -> Vec<Vec<u32>> {
         vec![1],
         vec![0, 4],
         vec![1, 0, 0],
-        vec![1, 16_777_216, 0],
+        vec![1, MOST_ROWS, 0],
         vec![1, 4, 0, 0],
         LOOPED[..8].to_vec(),
         LOOPED[..14].to_vec(),
         changed(0, 0),
         changed(0, 2),
-        changed(1, 16_777_217),
+        changed(1, MOST_ROWS + 1),
         changed(1, u32::MAX),
-        changed(2, 65),
+        changed(2, MOST_BITMAPS + 1),
         changed(2, u32::MAX),
         changed(3, 10),
         changed(7, u32::MAX),
@@ -82,7 +82,7 @@ fn inputs() -> Vec<Input> {
         let twice = vec![plain[0].clone(), plain[0].clone()];
         all.push(input(Form::Index, index, 40, 2, twice));
     }
-    all.push(input(Form::Body, BODIES[2].to_vec(), 16_777_217, 1, plain));
+    all.push(input(Form::Body, BODIES[2].to_vec(), MOST_ROWS + 1, 1, plain));
     all.push(input(Form::Body, vec![], 0, 1, vec![vec![]]));
     all.push(input(Form::Body, vec![1, 0], 0, 1, vec![vec![]]));
     all
@@ -99,14 +99,10 @@ pub fn run(session: &mut Session) {
 
 /// The most rows there can be: none set in one bitmap, all in the other.
 fn edge_of_rows(session: &mut Session) {
-    const MOST_ROWS: u32 = 16_777_216;
-    let body = |value: u32| {
-        let mut words = vec![0x1_FFFE | value; 8];
-        words.push(0x10 | value);
-        words
-    };
-    let words = index_of(MOST_ROWS, &[body(0), body(1)]);
-    let both = |call: Call| Question::new(call).list(&[0, 1]).number(1).room(9);
+    let [none, all] = [false, true].map(|value| one_run(value, segments_of(MOST_ROWS)));
+    let room = all.len();
+    let words = index_of(MOST_ROWS, &[none, all]);
+    let both = |call: Call| Question::new(call).list(&[0, 1]).number(1).room(room);
     let last = |call: Call| Question::new(call).list(&[1]).number(MOST_ROWS - 1);
     session.ask(&words, last(Call::Row));
     session.ask(&words, last(Call::Nth));
@@ -122,12 +118,14 @@ fn edge_of_rows(session: &mut Session) {
 /// An index one word too long, and then one that is just not: a body of idle
 /// markers for zero rows.
 fn edge_of_length(session: &mut Session) {
-    let mut words = vec![0; MOST_WORDS + 1];
-    words[..5].copy_from_slice(&[1, 0, 1, 5, MOST_WORDS as u32 - 4]);
+    const START: usize = entry_place(1);
+    let mut words = vec![0; MOST_INDEX_WORDS + 1];
+    let length = words.len() - START;
+    words[..START].copy_from_slice(&[INDEX_KIND, 0, 1, START as u32, length as u32]);
     let mut long = input(Form::Index, words, 0, 1, vec![vec![]]);
     ask_all(session, &long, &mut Random::for_case(0, u64::MAX));
-    long.words[4] -= 1;
-    long.words.truncate(MOST_WORDS);
+    long.words[START - 1] -= 1;
+    long.words.truncate(MOST_INDEX_WORDS);
     session.ask(&long.words, Question::new(Call::Check));
     let threshold = Question::new(Call::Threshold).list(&[0]).number(1);
     session.ask(&long.words, threshold);

@@ -1,5 +1,7 @@
 //! Makes the input of a case.
 
+use zvonurel::{MOST_BITMAPS, MOST_CLEAN, MOST_DIRTY, WORD_BITS};
+
 use crate::encode::{index_of, last_mask, segments_of, settled, wasteful};
 use crate::random::Random;
 use crate::tear::{tear_body, tear_index, tear_rows};
@@ -39,13 +41,16 @@ enum Style {
     Torn,
 }
 
+/// The fewest and the most rows of a long input.
+const LONG_ROWS: (usize, usize) = (100_000, 400_000);
+
 /// The input of a case.
 pub fn generate(random: &mut Random, long: bool) -> Input {
     let style =
         random.pick(&[Style::Settled, Style::Settled, Style::Wasteful, Style::Wasteful, Style::Torn, Style::Torn]);
     if long {
-        let rows = random.between(100_000, 400_000) as u32;
-        return made(random, Form::Index, style, rows, 64, Effort::Few);
+        let rows = random.between(LONG_ROWS.0, LONG_ROWS.1) as u32;
+        return made(random, Form::Index, style, rows, MOST_BITMAPS as usize, Effort::Few);
     }
     if random.one_in(250) {
         return long_runs(random, style);
@@ -67,12 +72,13 @@ pub fn generate(random: &mut Random, long: bool) -> Input {
 }
 
 fn some_bitmaps(random: &mut Random) -> usize {
+    let most = MOST_BITMAPS as usize;
     match random.below(40) {
         0 => 0,
         1..=22 => random.between(1, 4),
         23..=35 => random.between(5, 12),
-        36..=38 => random.between(13, 63),
-        _ => 64,
+        36..=38 => random.between(13, most - 1),
+        _ => most,
     }
 }
 
@@ -87,10 +93,33 @@ fn some_rows(random: &mut Random, bitmaps: usize) -> u32 {
         _ => 8_000,
     };
     match random.below(8) {
-        0 => (random.below(most) as u32 / 32) * 32,
+        0 => (random.below(most) / WORD_BITS * WORD_BITS) as u32,
         _ => random.between(0, most) as u32,
     }
 }
+
+/// Clean runs about the most of one marker and of two, and of three full ones.
+const RUNS: [usize; 8] = [
+    MOST_CLEAN - 1,
+    MOST_CLEAN,
+    MOST_CLEAN + 1,
+    MOST_CLEAN + 2,
+    2 * MOST_CLEAN - 1,
+    2 * MOST_CLEAN,
+    2 * MOST_CLEAN + 1,
+    3 * MOST_CLEAN,
+];
+
+/// Dirty words about the most of one marker and of two.
+const DIRTIES: [usize; 7] = [
+    MOST_DIRTY - 1,
+    MOST_DIRTY,
+    MOST_DIRTY + 1,
+    MOST_DIRTY + 2,
+    2 * MOST_DIRTY - 1,
+    2 * MOST_DIRTY,
+    2 * MOST_DIRTY + 1,
+];
 
 /// Bodies at the limits of a marker's two counts. The first bitmap has the
 /// long run or the many dirty words; a second one lies beside it in an index.
@@ -102,16 +131,16 @@ fn long_runs(random: &mut Random, style: Style) -> Input {
     }
     if random.one_in(2) {
         let value = random.pick(&[0, u32::MAX]);
-        let run = random.pick(&[65_534, 65_535, 65_536, 65_537, 131_069, 131_070, 131_071, 196_605]);
+        let run = random.pick(&RUNS);
         plain.extend(std::iter::repeat_n(value, run));
     } else {
-        let dirty = random.pick(&[32_766, 32_767, 32_768, 32_769, 65_533, 65_534, 65_535]);
-        plain.extend((0..dirty).map(|_| 1 << random.below(32)));
+        let dirty = random.pick(&DIRTIES);
+        plain.extend((0..dirty).map(|_| 1 << random.below(WORD_BITS)));
     }
     for _ in 0..random.below(4) {
         plain.push(some_word(random));
     }
-    let rows = (32 * plain.len() - random.below(32)) as u32;
+    let rows = (WORD_BITS * plain.len() - random.below(WORD_BITS)) as u32;
     mask_last(&mut plain, rows);
     let mut all = vec![plain];
     if form == Form::Index && random.one_in(2) {
@@ -207,10 +236,10 @@ pub fn some_word(random: &mut Random) -> u32 {
     match random.below(8) {
         0 => 0,
         1 => u32::MAX,
-        2 => 1 << random.below(32),
-        3 => !(1 << random.below(32)),
+        2 => 1 << random.below(WORD_BITS),
+        3 => !(1 << random.below(WORD_BITS)),
         4 => random.word() & random.word() & random.word(),
-        5 => u32::MAX >> random.below(32),
+        5 => u32::MAX >> random.below(WORD_BITS),
         _ => random.word(),
     }
 }

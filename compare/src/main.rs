@@ -37,7 +37,8 @@ refusal never reached.
 
 --mutate     builds one mistake after another into the reference; each has to
              show as a difference within CASES cases
---long       inputs of 64 bitmaps and 100,000 to 400,000 rows (some seconds each)
+--long       indexes with the most bitmaps and some hundred thousand rows (some
+             seconds each)
 --only CASE  this one case alone, without the fixed ones and the table
 --program PATH  gives the cases' indexes to the program at PATH, and compares
              what it writes with the reference";

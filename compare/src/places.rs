@@ -1,7 +1,10 @@
 //! Which line of the paper's table a refusal belongs to, and how often each
 //! line was reached by each call.
 
+use zvonurel::{ENTRY_WORDS, HEAD_WORDS, MOST_NAMED};
+
 use crate::ask::Refused;
+use crate::encode::{dirty_of, entry_place, segments_of};
 use crate::question::{Call, Question};
 
 #[derive(Debug, Clone, Copy, PartialEq, Eq)]
@@ -44,9 +47,9 @@ use Place::*;
 
 const ALL: [(Place, &str); 32] = [
     (Answered, "- answered"),
-    (ShortHead, "1 index below 3 words"),
-    (ShortContents, "1 index below 3 + 2N words"),
-    (WordZero, "2 word 0 isn't 1"),
+    (ShortHead, "1 index below its head"),
+    (ShortContents, "1 index below its contents"),
+    (WordZero, "2 word 0 isn't the kind"),
     (TooLong, "3 index too long"),
     (Rows, "3 rows too many"),
     (Bitmaps, "3 N too large"),
@@ -64,7 +67,7 @@ const ALL: [(Place, &str); 32] = [
     (BadRow, "8 row number"),
     (BadNth, "8 nth past the count"),
     (ListEmpty, "8 list of 0"),
-    (ListLong, "8 list of more than 64"),
+    (ListLong, "8 list too long"),
     (ListNumber, "8 bitmap number in a list"),
     (ThresholdZero, "8 T of 0"),
     (ThresholdHigh, "8 T above the list"),
@@ -108,14 +111,14 @@ pub fn place_of(words: &[u32], question: &Question, refused: Option<Refused>) ->
     };
     let word = word as usize;
     match number {
-        1 if word < 3 => ShortHead,
+        1 if word < HEAD_WORDS => ShortHead,
         1 => ShortContents,
         2 => WordZero,
         3 if !question.call.of_index() || word == 1 => Rows,
         3 if word == 0 => TooLong,
         3 => Bitmaps,
-        4 if word >= 3 + 2 * words[2] as usize => FinalEnd,
-        4 if word % 2 == 1 => Start,
+        4 if word >= entry_place(words[2] as usize) => FinalEnd,
+        4 if (word - HEAD_WORDS).is_multiple_of(ENTRY_WORDS) => Start,
         4 => Length,
         5 => PastBody,
         6 | 7 if question.call == Call::Compress => PadInPlain,
@@ -128,8 +131,9 @@ pub fn place_of(words: &[u32], question: &Question, refused: Option<Refused>) ->
 fn in_body(words: &[u32], question: &Question, number: u32, bitmap: usize, word: usize) -> Place {
     let (start, end) = match question.call.of_index() {
         true => {
-            let start = words[3 + 2 * bitmap] as usize;
-            (start, start + words[4 + 2 * bitmap] as usize)
+            let entry = entry_place(bitmap);
+            let start = words[entry] as usize;
+            (start, start + words[entry + 1] as usize)
         }
         false => (0, words.len()),
     };
@@ -138,7 +142,7 @@ fn in_body(words: &[u32], question: &Question, number: u32, bitmap: usize, word:
     }
     let mut marker = start;
     while marker < word {
-        marker += 1 + (words[marker] >> 17) as usize;
+        marker += 1 + dirty_of(words[marker]);
     }
     match marker == word {
         true => OnesOverPads,
@@ -175,7 +179,7 @@ fn bad_numbers(words: &[u32], question: &Question) -> Vec<Place> {
         (call == Call::Row && question.number >= words[1], BadRow),
         (call == Call::Nth && !bad(0), BadNth),
         (call.of_list() && list.is_empty(), ListEmpty),
-        (call.of_list() && list.len() > 64, ListLong),
+        (call.of_list() && list.len() > MOST_NAMED, ListLong),
         (call.of_list() && list.iter().any(|&k| k >= n), ListNumber),
     ])
 }
@@ -184,7 +188,7 @@ fn bad_numbers(words: &[u32], question: &Question) -> Vec<Place> {
 fn bad_others(words: &[u32], question: &Question) -> Vec<Place> {
     let (call, table) = (question.call, &question.table);
     let (length, t) = (question.list.len(), question.number as usize);
-    let segments = (question.rows as usize).div_ceil(32);
+    let segments = segments_of(question.rows);
     // No T fits an empty list, so there it is the list that counts.
     let threshold = call == Call::Threshold && length > 0;
     let symmetric = call == Call::Symmetric;

@@ -5,9 +5,20 @@ use std::io::Write;
 use std::process::{Command, Stdio};
 use std::time::Instant;
 
+use zvonurel::MOST_ROWS;
+
+use crate::encode::{entry_place, index_of, one_run, segments_of};
 use crate::fixed::LOOPED;
 use crate::generate::{generate, Form};
 use crate::random::Random;
+
+/// The most bytes that the program reads.
+const MOST_BYTES: usize = 65_536;
+
+/// Far more bytes than these.
+const FAR_BYTES: usize = 200_000;
+
+const WORD_BYTES: usize = size_of::<u32>();
 
 /// What the program writes for this input.
 fn output(program: &str, input: &[u8]) -> Vec<u8> {
@@ -29,19 +40,20 @@ fn question(t: u32, index: &[u32]) -> Vec<u8> {
 
 /// One bitmap with this body.
 fn single(rows: u32, body: &[u32]) -> Vec<u32> {
-    [&[1, rows, 1, 5, body.len() as u32], body].concat()
+    index_of(rows, &[body.to_vec()])
 }
 
 /// Idle markers before a body, so that the whole input has so many bytes.
 fn padded(bytes: usize) -> Vec<u8> {
-    let body = [&vec![0; bytes / 4 - 6 - 2][..], &[0x0002_0000, 0x5]].concat();
+    let last = [0x0002_0000, 0x5];
+    let idle = bytes / WORD_BYTES - 1 - entry_place(1) - last.len();
+    let body = [&vec![0; idle][..], &last].concat();
     question(1, &single(4, &body))
 }
 
 /// All rows of the longest bitmap there can be.
 fn all_rows() -> Vec<u8> {
-    let markers = [&[0x0001_FFFF; 8][..], &[0x0000_0011]].concat();
-    question(1, &single(16_777_216, &markers))
+    question(1, &single(MOST_ROWS, &one_run(true, segments_of(MOST_ROWS))))
 }
 
 /// Inputs that every run tries.
@@ -62,9 +74,9 @@ fn fixed() -> Vec<Vec<u8>> {
         question(1, &single(0, &[])),
         question(1, &single(0, &[0])),
     ]);
-    inputs.extend([65_532, 65_536].map(padded));
-    inputs.extend([65_537, 65_540, 200_000].map(|n| vec![0; n]));
-    inputs.extend([65_535, 65_534].map(|n| padded(65_536)[..n].to_vec()));
+    inputs.extend([MOST_BYTES - WORD_BYTES, MOST_BYTES].map(padded));
+    inputs.extend([MOST_BYTES + 1, MOST_BYTES + WORD_BYTES, FAR_BYTES].map(|n| vec![0; n]));
+    inputs.extend([MOST_BYTES - 1, MOST_BYTES - 2].map(|n| padded(MOST_BYTES)[..n].to_vec()));
     inputs.push(all_rows());
     inputs
 }

@@ -1,7 +1,9 @@
 //! The paper's own readings, word for word, held against both programs.
 
+use zvonurel::{HISTOGRAM_COUNTS, WORD_BITS};
+
 use crate::ask::{ask_library, ask_reference, Outcome, Refused, Value};
-use crate::encode::index_of;
+use crate::encode::{index_of, segments_of};
 use crate::fixed::LOOPED;
 use crate::question::{Call, Question};
 
@@ -41,8 +43,8 @@ impl Readings {
 
     /// Writing these rows gives this body, and reading it gives them back.
     fn body(&mut self, rows: u32, set: &[u32], body: &[u32]) {
-        let mut plain = vec![0; (rows as usize).div_ceil(32)];
-        set.iter().for_each(|r| plain[*r as usize / 32] |= 1 << (r % 32));
+        let mut plain = vec![0; segments_of(rows)];
+        set.iter().for_each(|&r| plain[r as usize / WORD_BITS] |= 1 << (r as usize % WORD_BITS));
         let written = Ok(Value::Words(body.len()));
         let compress = Question::new(Call::Compress).rows(rows).room(body.len());
         self.reading(&plain, &compress, written, body);
@@ -91,7 +93,7 @@ impl Readings {
         self.reading(&LOOPED, &four, Err((8, 0, 0)), &[]);
         let small = threshold.number(2).room(1);
         self.reading(&LOOPED, &small, Err((9, 0, 2)), &[]);
-        let mut tally = [0; 65];
+        let mut tally = [0; HISTOGRAM_COUNTS];
         (tally[1], tally[2]) = (2, 2);
         let histogram = Question::new(Call::Histogram).list(&list);
         let expected = Ok(Value::Tally(Box::new(tally)));

@@ -1,8 +1,10 @@
 //! Makes a difference smaller while it stays a difference.
 
 use reference::Mistake;
+use zvonurel::{ENTRY_WORDS, MOST_BITMAPS, WORD_BITS};
 
 use crate::ask::{ask_library, ask_reference, Outcome, Value};
+use crate::encode::entry_place;
 use crate::question::Question;
 use crate::session::Difference;
 
@@ -61,7 +63,7 @@ fn candidates(difference: &Difference) -> Vec<Candidate> {
         return all;
     }
     if question.call.of_index() {
-        let n = words.get(2).copied().unwrap_or(0).min(64);
+        let n = words.get(2).copied().unwrap_or(0).min(MOST_BITMAPS);
         all.extend((0..n).filter_map(|k| without_bitmap(words, question, k as usize)));
     } else {
         all.extend((0..words.len()).map(|at| without(words, question, at)));
@@ -79,7 +81,7 @@ fn without(words: &[u32], question: &Question, at: usize) -> Candidate {
     let mut less = words.to_vec();
     less.remove(at);
     let mut question = question.clone();
-    question.rows = question.rows.saturating_sub(32);
+    question.rows = question.rows.saturating_sub(WORD_BITS as u32);
     (less, question)
 }
 
@@ -89,19 +91,21 @@ fn without_bitmap(words: &[u32], question: &Question, k: usize) -> Option<Candid
         return None;
     }
     let n = words[2] as usize;
-    let start = *words.get(3 + 2 * k)? as usize;
-    let length = *words.get(4 + 2 * k)?;
+    let entry = entry_place(k);
+    let start = *words.get(entry)? as usize;
+    let length = *words.get(entry + 1)?;
     let end = start.checked_add(length as usize)?;
-    if start < 3 + 2 * n || end > words.len() {
+    if start < entry_place(n) || end > words.len() {
         return None;
     }
     let mut less = words.to_vec();
     less.drain(start..end);
-    less.drain(3 + 2 * k..5 + 2 * k);
+    less.drain(entry..entry_place(k + 1));
     less[2] -= 1;
     for other in 0..n - 1 {
-        let by = if other < k { 2 } else { 2 + length };
-        less[3 + 2 * other] = less[3 + 2 * other].wrapping_sub(by);
+        let by = ENTRY_WORDS as u32 + if other < k { 0 } else { length };
+        let start = &mut less[entry_place(other)];
+        *start = start.wrapping_sub(by);
     }
     let mut question = question.clone();
     for number in question.list.iter_mut().filter(|number| **number > k as u32) {

@@ -1,24 +1,34 @@
 //! Spoils sound bodies and indexes.
 
+use zvonurel::{ENTRY_WORDS, HEAD_WORDS, MOST_BITMAPS, MOST_CLEAN, MOST_DIRTY, MOST_ROWS, WORD_BITS};
+
+use crate::encode::{entry_place, marker};
 use crate::random::Random;
+
+/// The markers of one clean segment and of one dirty word.
+const CLEAN: u32 = marker(false, 1, 0);
+const DIRTY: u32 = marker(false, 0, 1);
+
+/// The highest bit of a word.
+const HIGHEST: u32 = 1 << (WORD_BITS - 1);
 
 const EXTREMES: [u32; 16] = [
     0,
     1,
     2,
     3,
-    64,
-    65,
-    0x0001_FFFE,
-    0x0001_FFFF,
-    0x0002_0000,
-    0x0100_0000,
-    0x0100_0001,
-    0x7FFF_FFFF,
-    0x8000_0000,
-    0xFFFE_0000,
-    0xFFFF_FFFE,
-    0xFFFF_FFFF,
+    MOST_BITMAPS,
+    MOST_BITMAPS + 1,
+    marker(false, MOST_CLEAN, 0),
+    marker(true, MOST_CLEAN, 0),
+    DIRTY,
+    MOST_ROWS,
+    MOST_ROWS + 1,
+    HIGHEST - 1,
+    HIGHEST,
+    marker(false, 0, MOST_DIRTY),
+    u32::MAX - 1,
+    u32::MAX,
 ];
 
 /// The same word, a little or entirely different.
@@ -26,12 +36,12 @@ fn other_word(word: u32, random: &mut Random) -> u32 {
     match random.below(11) {
         0 => word.wrapping_add(1),
         1 => word.wrapping_sub(1),
-        2 => word.wrapping_add(2),
-        3 => word.wrapping_sub(2),
-        4 => word.wrapping_add(1 << 17),
-        5 => word.wrapping_sub(1 << 17),
-        6 => word ^ (1 << random.below(32)),
-        7 => word | (1 << 31),
+        2 => word.wrapping_add(CLEAN),
+        3 => word.wrapping_sub(CLEAN),
+        4 => word.wrapping_add(DIRTY),
+        5 => word.wrapping_sub(DIRTY),
+        6 => word ^ (1 << random.below(WORD_BITS)),
+        7 => word | HIGHEST,
         8 => word ^ 1,
         9 => random.word(),
         _ => random.pick(&EXTREMES),
@@ -102,13 +112,14 @@ fn head(words: &mut [u32], at: usize, random: &mut Random) {
 
 /// A start, a length or both changed by one, or to something extreme.
 fn entry(words: &mut [u32], random: &mut Random) {
-    let end = words.len().min(3 + 2 * *words.get(2).unwrap_or(&0) as usize);
-    if end <= 3 {
+    let end = words.len().min(entry_place(*words.get(2).unwrap_or(&0) as usize));
+    if end <= HEAD_WORDS {
         return;
     }
-    let at = random.between(3, end - 1);
+    let at = random.between(HEAD_WORDS, end - 1);
     words[at] = other_place(words[at], random);
-    if at % 2 == 1 && at + 1 < end && random.one_in(3) {
+    let start = (at - HEAD_WORDS).is_multiple_of(ENTRY_WORDS);
+    if start && at + 1 < end && random.one_in(3) {
         words[at + 1] = other_place(words[at + 1], random);
     }
 }
@@ -127,10 +138,10 @@ pub fn tear_rows(rows: u32, random: &mut Random) -> u32 {
     match random.below(8) {
         0 => rows.wrapping_add(1),
         1 => rows.wrapping_sub(1),
-        2 => rows.wrapping_add(32),
-        3 => rows.wrapping_sub(32),
+        2 => rows.wrapping_add(WORD_BITS as u32),
+        3 => rows.wrapping_sub(WORD_BITS as u32),
         4 => rows ^ (1 << random.below(6)),
-        5 => 16_777_217 + random.below(2) as u32 * random.word() / 2,
+        5 => MOST_ROWS + 1 + random.below(2) as u32 * random.word() / 2,
         6 => random.word(),
         _ => random.pick(&EXTREMES),
     }
