@@ -1,6 +1,8 @@
 //! The plain programs beside the library: they work on plain words.
 
-use crate::inputs::Data;
+use zvonurel::{HISTOGRAM_COUNTS, MOST_NAMED, WORD_BITS};
+
+use crate::inputs::{mask_last, Data};
 
 /// What is done with the number of bitmaps that have a row.
 #[derive(Clone, Copy)]
@@ -14,12 +16,12 @@ pub enum Ask {
 #[derive(Clone, PartialEq, Eq)]
 pub struct Plain {
     pub words: Vec<u32>,
-    pub tally: [u32; 65],
+    pub tally: [u32; HISTOGRAM_COUNTS],
 }
 
 impl Plain {
     pub fn new(segments: usize) -> Plain {
-        Plain { words: vec![0; segments], tally: [0; 65] }
+        Plain { words: vec![0; segments], tally: [0; HISTOGRAM_COUNTS] }
     }
 }
 
@@ -37,7 +39,7 @@ fn verdicts(data: &Data, ask: Ask) -> Vec<bool> {
 // ---- row by row ----
 
 fn holders(data: &Data, row: usize) -> usize {
-    let bit = |words: &[u32]| (words[row / 32] >> (row % 32)) & 1;
+    let bit = |words: &[u32]| (words[row / WORD_BITS] >> (row % WORD_BITS)) & 1;
     data.plains().map(bit).sum::<u32>() as usize
 }
 
@@ -48,29 +50,34 @@ pub fn row_by_row(data: &Data, ask: Ask, out: &mut Plain) {
     out.tally.fill(0);
     for row in 0..data.rows as usize {
         let held = holders(data, row);
+        let (at, bit) = (row / WORD_BITS, row % WORD_BITS);
         match ask {
-            Ask::Threshold => out.words[row / 32] |= u32::from(held >= data.t as usize) << (row % 32),
-            Ask::Symmetric => out.words[row / 32] |= u32::from(verdicts[held]) << (row % 32),
+            Ask::Threshold => out.words[at] |= u32::from(held >= data.t as usize) << bit,
+            Ask::Symmetric => out.words[at] |= u32::from(verdicts[held]) << bit,
             Ask::Tally => out.tally[held] += 1,
         }
     }
 }
 
-// ---- 32 counters a segment ----
+// ---- a counter for each row of a segment ----
 
-/// Adds up each segment in 32 counters of a byte.
+/// Large enough for the longest list.
+type Counter = u8;
+const _: () = assert!(MOST_NAMED <= Counter::MAX as usize);
+
+/// Adds up each segment in small counters.
 pub fn counters(data: &Data, ask: Ask, out: &mut Plain) {
     let verdicts = verdicts(data, ask);
     out.tally.fill(0);
     for at in 0..data.segments() {
-        let mut held = [0u8; 32];
+        let mut held: [Counter; WORD_BITS] = [0; WORD_BITS];
         for words in data.plains() {
             let word = words[at];
             for (bit, counter) in held.iter_mut().enumerate() {
-                *counter += ((word >> bit) & 1) as u8;
+                *counter += ((word >> bit) & 1) as Counter;
             }
         }
-        let used = (data.rows as usize - 32 * at).min(32);
+        let used = (data.rows as usize - WORD_BITS * at).min(WORD_BITS);
         let held = &held[..used];
         match ask {
             Ask::Tally => held.iter().for_each(|&c| out.tally[c as usize] += 1),
@@ -80,7 +87,7 @@ pub fn counters(data: &Data, ask: Ask, out: &mut Plain) {
     }
 }
 
-fn collect(held: &[u8], yes: impl Fn(u8) -> bool) -> u32 {
+fn collect(held: &[Counter], yes: impl Fn(Counter) -> bool) -> u32 {
     let bits = held.iter().enumerate();
     bits.fold(0, |word, (bit, &c)| word | u32::from(yes(c)) << bit)
 }
@@ -92,9 +99,17 @@ const LANES: usize = 8;
 
 type Lanes = [u32; LANES];
 
+/// Binary digits of a number.
+const fn digits(n: usize) -> usize {
+    (usize::BITS - n.leading_zeros()) as usize
+}
+
+/// Binary digits that are always enough.
+const MOST_DIGITS: usize = digits(MOST_NAMED);
+
 /// The numbers of all rows of a block, one slice for each binary digit.
-fn slices(data: &Data, at: usize, digits: usize) -> [Lanes; 7] {
-    let mut all = [[0; LANES]; 7];
+fn slices(data: &Data, at: usize, digits: usize) -> [Lanes; MOST_DIGITS] {
+    let mut all = [[0; LANES]; MOST_DIGITS];
     let sum = &mut all[..digits];
     let mut k = 0;
     while k + 8 <= data.bitmaps {
@@ -180,7 +195,7 @@ fn exactly(sum: &[Lanes], c: usize) -> Lanes {
 /// Binary counters, all bits of eight segments at once.
 pub fn bit_sliced(data: &Data, ask: Ask, out: &mut Plain) {
     let verdicts = verdicts(data, ask);
-    let digits = (usize::BITS - data.bitmaps.leading_zeros()) as usize;
+    let digits = digits(data.bitmaps);
     let segments = data.segments();
     out.tally.fill(0);
     for at in (0..segments).step_by(LANES) {
@@ -211,7 +226,7 @@ fn chosen(sum: &[Lanes], verdicts: &[bool]) -> Lanes {
     word
 }
 
-fn add_up(sum: &[Lanes], most: usize, tally: &mut [u32; 65]) {
+fn add_up(sum: &[Lanes], most: usize, tally: &mut [u32; HISTOGRAM_COUNTS]) {
     for (c, rows) in tally.iter_mut().enumerate().take(most + 1) {
         let same = exactly(sum, c);
         *rows += same.iter().map(|word| word.count_ones()).sum::<u32>();
@@ -220,9 +235,7 @@ fn add_up(sum: &[Lanes], most: usize, tally: &mut [u32; 65]) {
 
 /// Rows past the last one have number 0: they leave the answer and the tally.
 fn remove_pads(data: &Data, out: &mut Plain) {
-    let past = data.segments().next_multiple_of(LANES) * 32 - data.rows as usize;
+    let past = data.segments().next_multiple_of(LANES) * WORD_BITS - data.rows as usize;
     out.tally[0] = out.tally[0].saturating_sub(past as u32);
-    if !data.rows.is_multiple_of(32) {
-        out.words[data.segments() - 1] &= (1 << (data.rows % 32)) - 1;
-    }
+    mask_last(&mut out.words, data.rows);
 }

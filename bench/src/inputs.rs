@@ -1,5 +1,7 @@
 //! The inputs: the same words in every run.
 
+use zvonurel::{ENTRY_WORDS, HEAD_WORDS, INDEX_KIND, WORD_BITS};
+
 #[derive(Debug, Clone, Copy, PartialEq, Eq)]
 pub enum Kind {
     /// Runs of thousands of segments, a mixed one between them now and then.
@@ -21,6 +23,10 @@ impl Kind {
         }
     }
 }
+
+/// The question that this is all for: at least five of twelve tanks.
+pub const TANKS: usize = 12;
+pub const ENOUGH: usize = 5;
 
 /// splitmix64
 struct Random(u64);
@@ -69,7 +75,7 @@ impl Data {
             plain.extend(words);
         }
         let t = match bitmaps {
-            12 => 5,
+            TANKS => ENOUGH,
             other => (other / 2).max(1),
         };
         Data {
@@ -85,7 +91,7 @@ impl Data {
     }
 
     pub fn segments(&self) -> usize {
-        (self.rows as usize).div_ceil(32)
+        segments_of(self.rows)
     }
 
     /// The plain words of a bitmap.
@@ -100,26 +106,49 @@ impl Data {
 
     /// How many stretches the bitmaps make together.
     pub fn stretches(&self) -> u32 {
-        let mut out = vec![0; 2 * self.segments() + 2];
+        let mut out = vec![0; room(self.segments())];
         let answer = zvonurel::threshold(&self.index, &self.list, self.t, &mut out);
         answer.expect("a sound question").stretches
     }
 
     /// Words of all bodies.
     pub fn words(&self) -> usize {
-        self.index.len() - 3 - 2 * self.bitmaps
+        self.index.len() - entry_place(self.bitmaps)
     }
 
     /// A bitmap's body as a part of the index.
     pub fn body(&self, k: usize) -> &[u32] {
-        let start = self.index[3 + 2 * k] as usize;
-        &self.index[start..start + self.index[4 + 2 * k] as usize]
+        let entry = entry_place(k);
+        let (start, length) = (self.index[entry] as usize, self.index[entry + 1] as usize);
+        &self.index[start..start + length]
+    }
+}
+
+fn segments_of(rows: u32) -> usize {
+    (rows as usize).div_ceil(WORD_BITS)
+}
+
+/// Where a bitmap's entry stands, its start and then its length; with N for `k`, where the bodies begin.
+fn entry_place(k: usize) -> usize {
+    HEAD_WORDS + ENTRY_WORDS * k
+}
+
+/// Words enough for any body of so many segments.
+pub fn room(segments: usize) -> usize {
+    2 * segments + 2
+}
+
+/// Clears the bits behind the last row.
+pub fn mask_last(words: &mut [u32], rows: u32) {
+    let used = rows as usize % WORD_BITS;
+    if used > 0 {
+        words[segments_of(rows) - 1] &= (1 << used) - 1;
     }
 }
 
 /// Plain words of one bitmap.
 fn bitmap(kind: Kind, rows: u32, seed: u64) -> Vec<u32> {
-    let segments = (rows as usize).div_ceil(32);
+    let segments = segments_of(rows);
     let mut random = Random(seed);
     let mut words = Vec::with_capacity(segments);
     while words.len() < segments {
@@ -134,22 +163,20 @@ fn bitmap(kind: Kind, rows: u32, seed: u64) -> Vec<u32> {
         let mixed = mixed.min(segments - words.len());
         words.extend((0..mixed).map(|_| random.mixed()));
     }
-    if !rows.is_multiple_of(32) {
-        words[segments - 1] &= (1 << (rows % 32)) - 1;
-    }
+    mask_last(&mut words, rows);
     words
 }
 
 fn body(rows: u32, plain: &[u32]) -> Vec<u32> {
-    let mut out = vec![0; 2 * plain.len() + 2];
+    let mut out = vec![0; room(plain.len())];
     let words = zvonurel::compress(rows, plain, &mut out).expect("room for any body");
     out.truncate(words);
     out
 }
 
 fn index(rows: u32, bodies: &[Vec<u32>]) -> Vec<u32> {
-    let mut words = vec![1, rows, bodies.len() as u32];
-    let mut start = 3 + 2 * bodies.len();
+    let mut words = vec![INDEX_KIND, rows, bodies.len() as u32];
+    let mut start = entry_place(bodies.len());
     for body in bodies {
         words.extend([start as u32, body.len() as u32]);
         start += body.len();

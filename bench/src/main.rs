@@ -9,15 +9,27 @@ mod timing;
 use std::hint::black_box;
 use std::process::ExitCode;
 
+use zvonurel::{MOST_BITMAPS, MOST_ROWS};
+
 use crate::baseline::Plain;
 use crate::calls::{baselines, measured_call, plain_answer, Call, CALLS};
 use crate::growth::{growth, Figure};
-use crate::inputs::{Data, Kind};
+use crate::inputs::{room, Data, Kind, ENOUGH, TANKS};
 use crate::timing::best_seconds;
 
-const HELP: &str = "\
-bench            1,000,000 and 16,000,000 rows; 3, 12 and 64 bitmaps (minutes)
-bench --quick    1,000,000 rows, 12 bitmaps
+/// The sizes that are measured. A dense index of the last of both has to keep within `MOST_INDEX_WORDS`.
+const ROWS: [u32; 2] = [1_000_000, 16_000_000];
+const BITMAPS: [usize; 3] = [3, TANKS, 64];
+
+/// The sizes of the short run.
+const QUICK_ROWS: u32 = ROWS[0];
+const QUICK_BITMAPS: usize = TANKS;
+
+fn help() -> ExitCode {
+    println!(
+        "\
+bench            {ROWS:?} rows, {BITMAPS:?} bitmaps (minutes)
+bench --quick    {QUICK_ROWS} rows, {QUICK_BITMAPS} bitmaps
 bench --one CALL KIND ROWS BITMAPS REPEATS
                  one call so many times, nothing else timed
 
@@ -26,7 +38,7 @@ CALL   check count body_count expand expand_bitmap compress and threshold
 KIND   quiet (runs of 1,000 to 8,000 segments), calm (runs of 10 to 100
        segments, one to four mixed ones between them), dense (all mixed)
 
-T is 5 for 12 bitmaps, else half of them. The table of symmetric says yes at
+T is {ENOUGH} for {TANKS} bitmaps, else half of them. The table of symmetric says yes at
 1, 4, 7 and so on. Each figure is the best of several runs; `x` is the plain
 program's time divided by the library's, so above 1 the library is faster. The
 library checks the whole index in every call that takes one; plain programs
@@ -35,39 +47,38 @@ check nothing.
 Instruction counts of one call (build with --release):
   valgrind --tool=callgrind --toggle-collect='*measured_call*' \\
       target/release/bench --one threshold calm 1000000 12 1
-Making the input is then left out. Divide by REPEATS and by the rows.";
+Making the input is then left out. Divide by REPEATS and by the rows."
+    );
+    ExitCode::from(2)
+}
 
 fn main() -> ExitCode {
     let args: Vec<String> = std::env::args().skip(1).collect();
     let args: Vec<&str> = args.iter().map(String::as_str).collect();
     match args[..] {
-        [] => table(&[1_000_000, 16_000_000], &[3, 12, 64]),
-        ["--quick"] => table(&[1_000_000], &[12]),
+        [] => table(&ROWS, &BITMAPS),
+        ["--quick"] => table(&[QUICK_ROWS], &[QUICK_BITMAPS]),
         ["--one", call, kind, rows, bitmaps, repeats] => {
             if one(call, kind, rows, bitmaps, repeats).is_none() {
-                println!("{HELP}");
-                return ExitCode::from(2);
+                return help();
             }
         }
-        _ => {
-            println!("{HELP}");
-            return ExitCode::from(2);
-        }
+        _ => return help(),
     }
     ExitCode::SUCCESS
 }
 
 /// Room for any answer of these rows.
 fn buffer(data: &Data) -> Vec<u32> {
-    vec![0; 2 * data.segments() + 2]
+    vec![0; room(data.segments())]
 }
 
 /// One call and nothing else, for a profiler.
 fn one(call: &str, kind: &str, rows: &str, bitmaps: &str, repeats: &str) -> Option<()> {
     let call = Call::named(call)?;
     let kind = Kind::ALL.into_iter().find(|k| k.name() == kind)?;
-    let rows: u32 = rows.parse().ok().filter(|r| (1..=16_777_216).contains(r))?;
-    let bitmaps: usize = bitmaps.parse().ok().filter(|n| (2..=64).contains(n))?;
+    let rows: u32 = rows.parse().ok().filter(|r| (1..=MOST_ROWS).contains(r))?;
+    let bitmaps: usize = bitmaps.parse().ok().filter(|n| (2..=MOST_BITMAPS as usize).contains(n))?;
     let repeats: u32 = repeats.parse().ok()?;
     let data = Data::new(kind, rows, bitmaps);
     let mut out = buffer(&data);
