@@ -2,9 +2,11 @@
 use Rattle.logical.proofs.Pairs.{chosen-body, bad-refused, good-rest, listed}
 use Rattle.answers.specs.Told.{Wrote}
 use Rattle.meaning.specs.Refusal.{Outcome}
+use Rattle.meaning.specs.Answer.{fits}
+use Rattle.merge.specs.Merges.{answerBody}
 use lib.ListN.{length}
 use Prim.Native.Nat.{ℕ}
-use mathlib.Core.List.{List}
+use mathlib.Core.List.{List, []}
 use mathlib.Core.Path.{sym, _∙_, subst}
 use denote.Ref.{now}
 use borrow.Author.Needs.{needs}
@@ -53,7 +55,7 @@ returns-2 c = λ p bad b h.
     let l = e .before in
     let a = l .before .before .before .before .args in
     good-rest (now (a .out)) bad _ (sym b ∙ sym (l .names-missing .ensures) ∙ e .if1 .left) (c .words-alone .result) (w .write-answer .last .1 .1 .1 .1 .0)
-    (subst (λ (o : Outcome (List ℕ)). Wrote o (c .words-alone .result) (now (a .out)) (w .write-answer .last .1 .1 .1 .1 .0)) (chosen-body (now (a .index)) (now (a .list)) (a .op) (length (now (a .out))) p h) (c .words-alone .ensures (now (a .index)) (now (a .list)) _ (now (a .out)) (w .write-answer .last .1 .1 .1 .1 .0) (w .write-answer .ensures)))
+    (subst (λ (o : Outcome (List ℕ)). Wrote o (c .words-alone .result) (now (a .out)) (w .write-answer .last .1 .1 .1 .1 .0)) (chosen-body (now (a .index)) (now (a .list)) (a .op) (length (now (a .out))) p h) (c .words-alone .ensures (now (a .index)) (now (a .list)) (fits (length (now (a .out))) (answerBody (now (a .index)) (now (a .list)) (a .op) [])) (now (a .out)) (w .write-answer .last .1 .1 .1 .1 .0) (w .write-answer .ensures)))
 
 pub ask-list-spec : {M : Type 1} → statement M
 ask-list-spec =
