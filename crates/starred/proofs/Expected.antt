@@ -54,6 +54,9 @@ pub sound-told : (c : Checked) (v : Verdict) → verdictOf c ≡ v → v ≡ sou
 unfolding isSound
 sound-told c v e f = rw (e ∙ f) refl
 
+pub part-told : (part expected lent : List ℕ) → part ≡ lent → lent ≡ expected → same part expected ≡ true
+part-told part expected lent e f = rw (e ∙ f) (same-self expected)
+
 module _ (o : Outcome (List ℕ)) (words : ℕ) (after out′ : List ℕ) (h : Writes o words after) where
   pub wrote-told : (w : Written) → Wrote o w sevens out′ → isWritten w words ≡ true
   unfolding isWritten wordsOf writtenOf

@@ -42,10 +42,18 @@ pub fn sound(index: &[u32])
     expect(told::sound(zvonurel::check(index)));
 }
 
+// The part of an index that is a bitmap's body: no words where it is refused.
+pub fn bitmap(index: &[u32], k: u32, part: &[u32])
+    requires { ⌜ meaning.partOf (meaning.bitmap (now index) k) ≡ now part ⌝ }
+{
+    expect(told::same(zvonurel::bitmap(index, k), part));
+}
+
 // A threshold question, with its words and its stretches.
 pub fn threshold(index: &[u32], list: &[u32], t: u32, words: usize, stretches: u32, after: &[u32])
     requires { ⌜ Writes (meaning.threshold (now index) (now list) t 4) words (now after) ⌝ }
-    requires { ⌜ meaning.stretchesReported (now index) (now list) (meaning.threshold (now index) (now list) t 4) ≡ stretches ⌝ }
+    requires { ⌜ meaning.stretchesReported (now index) (now list)
+        (meaning.threshold (now index) (now list) t 4) ≡ stretches ⌝ }
 {
     let mut out = [7; 4];
     let a = zvonurel::threshold(index, list, t, &mut out);

@@ -1,5 +1,7 @@
 // The starred readings of paper 01 ("Readings to test by"), asked of the public calls. What a reading expects is computed from the
 // definitions; that the call gives it is proved of the call's contract alone; and the run tries it on the compiled code.
+use meaning::HISTOGRAM_COUNTS;
+
 mod cases;
 mod told;
 
@@ -44,12 +46,12 @@ fn looped() {
         8,
     ];
     let list = [0, 1, 2];
-    let mut tally: [u32; 65] = [0; 65];
-    tally[1] = 2;
-    tally[2] = 2;
+    let mut counts: [u32; HISTOGRAM_COUNTS] = [0; HISTOGRAM_COUNTS];
+    counts[1] = 2;
+    counts[2] = 2;
     cases::sound(&index);
     cases::threshold(&index, &list, 2, 2, 1, &[0x0002_0000, 0xA, 7, 7]);
-    cases::histogram(&index, &list, &tally);
+    cases::histogram(&index, &list, &counts);
     cases::refuses(&index, &list, 4, &mut [7, 7], &[7, 7], 8, 0);
     cases::refuses(&index, &list, 2, &mut [7], &[7], 9, 2);
 }
@@ -62,6 +64,15 @@ fn eight_rows() {
     cases::xor(&index, 0, 1, 2, &[0x0002_0000, 0x82, 7, 7]);
     cases::and_not(&index, 0, 1, 2, &[0x0002_0000, 0x02, 7, 7]);
     cases::not(&index, 0, 2, &[0x0002_0000, 0xCD, 7, 7]);
+}
+
+// Their parts of the index, and that there is no third.
+fn parts() {
+    let index = [1, 8, 2, 7, 2, 9, 2, 0x0002_0000, 0x32, 0x0002_0000, 0xB0];
+    let none = [0];
+    cases::bitmap(&index, 0, &[0x0002_0000, 0x32]);
+    cases::bitmap(&index, 1, &[0x0002_0000, 0xB0]);
+    cases::bitmap(&index, 2, &none[0..0]);
 }
 
 // Three stretches over 96 rows.
@@ -89,5 +100,6 @@ fn main() {
     ninety_six_rows();
     looped();
     eight_rows();
+    parts();
     stretches();
 }

@@ -4,11 +4,11 @@ use borrow.Author.Needs.{needs}
 use Rattle.starred.proofs.looped.Statement.{statement}
 use Rattle.starred.proofs.looped.Tie as tie
 
-array-write-tally : tie.Need-array-write-tally
-array-write-tally c = search needs
+array-write-counts : tie.Need-array-write-counts
+array-write-counts c = search needs
 
-array-write-tally-2 : tie.Need-array-write-tally-2
-array-write-tally-2 c = search needs
+array-write-counts-2 : tie.Need-array-write-counts-2
+array-write-counts-2 c = search needs
 
 slice-aggregate-sound : tie.Need-slice-aggregate-sound
 slice-aggregate-sound c = search needs
@@ -82,8 +82,8 @@ pub looped-spec : {M : Type 1} → statement M
 looped-spec =
     tie.close
     (tie.spec
-    array-write-tally
-    array-write-tally-2
+    array-write-counts
+    array-write-counts-2
     slice-aggregate-sound
     sound-requires
     slice-aggregate-threshold
