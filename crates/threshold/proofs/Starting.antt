@@ -31,9 +31,10 @@ use Rattle.answers.specs.declared.answer.Answered.{Answered}
 use Rattle.answers.specs.declared.answer.Answered.the-variants.{Words, Refused}
 use Rattle.answers.specs.Told.{answeredOf, wordsIn, Reported}
 use Rattle.threshold.specs.declared.start.Begun.{Begun}
-use Rattle.threshold.specs.Output.{answerRoom, allNamed, refusedText, headText, linesFrom, outcomeText, asked, mostBytes, ragged, wordsOf, outputOf}
-use Rattle.threshold.specs.Texts.{Appended}
-use Rattle.threshold.specs.Listings.{Begins}
+use Rattle.text.specs.Lines.{refusedText, headText, linesFrom}
+use Rattle.threshold.specs.Output.{answerRoom, allNamed, outcomeText, asked, mostBytes, ragged, wordsOf, outputOf}
+use Rattle.text.specs.Texts.{Appended}
+use Rattle.threshold.specs.Begins.{Begins}
 
 -- ---- a refusal
 

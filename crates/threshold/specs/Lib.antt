@@ -1,4 +1,3 @@
 pub mod Output
-pub mod Texts
-pub mod Listings
+pub mod Begins
 pub mod Readings

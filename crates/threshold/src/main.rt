@@ -3,13 +3,11 @@ ghost use Prim.Native.Nat.{_+_, _≤_};
 ghost use mathlib.Core.Path.{_≡_};
 ghost use lib.ListN.{length};
 ghost use Rattle.threshold.specs.Output.{mostBytes};
-ghost use Rattle.threshold.specs.Listings.{Covers};
+ghost use Rattle.text.specs.Listings.{Covers};
 use input::MOST_BYTES;
 
 mod input;
-mod listing;
 mod start;
-mod text;
 
 // Room for the longest input, and one byte more.
 fn room() -> [u8; MOST_BYTES + 1]
@@ -24,9 +22,9 @@ fn list(body: &[u32], rows: u32, out: &mut [u8])
     requires { ⌜ Covers (now body) rows ⌝ }
     requires { ⌜ 21 ≤ length (now out) ⌝ }
 {
-    let mut state = listing::open(body);
+    let mut state = text::listing::open(body);
     while state.row < rows {
-        let f = listing::fill(body, rows, state, out);
+        let f = text::listing::fill(body, rows, state, out);
         let n = f.bytes;
         if !io::write_all(1, &out[..n]) {
             return;

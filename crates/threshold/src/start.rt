@@ -5,13 +5,13 @@ ghost use Prim.Native.Nat.{ℕ, _≤_, min};
 ghost use lib.ListN.{length, getD, drop};
 ghost use Rattle.meaning.specs.Limits.{mostBitmaps};
 ghost use Rattle.meaning.specs.Index.{bitmapCount};
+ghost use Rattle.text.specs.Lines.{refusedText};
 ghost use Rattle.threshold.specs.Output as output;
-ghost use Rattle.threshold.specs.Listings.{Begins};
+ghost use Rattle.threshold.specs.Begins.{Begins};
 use crate::input;
 use crate::input::ANSWER_ROOM;
 use crate::input::MOST_BYTES;
 use crate::input::WORD_BYTES;
-use crate::text;
 use answers::answer::Answered;
 use meaning::MOST_BITMAPS;
 use meaning::MOST_NAMED;
@@ -57,9 +57,9 @@ fn named(index: &[u32]) -> usize
 // A refusal: its line is all.
 fn refused(out: &mut [u8], number: u32, bitmap: u32, word: u64) -> Begun
     requires { ⌜ 128 ≤ length (now out) ⌝ }
-    ensures { λ r. ⌜ ((answer : List ℕ) → Begins (output.refusedText number bitmap word) answer (now (out .entry)) (now (out .exit)) r) ⌝ }
+    ensures { λ r. ⌜ ((answer : List ℕ) → Begins (refusedText number bitmap word) answer (now (out .entry)) (now (out .exit)) r) ⌝ }
 {
-    let bytes = text::refusal(out, number, bitmap, word);
+    let bytes = text::lines::refusal(out, number, bitmap, word);
     Begun {
         bytes,
         words: 0,
@@ -81,7 +81,7 @@ fn ask(t: u32, index: &[u32], answer: &mut [u32], out: &mut [u8]) -> Begun
         Answered::Words(words, _) => {
             let rows = input::word_at(index, 1);
             let set = ewah_read::count::count(&answer[..words]);
-            let bytes = text::head(out, rows, input::word_at(index, 2), t, set);
+            let bytes = text::lines::head(out, rows, input::word_at(index, 2), t, set);
             Begun { bytes, words, rows }
         }
     }

@@ -6,7 +6,7 @@ use mathlib.Core.List.{List, _++_}
 use lib.ListN.{length, getD, take, drop, length-take, length-append}
 use lib.Seq.{length-take-le}
 use Rattle.threshold.specs.Output.{asked, ragged, wordsOf}
-use Rattle.threshold.specs.Listings.{Begins}
+use Rattle.threshold.specs.Begins.{Begins}
 use Rattle.threshold.proofs.Starting.{output-long, output-ragged, output-asked, whole-words, read-words}
 use native.Mathlib.Omega.{arith}
 use borrow.Author.Needs.{needs}

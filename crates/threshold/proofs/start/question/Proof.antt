@@ -5,7 +5,7 @@ use mathlib.Core.List.{List}
 use lib.ListN.{length, getD, drop, length-drop}
 use lib.Seq.{take-all}
 use Rattle.threshold.specs.Output.{asked}
-use Rattle.threshold.specs.Listings.{Begins}
+use Rattle.threshold.specs.Begins.{Begins}
 use native.Mathlib.Omega.{arith}
 use borrow.Author.Needs.{needs}
 use Rattle.threshold.proofs.start.question.Statement.{statement}

@@ -1,5 +1,5 @@
 use denote.Ref.{now}
-use Rattle.threshold.specs.Output.{refusedText}
+use Rattle.text.specs.Lines.{refusedText}
 use Rattle.threshold.proofs.Starting.{begins-refused}
 use borrow.Author.Needs.{needs}
 use Rattle.threshold.proofs.start.refused.Statement.{statement}
