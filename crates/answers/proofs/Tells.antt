@@ -1,4 +1,4 @@
--- What a call that writes tells, where a check comes first and where the buffer may be too short.
+-- What a call that writes tells and leaves: where it is refused, and where the buffer may be too short.
 -- Assumes nothing.
 use Prim.Native.Nat.{ℕ, _≤_, _<_}
 use mathlib.Core.Path.{_≡_, refl, sym, ap, _∙_}

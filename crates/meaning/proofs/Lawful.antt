@@ -1,4 +1,4 @@
--- The laws of `specs/Laws` hold.
+-- `BodyLaws` of `specs/Laws` hold: a sound body in plain facts, and the canonical body.
 -- Assumes nothing.
 use Prim.Native.Nat.{ℕ}
 use mathlib.Core.Bool.{Bool}

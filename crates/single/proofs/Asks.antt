@@ -1,4 +1,4 @@
--- Questions on a sound body: what is refused with 8, and the answers.
+-- Questions on a sound body: what is refused, with 8 or 9, and the answers.
 -- Assumes nothing.
 use Prim.Native.Nat.{ℕ, _*_, _≤_, _<_}
 use mathlib.Core.Bool.{Bool}
