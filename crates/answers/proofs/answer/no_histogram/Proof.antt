@@ -1,3 +1,4 @@
+-- `answers::answer::no_histogram` meets its contract: the refusal that is told, and the zeros, hold by computing. Assumes nothing.
 use mathlib.Core.Path.{refl}
 use Rattle.answers.specs.Told.{histogramTold}
 use Rattle.meaning.specs.Answer.{histogramReported}

@@ -1,4 +1,4 @@
--- `words::bits::count` meets its contract.
+-- `words::bits::count` meets its contract: by `ones-count`, the ones of a word are its set bits.
 -- Assumes nothing.
 use Rattle.words.proofs.BitLaws.{ones-count}
 use Rattle.words.proofs.bits.count.Statement.{statement}

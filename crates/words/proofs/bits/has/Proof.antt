@@ -1,4 +1,4 @@
--- `words::bits::has` meets its contract.
+-- `words::bits::has` meets its contract: by `mask-test`, what a mask of one bit keeps is 0 unless that bit is set.
 -- Assumes nothing.
 use borrow.Author.Needs.{needs}
 use Rattle.words.proofs.BitLaws.{mask-test}

@@ -1,4 +1,4 @@
--- `words::bits::low_ones` meets its contract.
+-- `words::bits::low_ones` meets its contract: by `one-shifted`, 1 shifted by less than 32 loses nothing; 32 is a case of its own.
 -- Assumes nothing.
 use mathlib.Core.Path.{sym, ap}
 use Prim.Native.Nat.{ℕ, _-_, _^_}

@@ -1,4 +1,4 @@
--- `words::rows::last_rows` meets its contract.
+-- `words::rows::last_rows` meets its contract: by `and-mask`, the mask gives the remainder by 32.
 -- Assumes nothing.
 use Prim.Native.Nat.{_-_}
 use native.Mathlib.Omega.{arith}

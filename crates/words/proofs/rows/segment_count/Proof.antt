@@ -1,4 +1,4 @@
--- `words::rows::segment_count` meets its contract.
+-- `words::rows::segment_count` meets its contract: the definition of `segmentCount`, and arithmetic.
 -- Assumes nothing.
 use borrow.Author.Needs.{needs}
 use Rattle.meaning.specs.Segment.{segmentCount}

@@ -1,4 +1,4 @@
--- `words::rows::sets_pad` meets its contract.
+-- `words::rows::sets_pad` meets its contract: by `suc-ones`, one more than the low ones is the least word that sets a pad bit.
 -- Assumes nothing.
 use mathlib.Core.Path.{ap, _∙_}
 use Prim.Native.Nat.{ℕ, suc, _^_}
