@@ -1,3 +1,4 @@
+-- `ewah::check::marker_step` meets its contract: each return is a law of `Steps`, a fault at the marker or its last dirty word, or the step over them. Assumes nothing.
 use denote.Ref.{now}
 use borrow.Author.Needs.{needs}
 use Rattle.ewah.proofs.Steps.{step-5, step-6, step-7, step-dirty, step-next}

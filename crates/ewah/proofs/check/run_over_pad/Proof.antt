@@ -1,4 +1,4 @@
--- `ewah::check::run_over_pad` meets its contract. Assumes nothing.
+-- `ewah::check::run_over_pad` meets its contract: no segments, a run that ends before the last one, and a run that reaches it. Assumes nothing.
 use borrow.Author.Needs.{needs}
 use Rattle.meaning.proofs.Walk.{over-none, over-inside}
 use Rattle.ewah.proofs.Steps.{some-rows, run-last}

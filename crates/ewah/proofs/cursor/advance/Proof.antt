@@ -1,3 +1,4 @@
+-- `ewah::cursor::advance` meets its contract: `run-shorter` where the run goes on; `run-over` and `dirty-over` where the next piece is loaded. Assumes nothing.
 use denote.Ref.{now}
 use Rattle.ewah.proofs.Pieces.{run-shorter, run-over, dirty-over}
 use borrow.Author.Needs.{needs}

@@ -1,3 +1,4 @@
+-- `ewah::cursor::load` meets its contract. The loop's invariant: the pieces from word `at` on, with `due` dirty words to come, are those that were asked for. Assumes nothing.
 use borrow.Author.Needs.{needs}
 use native.Mathlib.Omega.{arith}
 use Prim.Native.Nat.{_-_, _≤_}

@@ -1,4 +1,4 @@
--- `ewah::marker::segment` meets its contract. Assumes nothing.
+-- `ewah::marker::segment` meets its contract: the definition of `fill`, and arithmetic. Assumes nothing.
 use borrow.Author.Needs.{needs}
 use Rattle.meaning.specs.Segment.{fill}
 use Rattle.ewah.proofs.marker.segment.Statement.{statement}
