@@ -1,4 +1,4 @@
--- `ewah::query::count` meets its contract. The invariant: the walk stands at a marker, and n bits of the segments behind are set.
+-- `ewah_read::count::count` meets its contract. The invariant: the walk stands at a marker, and n bits of the segments behind are set.
 -- Assumes nothing.
 use borrow.Author.Needs.{needs}
 use native.Mathlib.Omega.{arith}

@@ -1,4 +1,4 @@
--- `ewah::query::count_run` meets its contract.
+-- `ewah_read::count::count_run` meets its contract: by `fill-count` a clean segment has 32 set bits or none, and by `ones-replicate` a run its length times as many.
 -- Assumes nothing.
 use native.Mathlib.Omega.{arith}
 use borrow.Author.Needs.{needs}

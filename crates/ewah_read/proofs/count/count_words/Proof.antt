@@ -1,4 +1,4 @@
--- `ewah::query::count_words` meets its contract. The invariant: n bits of the first i words are set.
+-- `ewah_read::count::count_words` meets its contract. The invariant: n bits of the first i words are set.
 -- Assumes nothing.
 use borrow.Author.Needs.{needs}
 use native.Mathlib.Omega.{arith}

@@ -1,4 +1,4 @@
--- `ewah::expand::copy` meets its contract. The invariant: the first i words are those of the source, and the others are as they were.
+-- `ewah_read::expand::copy` meets its contract. The invariant: the first i words are those of the source, and the others are as they were.
 -- Assumes nothing.
 use borrow.Author.Needs.{needs}
 use native.Mathlib.Omega.{arith}

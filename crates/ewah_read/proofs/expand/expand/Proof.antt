@@ -1,4 +1,4 @@
--- `ewah::expand::expand` meets its contract. The invariant: the walk stands at a marker with o segments behind; these are written,
+-- `ewah_read::expand::expand` meets its contract. The invariant: the walk stands at a marker with o segments behind; these are written,
 -- and the words behind them are as they were.
 -- Assumes nothing.
 use borrow.Author.Needs.{needs}

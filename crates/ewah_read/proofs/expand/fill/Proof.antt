@@ -1,4 +1,4 @@
--- `ewah::expand::fill` meets its contract. The invariant: the first i words are x, and the others are as they were.
+-- `ewah_read::expand::fill` meets its contract. The invariant: the first i words are x, and the others are as they were.
 -- Assumes nothing.
 use borrow.Author.Needs.{needs}
 use native.Mathlib.Omega.{arith}

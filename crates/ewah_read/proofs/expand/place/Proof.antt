@@ -1,4 +1,4 @@
--- `ewah::expand::place` meets its contract.
+-- `ewah_read::expand::place` meets its contract: by `replace-rest`, the dirty words are copied behind the run that was filled in front.
 -- Assumes nothing.
 use native.Mathlib.Omega.{arith}
 use borrow.Author.Needs.{needs}

@@ -1,4 +1,4 @@
--- `ewah::query::find` meets its contract. The invariant: with the bits of the first i words passed, so many set bits are still ahead.
+-- `ewah_read::nth::find` meets its contract. The invariant: with the bits of the first i words passed, so many set bits are still ahead.
 -- Assumes nothing.
 use borrow.Author.Needs.{needs}
 use native.Mathlib.Omega.{arith}

@@ -1,4 +1,4 @@
--- `ewah::query::nth` meets its contract. The invariant: the walk stands at a marker, and with the set bits of the segments behind
+-- `ewah_read::nth::nth` meets its contract. The invariant: the walk stands at a marker, and with the set bits of the segments behind
 -- passed so many are still ahead.
 -- Assumes nothing.
 use borrow.Author.Needs.{needs}

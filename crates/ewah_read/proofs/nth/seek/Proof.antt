@@ -1,4 +1,4 @@
--- `ewah::query::seek` meets its contract: the clean run is passed first, and then the dirty words.
+-- `ewah_read::nth::seek` meets its contract: the clean run is passed first, and then the dirty words.
 -- Assumes nothing.
 use native.Mathlib.Omega.{arith}
 use borrow.Author.Needs.{needs}

@@ -1,4 +1,4 @@
--- `ewah::query::row` meets its contract.
+-- `ewah_read::row::row` meets its contract: the shift is the quotient by 32 and, by `and-mask`, the mask the remainder, as in `hasRow`.
 -- Assumes nothing.
 use borrow.Author.Needs.{needs}
 use mathlib.Core.Path.{ap₂, _∙_}

@@ -1,4 +1,4 @@
--- `ewah::query::segment` meets its contract. The invariant: the walk stands at a marker, and the segment is so many ahead.
+-- `ewah_read::row::segment` meets its contract. The invariant: the walk stands at a marker, and the segment is so many ahead.
 -- Assumes nothing.
 use borrow.Author.Needs.{needs}
 use native.Mathlib.Omega.{arith}
