@@ -1,4 +1,4 @@
--- `ewah::compress::measure` meets its contract. The loop's invariant: the writer stands for the draft of the words passed. Assumes nothing.
+-- `ewah_write::compress::measure` meets its contract. The loop's invariant: the writer stands for the draft of the words passed. Assumes nothing.
 use Prim.Native.Nat.{_≤_, _-_}
 use mathlib.Core.List.{map}
 use mathlib.Core.Path.{ap, _∙_}

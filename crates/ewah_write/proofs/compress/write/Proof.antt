@@ -1,4 +1,4 @@
--- `ewah::compress::write` meets its contract. The loop's invariant: the draft of the words passed is written, and what lies behind it is as at entry. Assumes nothing.
+-- `ewah_write::compress::write` meets its contract. The loop's invariant: the draft of the words passed is written, and what lies behind it is as at entry. Assumes nothing.
 use Prim.Native.Nat.{_≤_, _+_, _-_}
 use mathlib.Core.Path.{_≡_, refl, ap, _∙_}
 use mathlib.Core.List.{map, [], _∷_}

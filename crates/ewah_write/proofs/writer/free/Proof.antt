@@ -1,4 +1,4 @@
--- `ewah::writer::free` meets its contract. Assumes nothing.
+-- `ewah_write::writer::free` meets its contract: its branches decide the two tests of `freeOf`. Assumes nothing.
 use borrow.Author.Tests.{eq-eqb, ne-eqb}
 use borrow.Author.Needs.{needs}
 use Rattle.ewah_write.specs.Drafts.{freeOf}

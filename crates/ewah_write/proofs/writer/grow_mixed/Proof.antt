@@ -1,4 +1,4 @@
--- `ewah::writer::grow_mixed` meets its contract: `grown-dirty` and `grown-opened` are its two ways. Assumes nothing.
+-- `ewah_write::writer::grow_mixed` meets its contract: `grown-dirty` and `grown-opened` are its two ways. Assumes nothing.
 use borrow.Author.Needs.{needs}
 use Rattle.ewah_write.proofs.Growing.{grown-dirty, grown-opened}
 use Rattle.ewah_write.proofs.writer.grow_mixed.Statement.{statement}

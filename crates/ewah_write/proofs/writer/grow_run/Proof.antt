@@ -1,4 +1,4 @@
--- `ewah::writer::grow_run` meets its contract: `grown-in` and `grown-over` are its two ways. Assumes nothing.
+-- `ewah_write::writer::grow_run` meets its contract: `grown-in` and `grown-over` are its two ways. Assumes nothing.
 use borrow.Author.Needs.{needs}
 use Rattle.ewah_write.proofs.Growing.{grown-in, grown-over}
 use Rattle.ewah_write.proofs.writer.grow_run.Statement.{statement}

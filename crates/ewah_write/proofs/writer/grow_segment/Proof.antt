@@ -1,4 +1,4 @@
--- `ewah::writer::grow_segment` meets its contract. Assumes nothing.
+-- `ewah_write::writer::grow_segment` meets its contract: `kind-zeros`, `kind-ones` and `kind-other` say which kind the word has in each way. Assumes nothing.
 use borrow.Author.Needs.{needs}
 use Rattle.ewah_write.proofs.Growing.{kind-zeros, kind-ones, kind-other}
 use Rattle.ewah_write.proofs.writer.grow_segment.Statement.{statement}

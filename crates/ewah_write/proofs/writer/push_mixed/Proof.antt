@@ -1,4 +1,4 @@
--- `ewah::writer::push_mixed` meets its contract: `mixed-fits` has the places of its stores, and `mixed-pushed` the words.
+-- `ewah_write::writer::push_mixed` meets its contract: `mixed-fits` has the places of its stores, and `mixed-pushed` the words.
 -- Assumes nothing.
 use Prim.Native.Nat.{_+_, _≤_, _<_}
 use mathlib.Core.List.{[], _∷_}

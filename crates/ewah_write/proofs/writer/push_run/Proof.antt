@@ -1,4 +1,4 @@
--- `ewah::writer::push_run` meets its contract: by `known`, what holds before the stores, each way is a law of `Pushing`.
+-- `ewah_write::writer::push_run` meets its contract: by `known`, what holds before the stores, each way is a law of `Pushing`.
 -- Assumes nothing.
 use native.Mathlib.Omega.{arith}
 use lib.ListN.{replicate, length-set}

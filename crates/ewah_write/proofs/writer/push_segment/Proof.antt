@@ -1,4 +1,4 @@
--- `ewah::writer::push_segment` meets its contract. Assumes nothing.
+-- `ewah_write::writer::push_segment` meets its contract: `kind-zeros`, `kind-ones` and `kind-other` carry the room and the push between the word and its kind. Assumes nothing.
 use borrow.Author.Needs.{needs}
 use Rattle.ewah_write.proofs.Growing.{kind-zeros, kind-ones, kind-other}
 use Rattle.ewah_write.proofs.writer.push_segment.Statement.{statement}
