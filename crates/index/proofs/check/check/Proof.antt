@@ -1,3 +1,4 @@
+-- `index::check::check` meets its contract: the head's refusal; or, by `head-facts`, the contents may be checked. Assumes nothing.
 use denote.Ref.{now}
 use Rattle.meaning.specs.Index.{bitmapCount, entryPlace, headFault, entriesFault, bodiesFault, indexFault}
 use Rattle.meaning.specs.Refusal.{_then_}

@@ -1,3 +1,4 @@
+-- `index::check::check_bodies` meets its contract. The loop's invariant: the first fault of the bodies from k on is that of all bodies. Assumes nothing.
 use Rattle.index.proofs.EntrySteps.{bodies-start, fault-of, bodies-next, bodies-fault, bodies-end}
 use mathlib.Core.Path.{_≡_, sym, ap, _∙_}
 use denote.Ref.{now}

@@ -1,3 +1,4 @@
+-- `index::check::check_body` meets its contract: `ewah::check::check` of the body's part; by `body-within` its places fit 64 bits. Assumes nothing.
 use Prim.Native.Nat.{ℕ}
 use mathlib.Core.Path.{ap₂}
 use mathlib.Core.List.{List}

@@ -1,3 +1,4 @@
+-- `index::check::check_contents` meets its contract: the refusal of the entries; or, by `entry-facts`, the bodies may be checked. Assumes nothing.
 use denote.Ref.{now}
 use Rattle.meaning.specs.Index.{bitmapCount, entryPlace, entriesFault, bodiesFault}
 use Rattle.answers.specs.Told.{verdictOf}

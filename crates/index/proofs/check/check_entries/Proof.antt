@@ -1,3 +1,4 @@
+-- `index::check::check_entries` meets its contract. The loop's invariant: the first fault of the entries from k on, with the next body due at `end`, is that of all entries. Assumes nothing.
 use Rattle.index.proofs.EntrySteps.{entries-start, passed-of, faulty-of, entries-next, entries-fault, entries-left, entries-end}
 use mathlib.Core.Path.{_≡_, ap, _∙_}
 use denote.Ref.{now}

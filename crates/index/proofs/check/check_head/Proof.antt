@@ -1,3 +1,4 @@
+-- `index::check::check_head` meets its contract: each of its seven returns is a law of `Heads`. Assumes nothing.
 use mathlib.Core.Path.{ap, _∙_}
 use denote.Ref.{now}
 use Rattle.answers.specs.Told.{verdictOf}

@@ -1,3 +1,4 @@
+-- `index::contents::bitmaps` meets its contract: word 2, which every head has. Assumes nothing.
 use borrow.Author.Needs.{needs}
 use Rattle.meaning.specs.Index.{bitmapCount}
 use Rattle.index.proofs.contents.bitmaps.Statement.{statement}

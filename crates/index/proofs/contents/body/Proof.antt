@@ -1,3 +1,4 @@
+-- `index::contents::body` meets its contract: by `body-within` the part lies in the index, and by `body-part` it is the body. Assumes nothing.
 use mathlib.Core.Path.{refl}
 use denote.Ref.{now}
 use Rattle.meaning.specs.Index.{bodyAt}

@@ -1,3 +1,4 @@
+-- `index::contents::entry_place` meets its contract: the definition of `entryPlace`, and arithmetic for its bound. Assumes nothing.
 use Rattle.meaning.specs.Index.{entryPlace}
 use borrow.Author.Needs.{needs}
 use Rattle.index.proofs.contents.entry_place.Statement.{statement}

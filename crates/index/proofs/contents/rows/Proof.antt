@@ -1,3 +1,4 @@
+-- `index::contents::rows` meets its contract: word 1, which every head has. Assumes nothing.
 use borrow.Author.Needs.{needs}
 use Rattle.meaning.specs.Index.{rowCount}
 use Rattle.index.proofs.contents.rows.Statement.{statement}

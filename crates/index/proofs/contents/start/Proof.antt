@@ -1,3 +1,4 @@
+-- `index::contents::start` meets its contract: the entry's first word, which by `entry-within` lies in the index. Assumes nothing.
 use mathlib.Core.Path.{ap, _∙_}
 use denote.Ref.{now}
 use Prim.Native.Nat.{ℕ}
