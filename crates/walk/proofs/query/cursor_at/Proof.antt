@@ -1,4 +1,4 @@
--- `merge::query::cursor_at` meets its contract.
+-- `walk::query::cursor_at` meets its contract: a tag of 2 is a dirty word (`on-dirty`), any other a clean run (`on-clean`).
 -- Assumes nothing.
 use denote.Ref.{now}
 use Rattle.walk.proofs.Numbers.{on-dirty, on-clean}

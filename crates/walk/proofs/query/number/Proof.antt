@@ -1,4 +1,4 @@
--- `merge::query::number` meets its contract.
+-- `walk::query::number` meets its contract: by the kind of piece, `numberOf` is what is left of the run or the word.
 -- Assumes nothing.
 use mathlib.Core.Path.{sym, ap}
 use Rattle.walk.specs.Queries.{numberOf}

@@ -1,4 +1,4 @@
--- `merge::query::set_cursor` meets its contract: by `stored`, its four stores put the cursor.
+-- `walk::query::set_cursor` meets its contract: by `stored`, its four stores put the cursor.
 -- Assumes nothing.
 use denote.Ref.{now}
 use Rattle.walk.proofs.Numbers.{stored}

@@ -1,4 +1,4 @@
--- `merge::query::tag` meets its contract.
+-- `walk::query::tag` meets its contract: by the kind of piece, `tagOf` is the clean value or 2.
 -- Assumes nothing.
 use mathlib.Core.Path.{sym, ap}
 use Rattle.walk.specs.Queries.{tagOf}

@@ -1,4 +1,4 @@
--- `merge::survey::advance` meets its contract. The invariant: the first i cursors went on, and the survey is theirs.
+-- `walk::survey::advance` meets its contract. The invariant: the first i cursors went on, and the survey is theirs.
 -- Assumes nothing.
 use mathlib.Core.Path.{_≡_, _∙_}
 use Prim.Native.Nat.{_-_, _≤_}

@@ -1,4 +1,4 @@
--- `merge::survey::all` meets its contract. The invariant: the survey is that of the first i places.
+-- `walk::survey::all` meets its contract. The invariant: the survey is that of the first i places.
 -- Assumes nothing.
 use mathlib.Core.Path.{_≡_}
 use Prim.Native.Nat.{_-_, _≤_}

@@ -1,4 +1,4 @@
--- `merge::survey::move_place` meets its contract: by `moved`, the cursor that was put back stands n segments on.
+-- `walk::survey::move_place` meets its contract: by `moved`, the cursor that was put back stands n segments on.
 -- Assumes nothing.
 use denote.Ref.{now}
 use Rattle.meaning.specs.Index.{bodyAt}

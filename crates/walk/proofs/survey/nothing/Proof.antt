@@ -1,4 +1,4 @@
--- `merge::survey::nothing` meets its contract.
+-- `walk::survey::nothing` meets its contract: `surveyed-none`, of any numbers.
 -- Assumes nothing.
 use Rattle.walk.proofs.Weighing.{surveyed-none}
 use Rattle.walk.proofs.survey.nothing.Statement.{statement}

@@ -1,4 +1,4 @@
--- `merge::survey::open` meets its contract. The invariant: the first i cursors stand on the first piece of their bodies.
+-- `walk::survey::open` meets its contract. The invariant: the first i cursors stand on the first piece of their bodies.
 -- Assumes nothing.
 use mathlib.Core.Path.{_≡_, refl, _∙_}
 use Prim.Native.Nat.{_-_, _≤_}

@@ -1,4 +1,4 @@
--- `merge::survey::weigh` meets its contract: `weigh-clean` and `weigh-dirty` are its two ways.
+-- `walk::survey::weigh` meets its contract: `weigh-clean` and `weigh-dirty` are its two ways.
 -- Assumes nothing.
 use Rattle.walk.proofs.Weighing.{weigh-clean, weigh-dirty}
 use borrow.Author.Needs.{needs}
