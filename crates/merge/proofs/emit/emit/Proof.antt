@@ -1,4 +1,4 @@
--- `merge::emit::emit` meets its contract.
+-- `merge::emit::emit` meets its contract: `push` where it stores, and else `grow`, which leaves the buffer.
 -- Assumes nothing.
 use mathlib.Core.Bool.{true≢false}
 use mathlib.Core.Path.{refl, sym, _∙_}

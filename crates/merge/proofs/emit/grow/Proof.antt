@@ -1,4 +1,4 @@
--- `merge::emit::grow` meets its contract.
+-- `merge::emit::grow` meets its contract: a run grows once; by `grown-more` a run and a word are put as one, and `run-used` bounds the words between them.
 -- Assumes nothing.
 use mathlib.Core.List.{[], _∷_}
 use native.Mathlib.Omega.{arith}

@@ -1,4 +1,4 @@
--- `merge::emit::push` meets its contract.
+-- `merge::emit::push` meets its contract: in each case of the part, what `push_run` or `push_tail` asks and gives is said of its segments.
 -- Assumes nothing.
 use borrow.Author.Needs.{needs}
 use Rattle.merge.proofs.emit.push.Statement.{statement}

@@ -1,4 +1,4 @@
--- `merge::emit::push_tail` meets its contract.
+-- `merge::emit::push_tail` meets its contract: `room-first` and `room-rest` part the room between its two pushes, and `pushed-more` joins these.
 -- Assumes nothing.
 use mathlib.Core.List.{[], _∷_}
 use lib.ListN.{replicate}

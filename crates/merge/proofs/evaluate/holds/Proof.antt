@@ -1,4 +1,4 @@
--- `merge::evaluate::holds` meets its contract.
+-- `merge::evaluate::holds` meets its contract: in each case of the operation its test is that of `chosen`.
 -- Assumes nothing.
 use borrow.Author.Needs.{needs}
 use Rattle.merge.specs.Operations.{chosen}

@@ -1,4 +1,4 @@
--- `merge::evaluate::mask_before` meets its contract.
+-- `merge::evaluate::mask_before` meets its contract: `mask-inner` before the last segment, `mask-end` at it.
 -- Assumes nothing.
 use mathlib.Core.Path.{_∙_, ap}
 use Prim.Native.Nat.{ℕ, _-_, _^_}
