@@ -1,3 +1,4 @@
+-- `single::bitmap::check_number` meets its contract: `number-bad` or `number-good`, by the number of bitmaps that was read. Assumes nothing.
 use mathlib.Core.Path.{ap, _∙_}
 use Rattle.answers.specs.Told.{refusedBy, verdictOf}
 use Rattle.single.proofs.Numbers.{number-bad, number-good}

@@ -1,4 +1,4 @@
--- `zvonurel::ask::nth` meets its contract. Assumes nothing.
+-- `single::body::nth` meets its contract: by the case of what `ewah_read::nth::nth` found, its row or 8. Assumes nothing.
 use borrow.Author.Needs.{needs}
 use mathlib.Core.Path.{sym, ap, _∙_}
 use Rattle.ewah_read.specs.Found.{foundOf}

@@ -1,4 +1,4 @@
--- `zvonurel::ask::plain` meets its contract. Assumes nothing.
+-- `single::body::plain` meets its contract: 9 by `plain-none`; else by `plain-words` the segments are the plain words of the rows. Assumes nothing.
 use borrow.Author.Needs.{needs}
 use denote.Ref.{now}
 use Rattle.single.proofs.Asks.{plain-none, plain-words, plain-room}

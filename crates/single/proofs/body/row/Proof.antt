@@ -1,4 +1,4 @@
--- `zvonurel::ask::row` meets its contract. Assumes nothing.
+-- `single::body::row` meets its contract: 8 by `row-past`; else by `row-within` the row lies in a segment of the body. Assumes nothing.
 use borrow.Author.Needs.{needs}
 use mathlib.Core.Path.{ap, _∙_}
 use denote.Ref.{now}

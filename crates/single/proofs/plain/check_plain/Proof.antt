@@ -1,4 +1,4 @@
--- `zvonurel::ask::check_plain` meets its contract. Assumes nothing.
+-- `single::plain::check_plain` meets its contract: each of its five returns is a law of `PlainWords`, in the order of the faults. Assumes nothing.
 use borrow.Author.Needs.{needs}
 use mathlib.Core.Path.{ap, _∙_}
 use native.Mathlib.Omega.{arith}

@@ -1,4 +1,4 @@
--- `zvonurel::ask::write_plain` meets its contract. Assumes nothing.
+-- `single::plain::write_plain` meets its contract: 9 by `write-none`; else by `write-words` what was written is the canonical body of the rows. Assumes nothing.
 use borrow.Author.Needs.{needs}
 use native.Mathlib.Omega.{arith}
 use denote.Ref.{now}
