@@ -1,3 +1,4 @@
+-- `logical::words_alone` meets its contract: `alone-words` and `alone-refused` are the two cases of the answer. Assumes nothing.
 use Rattle.logical.proofs.Pairs.{alone-words, alone-refused}
 use borrow.Author.Needs.{needs}
 use Rattle.logical.proofs.words_alone.Statement.{statement}
