@@ -1,3 +1,4 @@
+-- `zvonurel::bitmap_refusal` meets its contract: the check's refusal; or, by `index-means`, the head is there and the number is tested. Assumes nothing.
 use denote.Ref.{now}
 use Rattle.answers.specs.Told.{verdictOf}
 use Rattle.answers.proofs.Checks.{sound-is, refuses, answers}

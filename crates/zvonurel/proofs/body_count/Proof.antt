@@ -1,4 +1,4 @@
--- `zvonurel::body_count` meets its contract. Assumes nothing.
+-- `zvonurel::body_count` meets its contract: the check's refusal; or, by `facts`, a sound body that `ewah_read::count::count` counts. Assumes nothing.
 use borrow.Author.Needs.{needs}
 use mathlib.Core.Path.{_≡_}
 use denote.Ref.{now}

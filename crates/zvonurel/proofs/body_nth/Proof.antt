@@ -1,4 +1,4 @@
--- `zvonurel::body_nth` meets its contract. Assumes nothing.
+-- `zvonurel::body_nth` meets its contract: the check's refusal; or, by `facts`, a sound body that `single::body::nth` is asked of. Assumes nothing.
 use borrow.Author.Needs.{needs}
 use mathlib.Core.Path.{_≡_}
 use denote.Ref.{now}

@@ -1,3 +1,4 @@
+-- `zvonurel::check` meets its contract: that of `index::check::check`. Assumes nothing.
 use Rattle.meaning.specs.Answer.{check}
 use borrow.Author.Needs.{needs}
 use Rattle.zvonurel.proofs.check.Statement.{statement}

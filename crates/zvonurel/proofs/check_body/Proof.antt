@@ -1,4 +1,4 @@
--- `zvonurel::check_body` meets its contract. Assumes nothing.
+-- `zvonurel::check_body` meets its contract: `rows-over` for too many rows; else `rows-fine`, of what `ewah::check::check` found. Assumes nothing.
 use borrow.Author.Needs.{needs}
 use mathlib.Core.Path.{ap, _∙_}
 use denote.Ref.{now}

@@ -1,4 +1,4 @@
--- `zvonurel::compress` meets its contract. Assumes nothing.
+-- `zvonurel::compress` meets its contract: the refusal of `single::plain::check_plain`; or, by `plain-rows`, valid plain words, and then `single::plain::write_plain`. Assumes nothing.
 use borrow.Author.Needs.{needs}
 use denote.Ref.{now}
 use lib.ListN.{length}

@@ -1,3 +1,4 @@
+-- `zvonurel::count` meets its contract: the bitmap's refusal; or, by `facts-as`, its body is sound, and `ewah_read::count::count` counts it. Assumes nothing.
 use mathlib.Core.Path.{refl, ap, _∙_}
 use denote.Ref.{now}
 use Rattle.answers.proofs.Checks.{sound-is, refuses, answers}

@@ -1,3 +1,4 @@
+-- `zvonurel::expand_bitmap` meets its contract: the bitmap's refusal; or, by `facts-as`, its body is sound, and then `single::body::plain`. Assumes nothing.
 use denote.Ref.{now}
 use Rattle.answers.proofs.Checks.{sound-is, refuses}
 use Rattle.meaning.proofs.BitmapPart.{part-laws}

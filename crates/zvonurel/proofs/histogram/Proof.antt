@@ -1,3 +1,4 @@
+-- `zvonurel::histogram` meets its contract: the check, and then `lists::ask::histogram`. Assumes nothing.
 use denote.Ref.{now}
 use Prim.Native.Nat.{ℕ}
 use mathlib.Core.List.{List}

@@ -1,3 +1,4 @@
+-- `zvonurel::nth` meets its contract: the bitmap's refusal; or, by `facts-as`, its body is sound, and then `single::body::nth`. Assumes nothing.
 use mathlib.Core.Path.{refl, ap, _∙_}
 use denote.Ref.{now}
 use Rattle.answers.proofs.Checks.{sound-is, refuses, answers}

@@ -1,3 +1,4 @@
+-- `zvonurel::row` meets its contract: the bitmap's refusal; or, by `facts-as`, its body is sound, and then `single::body::row`. Assumes nothing.
 use mathlib.Core.Path.{_∙_}
 use denote.Ref.{now}
 use Rattle.answers.proofs.Checks.{sound-is, refuses, answers}

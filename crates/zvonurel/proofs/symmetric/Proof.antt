@@ -1,3 +1,4 @@
+-- `zvonurel::symmetric` meets its contract: the check, and then `lists::ask::symmetric`. Assumes nothing.
 use denote.Ref.{now}
 use lib.ListN.{length}
 use Rattle.answers.proofs.Checks.{refuses}

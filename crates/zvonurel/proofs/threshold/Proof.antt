@@ -1,3 +1,4 @@
+-- `zvonurel::threshold` meets its contract: the check, and then `lists::ask::threshold`; by `demand-met` demand 3 follows. Assumes nothing.
 use denote.Ref.{now}
 use lib.ListN.{length}
 use Rattle.answers.proofs.Checks.{refuses}
