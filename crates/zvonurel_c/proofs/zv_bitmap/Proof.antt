@@ -1,3 +1,4 @@
+-- `zvonurel_c::zv_bitmap` meets its contract: `lends-none` on a refusal; else `lends-part`, with the place that the contents say. Assumes nothing.
 use denote.Ref.{now}
 use Rattle.answers.proofs.Checks.{sound-is, refused-is}
 use Rattle.zvonurel_c.proofs.Lent.{there, lends-none, lends-part}

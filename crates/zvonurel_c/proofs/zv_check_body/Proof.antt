@@ -1,3 +1,4 @@
+-- `zvonurel_c::zv_check_body` meets its contract: `checks` of what `zvonurel::check_body` told; no refusal of it has number 0. Assumes nothing.
 use mathlib.Core.Path.{ap, _∙_}
 use denote.Ref.{now}
 use Rattle.meaning.specs.Answer as meaning

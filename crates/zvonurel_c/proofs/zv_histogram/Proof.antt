@@ -1,3 +1,4 @@
+-- `zvonurel_c::zv_histogram` meets its contract: `counts` of what `zvonurel::histogram` told; no refusal of it has number 0. Assumes nothing.
 use denote.Ref.{now}
 use Rattle.meaning.specs.Answer as meaning
 use Rattle.meaning.proofs.Numbered as numbered

@@ -1,3 +1,4 @@
+-- `zvonurel_c::zv_row` meets its contract: `flags` of what `zvonurel::row` told; no refusal of it has number 0. Assumes nothing.
 use mathlib.Core.Path.{ap, _∙_}
 use denote.Ref.{now}
 use Rattle.meaning.specs.Answer as meaning

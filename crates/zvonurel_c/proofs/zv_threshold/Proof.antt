@@ -1,3 +1,4 @@
+-- `zvonurel_c::zv_threshold` meets its contract: `reports` of what `zvonurel::threshold` told; by `demanded`, demand 3 holds of what the caller reads. Assumes nothing.
 use denote.Ref.{now}
 use lib.ListN.{length}
 use Rattle.meaning.specs.Answer as meaning

@@ -1,3 +1,4 @@
+-- `zvonurel_c::reply::answered` meets its contract: in each case of what was told, the five fields are those of `answeredReply`. Assumes nothing.
 use Rattle.zvonurel_c.specs.Exported.{answeredReply}
 use borrow.Author.Needs.{needs}
 use Rattle.zvonurel_c.proofs.reply.answered.Statement.{statement}

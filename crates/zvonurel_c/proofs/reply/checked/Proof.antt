@@ -1,3 +1,4 @@
+-- `zvonurel_c::reply::checked` meets its contract: in each case of what was told, a refusal's three numbers or three zeros. Assumes nothing.
 use Rattle.zvonurel_c.specs.Exported.{numberIn, bitmapIn, wordIn}
 use Rattle.answers.specs.Told.{verdictOf}
 use borrow.Author.Needs.{needs}

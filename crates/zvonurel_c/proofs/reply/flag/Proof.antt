@@ -1,3 +1,4 @@
+-- `zvonurel_c::reply::flag` meets its contract: in each case of what was told, a refusal or the flag; by `as-number` the flag is 1 or 0. Assumes nothing.
 use Rattle.zvonurel_c.specs.Exported.{numberIn, bitmapIn, wordIn, flagIn}
 use Rattle.answers.specs.Told.{flagOf}
 use Rattle.zvonurel_c.proofs.Codes.{as-number}

@@ -1,3 +1,4 @@
+-- `zvonurel_c::reply::histogram` meets its contract: the three numbers of `checked`, with the counts as they are. Assumes nothing.
 use Rattle.zvonurel_c.specs.declared.reply.ZvChecked.{ZvChecked}
 use mathlib.Core.Path.{ap}
 use borrow.Author.Needs.{needs}

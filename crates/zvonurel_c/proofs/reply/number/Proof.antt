@@ -1,3 +1,4 @@
+-- `zvonurel_c::reply::number` meets its contract: in each case of what was told, a refusal and 0 or three zeros and the value. Assumes nothing.
 use Rattle.zvonurel_c.specs.Exported.{numberIn, bitmapIn, wordIn, valueIn}
 use Rattle.answers.specs.Told.{numberOf}
 use borrow.Author.Needs.{needs}

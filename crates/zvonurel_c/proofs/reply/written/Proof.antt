@@ -1,3 +1,4 @@
+-- `zvonurel_c::reply::written` meets its contract: in each case of what was told, the four fields are those of `writtenReply`. Assumes nothing.
 use Rattle.zvonurel_c.specs.Exported.{writtenReply}
 use borrow.Author.Needs.{needs}
 use Rattle.zvonurel_c.proofs.reply.written.Statement.{statement}
