@@ -1,4 +1,4 @@
--- `readings::words` meets its contract. The loop's invariant: nothing but the counter. Assumes nothing.
+-- `readings::words` is safe and ends. The loop's invariant says nothing; the measure is how far i is from `to`. Assumes nothing.
 use Prim.Native.Nat.{_-_}
 use borrow.Author.Needs.{needs}
 use Rattle.readings.proofs.words.Statement.{statement}

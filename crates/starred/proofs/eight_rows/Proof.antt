@@ -1,3 +1,4 @@
+-- `starred::eight_rows` meets its contract: what each of its five cases requires holds by computing the definitions. Assumes nothing.
 use Rattle.meaning.specs.Answer.{bufferAfter, wordsReported, and, or, xor, andNot, notOf}
 use mathlib.Core.Path.{refl}
 use borrow.Author.Needs.{needs}

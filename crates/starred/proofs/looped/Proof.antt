@@ -1,3 +1,4 @@
+-- `starred::looped` meets its contract: what each of its five cases requires holds by computing the definitions. Assumes nothing.
 use Rattle.meaning.specs.Answer.{bufferAfter, wordsReported, check, threshold, stretchesReported, histogram}
 use mathlib.Core.Path.{refl}
 use borrow.Author.Needs.{needs}

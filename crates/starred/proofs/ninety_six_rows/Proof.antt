@@ -1,3 +1,4 @@
+-- `starred::ninety_six_rows` meets its contract: what each of its three cases requires holds by computing the definitions. Assumes nothing.
 use Rattle.meaning.specs.Answer.{bufferAfter, wordsReported, compress, expand}
 use mathlib.Core.Path.{refl}
 use borrow.Author.Needs.{needs}

@@ -1,3 +1,4 @@
+-- `starred::short_bodies` meets its contract: what each of its six cases requires holds by computing the definitions. Assumes nothing.
 use Rattle.meaning.specs.Answer.{bufferAfter, wordsReported, compress, checkBody}
 use mathlib.Core.Path.{refl}
 use borrow.Author.Needs.{needs}

@@ -1,3 +1,4 @@
+-- `starred::stretches` meets its contract: the words and the stretches that its case requires hold by computing the definitions. Assumes nothing.
 use Rattle.meaning.specs.Answer.{bufferAfter, wordsReported, threshold, stretchesReported}
 use mathlib.Core.Path.{refl}
 use borrow.Author.Needs.{needs}

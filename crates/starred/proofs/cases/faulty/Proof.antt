@@ -1,3 +1,4 @@
+-- `starred::cases::faulty` meets its contract: by `faulty-told` the expectation holds of `zvonurel::check_body`. Assumes nothing.
 use Rattle.starred.proofs.Expected.{faulty-told}
 use mathlib.Core.Path.{_∙_}
 use borrow.Author.Needs.{needs}

@@ -1,3 +1,4 @@
+-- `starred::cases::histogram` meets its contract: by `counted-told` and `counted-left` both expectations hold of `zvonurel::histogram`. Assumes nothing.
 use Rattle.starred.proofs.Expected.{counted-told, counted-left}
 use mathlib.Core.Path.{_∙_}
 use borrow.Author.Needs.{needs}

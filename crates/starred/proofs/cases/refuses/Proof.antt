@@ -1,3 +1,4 @@
+-- `starred::cases::refuses` meets its contract: by `refused-told` the refusal is told, and by `refused-left` the buffer is as it was. Assumes nothing.
 use Rattle.starred.proofs.Same.{same-self}
 use Rattle.starred.proofs.Expected.{refused-told, refused-left}
 use mathlib.Core.Path.{_∙_}

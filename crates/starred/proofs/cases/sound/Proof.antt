@@ -1,3 +1,4 @@
+-- `starred::cases::sound` meets its contract: by `sound-told` the expectation holds of `zvonurel::check`. Assumes nothing.
 use Rattle.starred.proofs.Expected.{sound-told}
 use mathlib.Core.Path.{_∙_}
 use borrow.Author.Needs.{needs}

@@ -1,3 +1,4 @@
+-- `starred::cases::threshold` meets its contract: by `answered-told` and `answered-left` both expectations hold of `zvonurel::threshold`. Assumes nothing.
 use Rattle.starred.proofs.Expected.{answered-told, answered-left}
 use mathlib.Core.Path.{_∙_}
 use borrow.Author.Needs.{needs}

@@ -1,3 +1,4 @@
+-- `starred::told::answered` meets its contract: other words, the stretches compared, or a refusal. Assumes nothing.
 use Rattle.starred.specs.Reading.{isAnswered}
 use borrow.Author.Tests.{eq-eqb, ne-eqb}
 use mathlib.Core.Path.{refl}

@@ -1,3 +1,4 @@
+-- `starred::told::faulty` meets its contract: a sound verdict is no refusal, and `told::is_refusal` compares a refused one. Assumes nothing.
 use Rattle.answers.specs.Told.{verdictOf}
 use Rattle.meaning.specs.Readings.{isRefused}
 use mathlib.Core.Path.{refl, _∙_}

@@ -1,3 +1,4 @@
+-- `starred::told::is_refusal` meets its contract: its three numbers one after the other (`other-number`, `other-bitmap`, `just-word`). Assumes nothing.
 use Rattle.starred.proofs.Expected.{other-number, other-bitmap, just-word}
 use Rattle.starred.proofs.told.is_refusal.Statement.{statement}
 use Rattle.starred.proofs.told.is_refusal.Tie as tie

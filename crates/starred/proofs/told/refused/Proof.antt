@@ -1,3 +1,4 @@
+-- `starred::told::refused` meets its contract: words are no refusal, and `told::is_refusal` compares a refused answer. Assumes nothing.
 use Rattle.answers.specs.Told.{answeredOf}
 use Rattle.meaning.specs.Readings.{isRefused}
 use mathlib.Core.Path.{refl, _∙_}

@@ -1,3 +1,4 @@
+-- `starred::told::same` meets its contract. The loop's invariant: the lists are equally long, and are the same exactly if they are so from word i on. Assumes nothing.
 use mathlib.Core.Path.{_≡_, refl}
 use Prim.Native.Nat.{_-_, _≤_}
 use lib.ListN.{length, drop}

@@ -1,3 +1,4 @@
+-- `starred::told::sound` meets its contract: `isSound` computes in both cases of the verdict. Assumes nothing.
 use Rattle.answers.specs.Told.{verdictOf}
 use Rattle.meaning.specs.Readings.{isSound}
 use mathlib.Core.Path.{refl}

@@ -1,3 +1,4 @@
+-- `starred::told::wrote` meets its contract: the number of words compared, or a refusal. Assumes nothing.
 use Rattle.starred.specs.Reading.{isWritten}
 use mathlib.Core.Path.{refl}
 use borrow.Author.Needs.{needs}
