@@ -1,4 +1,4 @@
--- `threshold::list` is safe and ends: each chunk goes on, since the buffer has room for a line. The measure is the rows left.
+-- `threshold::list` is safe and ends. The invariant: the buffer is as long as at entry, and the listing stands at its row. The measure is the rows left: each chunk goes on, since a line fits.
 -- Assumes nothing.
 use Prim.Native.Nat.{_-_}
 use mathlib.Core.Path.{_≡_, refl, sym, _∙_}

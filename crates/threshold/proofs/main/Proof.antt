@@ -1,3 +1,4 @@
+-- `threshold::main` is safe and ends: by the contract of `start::begin` the first chunk and the body lie in their buffers. Assumes nothing.
 use mathlib.Core.Path.{sym}
 use lib.Seq.{length-take-le}
 use native.Mathlib.Omega.{arith}

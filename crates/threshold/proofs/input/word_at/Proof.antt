@@ -1,3 +1,4 @@
+-- `threshold::input::word_at` meets its contract: past the end `getD` gives its 0. Assumes nothing.
 use denote.Ref.{now}
 use mathlib.Core.Path.{sym}
 use lib.ListN.{List·getD-eq-default}

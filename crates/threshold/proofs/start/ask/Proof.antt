@@ -1,3 +1,4 @@
+-- `threshold::start::ask` meets its contract: by `told-of` it asks the program's question; `ask-refused` and `ask-answered` are its two ways. Assumes nothing.
 use denote.Ref.{now}
 use mathlib.Core.Path.{sym}
 use lib.Seq.{length-take-le}

@@ -1,3 +1,4 @@
+-- `threshold::start::begin` meets its contract: too many bytes, no whole words, or the question of the words read are the cases of `outputOf`. Assumes nothing.
 use denote.Ref.{now}
 use Prim.Native.Nat.{ℕ, _/_}
 use mathlib.Core.Bool.{false}

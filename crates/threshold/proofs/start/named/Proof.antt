@@ -1,3 +1,4 @@
+-- `threshold::start::named` meets its contract: its test decides the smaller of word 2 and the most bitmaps. Assumes nothing.
 use Rattle.meaning.specs.Index.{bitmapCount}
 use native.Mathlib.Omega.{arith}
 use borrow.Author.Needs.{needs}

@@ -1,3 +1,4 @@
+-- `threshold::start::question` meets its contract: that of `ask`; by `take-all` the part behind word 0 is all the rest. Assumes nothing.
 use denote.Ref.{now}
 use Prim.Native.Nat.{ℕ, _-_}
 use mathlib.Core.Path.{subst}

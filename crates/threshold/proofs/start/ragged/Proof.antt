@@ -1,3 +1,4 @@
+-- `threshold::start::ragged` meets its contract: its branches decide the first test of `ragged`, and what is left is the second. Assumes nothing.
 use Prim.Native.Nat.{_%_}
 use mathlib.Core.Path.{sym, ap}
 use mathlib.Core.Bool.{Bool, not, _||_}

@@ -1,3 +1,4 @@
+-- `threshold::start::refused` meets its contract: by `begins-refused`, the line of the refusal is the whole text. Assumes nothing.
 use denote.Ref.{now}
 use Rattle.text.specs.Lines.{refusedText}
 use Rattle.threshold.proofs.Starting.{begins-refused}
