@@ -1,4 +1,4 @@
-// What calls answer, and the refusals that have no place.
+// What calls answer, and the refusals that name no bitmap.
 ghost use mathlib.Core.Path.{_≡_};
 ghost use Rattle.answers.specs.Told.{refusal, Counted, refusedBy};
 use crate::refusal::Checked;

@@ -1,5 +1,5 @@
 // One EWAH body as it is read: its markers, its first fault, a cursor over its pieces.
-// Calls here have a `requires`; the public ones of `zvonurel` test their input first.
+// Some calls here have a `requires`; the public ones of `zvonurel` test their input first.
 pub mod check;
 pub mod cursor;
 pub mod marker;

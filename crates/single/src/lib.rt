@@ -1,4 +1,5 @@
-// Questions on one body or one bitmap once the check has passed: what is left to be refused, 8 and 9, and the answer.
+// Questions on one body or one bitmap once its check has passed: what is left to be refused, 8 and 9, and the answer. Plain words are
+// checked here too, since no format knows them.
 pub mod bitmap;
 pub mod body;
 pub mod plain;

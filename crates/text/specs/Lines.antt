@@ -10,7 +10,7 @@ unfoldable pub digitsOf : (most n : ℕ) → List ℕ
 digitsOf zero n = []
 digitsOf (suc most) n = cond (ltb n 10) [] (digitsOf most (n / 10)) ++ (48 + n % 10) ∷ []
 
--- n has fewer digits than n + 1
+-- n has at most n + 1 digits
 unfoldable pub decimal : ℕ → List ℕ
 unfolding digitsOf
 decimal n = digitsOf (suc n) n

@@ -2,7 +2,7 @@
 //
 // A call asks nothing of its input: what is wrong with it is refused, with paper 01's three numbers. Each `ensures` settles
 // what is returned, and every word of a lent buffer afterwards, for every input. The outcomes that they name are defined in
-// `meaning`'s `specs/Answer.antt`; `questions`' `specs/Told.antt` says which outcome an answer tells.
+// `meaning`'s `specs/Answer.antt`; `answers`' `specs/Told.antt` says which outcome an answer tells.
 ghost use mathlib.Core.Path.{_≡_};
 ghost use Prim.Native.Nat.{_+_, _*_};
 ghost use lib.ListN.{length};

@@ -1,4 +1,4 @@
--- `threshold::text::field` meets its contract: `append-on` joins the number and the space. Assumes nothing.
+-- `text::lines::field` meets its contract: `append-on` joins the number and the space. Assumes nothing.
 use denote.Ref.{now}
 use mathlib.Core.List.{[], _∷_}
 use Rattle.text.specs.Lines.{decimal, field}

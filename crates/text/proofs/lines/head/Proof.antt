@@ -1,4 +1,4 @@
--- `threshold::text::head` meets its contract: `append-on` joins its four lines, one by one. Assumes nothing.
+-- `text::lines::head` meets its contract: `append-on` joins its four lines, one by one. Assumes nothing.
 use denote.Ref.{now}
 use Prim.Native.Nat.{ℕ}
 use mathlib.Core.Path.{subst, subst₂, _∙_}

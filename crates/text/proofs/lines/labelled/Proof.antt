@@ -1,4 +1,4 @@
--- `threshold::text::labelled` meets its contract: `append-on` joins the label and the line. Assumes nothing.
+-- `text::lines::labelled` meets its contract: `append-on` joins the label and the line. Assumes nothing.
 use denote.Ref.{now}
 use Rattle.text.specs.Lines.{line}
 use Rattle.text.proofs.Appending.{append-on}

@@ -1,4 +1,4 @@
--- `threshold::text::line` meets its contract: `append-on` joins the number and the line feed. Assumes nothing.
+-- `text::lines::line` meets its contract: `append-on` joins the number and the line feed. Assumes nothing.
 use denote.Ref.{now}
 use mathlib.Core.List.{[], _∷_}
 use Rattle.text.specs.Lines.{decimal, line}

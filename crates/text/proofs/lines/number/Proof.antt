@@ -1,4 +1,4 @@
--- `threshold::text::number` meets its contract: by `digits-few` 20 bytes are enough, and by `number-put` they are its decimal text. Assumes nothing.
+-- `text::lines::number` meets its contract: by `digits-few` 20 bytes are enough, and by `number-put` they are its decimal text. Assumes nothing.
 use denote.Ref.{now}
 use lib.ListN.{length-take}
 use Rattle.text.proofs.Decimals.{digits-few, number-put}

@@ -1,4 +1,4 @@
--- `threshold::text::put` meets its contract. The invariant: the first i bytes are copied, and the others are as they were.
+-- `text::lines::put` meets its contract. The invariant: the first i bytes are copied, and the others are as they were.
 -- Assumes nothing.
 use Prim.Native.Nat.{_-_, _≤_}
 use mathlib.Core.Path.{_≡_, refl}

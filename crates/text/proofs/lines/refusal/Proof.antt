@@ -1,4 +1,4 @@
--- `threshold::text::refusal` meets its contract: `append-on` joins the label, two fields and the line. Assumes nothing.
+-- `text::lines::refusal` meets its contract: `append-on` joins the label, two fields and the line. Assumes nothing.
 use denote.Ref.{now}
 use Prim.Native.Nat.{ℕ}
 use mathlib.Core.Path.{subst₂, _∙_}

@@ -1,4 +1,4 @@
--- `threshold::listing::fill` meets its contract. The invariant (`Filling`): the bytes filled and the text still to come are the text to come at entry. The measure is the rows left.
+-- `text::listing::fill` meets its contract. The invariant (`Filling`): the bytes filled and the text still to come are the text to come at entry. The measure is the rows left.
 -- Assumes nothing.
 use denote.Ref.{now}
 use Prim.Native.Nat.{_-_}

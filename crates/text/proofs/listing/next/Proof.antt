@@ -1,4 +1,4 @@
--- `threshold::listing::next` meets its contract: `same-standing` within a segment; else `on-standing`, with the cursor one segment on. Assumes nothing.
+-- `text::listing::next` meets its contract: `same-standing` within a segment; else `on-standing`, with the cursor one segment on. Assumes nothing.
 use denote.Ref.{now}
 use mathlib.Core.Path.{refl}
 use Rattle.text.proofs.Walking.{some-here, may-step, same-standing, on-standing}

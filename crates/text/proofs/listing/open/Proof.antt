@@ -1,4 +1,4 @@
--- `threshold::listing::open` meets its contract: by `opened-standing`, a cursor on the first piece stands at row 0. Assumes nothing.
+-- `text::listing::open` meets its contract: by `opened-standing`, a cursor on the first piece stands at row 0. Assumes nothing.
 use denote.Ref.{now}
 use mathlib.Core.Path.{refl}
 use Rattle.text.proofs.Walking.{opened-standing}

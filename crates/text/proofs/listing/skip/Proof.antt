@@ -1,4 +1,4 @@
--- `threshold::listing::skip` meets its contract: by `on-standing`, the cursor goes on by all that is left of its piece. Assumes nothing.
+-- `text::listing::skip` meets its contract: by `on-standing`, the cursor goes on by all that is left of its piece. Assumes nothing.
 use denote.Ref.{now}
 use Prim.Native.Nat.{ℕ, _+_, _*_, _/_}
 use mathlib.Core.Path.{refl, ap}

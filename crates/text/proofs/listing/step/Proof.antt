@@ -1,4 +1,4 @@
--- `threshold::listing::step` meets its contract: a piece of zeros, a set row and one that is not set are three laws of `Stepping`. Assumes nothing.
+-- `text::listing::step` meets its contract: a piece of zeros, a set row and one that is not set are three laws of `Stepping`. Assumes nothing.
 use denote.Ref.{now}
 use mathlib.Core.Path.{sym, _∙_}
 use Rattle.text.proofs.Stepping.{stepped-skip, stepped-line, stepped-unset}

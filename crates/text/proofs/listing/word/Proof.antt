@@ -1,4 +1,4 @@
--- `threshold::listing::word` meets its contract: in each case of the piece, `wordIn` is the fill of its value or its dirty word. Assumes nothing.
+-- `text::listing::word` meets its contract: in each case of the piece, `wordIn` is the fill of its value or its dirty word. Assumes nothing.
 use mathlib.Core.Path.{subst, sym, ap, _∙_}
 use Rattle.ewah.specs.Cursors.{ValueLow}
 use Rattle.text.specs.Listings.{wordIn}
