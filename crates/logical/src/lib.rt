@@ -21,7 +21,8 @@ use merge::evaluate::Operation;
 
 // An answer's words alone: a logical question reports no stretches.
 fn words_alone(a: Answered) -> Written
-    ensures { λ r. ⌜ ((index list : List ℕ) (o : Outcome (List ℕ)) (out out′ : List ℕ) → Reported index list o a out out′ → Wrote o r out out′) ⌝ }
+    ensures { λ r. ⌜ ((index list : List ℕ) (o : Outcome (List ℕ)) (out out′ : List ℕ)
+        → Reported index list o a out out′ → Wrote o r out out′) ⌝ }
 {
     match a {
         Answered::Words(words, _) => Written::Words(words),
@@ -70,7 +71,8 @@ pub fn or(index: &[u32], j: u32, k: u32, out: &mut [u32]) -> Written
 // The rows of just one of the two.
 pub fn xor(index: &[u32], j: u32, k: u32, out: &mut [u32]) -> Written
     requires { ⌜ IndexFacts (now index) ⌝ }
-    ensures { λ r. ⌜ Wrote (meaning.askLogical (now (index .entry)) symmetricDifference j k (length (now (out .entry))))
+    ensures { λ r. ⌜ Wrote
+        (meaning.askLogical (now (index .entry)) symmetricDifference j k (length (now (out .entry))))
         r (now (out .entry)) (now (out .exit)) ⌝ }
 {
     let list = [j, k];

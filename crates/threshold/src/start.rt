@@ -57,7 +57,8 @@ fn named(index: &[u32]) -> usize
 // A refusal: its line is all.
 fn refused(out: &mut [u8], number: u32, bitmap: u32, word: u64) -> Begun
     requires { ⌜ 128 ≤ length (now out) ⌝ }
-    ensures { λ r. ⌜ ((answer : List ℕ) → Begins (refusedText number bitmap word) answer (now (out .entry)) (now (out .exit)) r) ⌝ }
+    ensures { λ r. ⌜ ((answer : List ℕ)
+        → Begins (refusedText number bitmap word) answer (now (out .entry)) (now (out .exit)) r) ⌝ }
 {
     let bytes = text::lines::refusal(out, number, bitmap, word);
     Begun {
@@ -71,7 +72,8 @@ fn refused(out: &mut [u8], number: u32, bitmap: u32, word: u64) -> Begun
 fn ask(t: u32, index: &[u32], answer: &mut [u32], out: &mut [u8]) -> Begun
     requires { ⌜ length (now answer) ≡ output.answerRoom ⌝ }
     requires { ⌜ 128 ≤ length (now out) ⌝ }
-    ensures { λ r. ⌜ Begins (output.asked t (now (index .entry))) (now (answer .exit)) (now (out .entry)) (now (out .exit)) r ⌝ }
+    ensures { λ r. ⌜ Begins (output.asked t (now (index .entry)))
+        (now (answer .exit)) (now (out .entry)) (now (out .exit)) r ⌝ }
 {
     let all = names();
     let n = named(index);
@@ -92,7 +94,8 @@ fn question(words: &[u32], answer: &mut [u32], out: &mut [u8]) -> Begun
     requires { ⌜ 1 ≤ length (now words) ⌝ }
     requires { ⌜ length (now answer) ≡ output.answerRoom ⌝ }
     requires { ⌜ 128 ≤ length (now out) ⌝ }
-    ensures { λ r. ⌜ Begins (output.asked (getD (now (words .entry)) 0 0) (drop 1 (now (words .entry)))) (now (answer .exit)) (now (out .entry)) (now (out .exit)) r ⌝ }
+    ensures { λ r. ⌜ Begins (output.asked (getD (now (words .entry)) 0 0) (drop 1 (now (words .entry))))
+        (now (answer .exit)) (now (out .entry)) (now (out .exit)) r ⌝ }
 {
     ask(words[0], &words[1..], answer, out)
 }
@@ -111,7 +114,8 @@ fn ragged(n: usize) -> bool
 pub fn begin(input: &[u8], answer: &mut [u32], out: &mut [u8]) -> Begun
     requires { ⌜ length (now answer) ≡ output.answerRoom ⌝ }
     requires { ⌜ 128 ≤ length (now out) ⌝ }
-    ensures { λ r. ⌜ Begins (output.outputOf (now (input .entry))) (now (answer .exit)) (now (out .entry)) (now (out .exit)) r ⌝ }
+    ensures { λ r. ⌜ Begins (output.outputOf (now (input .entry)))
+        (now (answer .exit)) (now (out .entry)) (now (out .exit)) r ⌝ }
 {
     let n = input.len();
     if MOST_BYTES < n {
