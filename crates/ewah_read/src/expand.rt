@@ -42,7 +42,8 @@ fn place(out: &mut [u32], value: u32, clean: usize, dirty: &[u32])
 // The first words are the body's segments; those behind stay.
 pub fn expand(body: &[u32], out: &mut [u32])
     requires { ⌜ (dueAfter 0 (now body) ≡ 0) × (length (segments (now body)) ≤ length (now out)) ⌝ }
-    ensures { λ _. ⌜ now (out .exit) ≡ segments (now (body .entry)) ++ drop (length (segments (now (body .entry)))) (now (out .entry)) ⌝ }
+    ensures { λ _. ⌜ now (out .exit)
+        ≡ segments (now (body .entry)) ++ drop (length (segments (now (body .entry)))) (now (out .entry)) ⌝ }
 {
     let mut at = 0;
     let mut o = 0;

@@ -64,7 +64,8 @@ pub enum Found {
 // The nth set row, from 0.
 pub fn nth(body: &[u32], n: u32) -> Found
     requires { ⌜ (dueAfter 0 (now body) ≡ 0) × (length (segments (now body)) ≤ mostSegments) ⌝ }
-    ensures { λ r. ⌜ ((R : ℕ) → SoundFacts R (now (body .entry)) → foundOf r ≡ askNth R (rowsOf (now (body .entry))) n) ⌝ }
+    ensures { λ r. ⌜ ((R : ℕ) → SoundFacts R (now (body .entry))
+        → foundOf r ≡ askNth R (rowsOf (now (body .entry))) n) ⌝ }
 {
     let mut at = 0;
     let mut behind = 0;

@@ -25,7 +25,8 @@ pub fn measure(plain: &[u32]) -> usize
 pub fn write(plain: &[u32], out: &mut [u32]) -> usize
     requires { ⌜ length (canonicalOf (map (kind 32 32) (now plain))) ≤ length (now out) ⌝ }
     ensures { λ r. ⌜ r ≡ length (canonicalOf (map (kind 32 32) (now (plain .entry)))) ⌝ }
-    ensures { λ r. ⌜ now (out .exit) ≡ canonicalOf (map (kind 32 32) (now (plain .entry))) ++ drop r (now (out .entry)) ⌝ }
+    ensures { λ r. ⌜ now (out .exit)
+        ≡ canonicalOf (map (kind 32 32) (now (plain .entry))) ++ drop r (now (out .entry)) ⌝ }
 {
     let mut w = writer::start();
     let mut i: usize = 0;

@@ -81,7 +81,8 @@ fn entry_step(index: &[u32], k: u32, end: usize) -> Step
 // The entries, and the final end.
 fn check_entries(index: &[u32]) -> Checked
     requires { ⌜ HeadFacts (now index) ⌝ }
-    ensures { λ r. ⌜ verdictOf r ≡ entriesFault (now (index .entry)) 0 (bitmapCount (now (index .entry))) (entryPlace (now (index .entry)) (bitmapCount (now (index .entry)))) ⌝ }
+    ensures { λ r. ⌜ verdictOf r ≡ entriesFault (now (index .entry)) 0 (bitmapCount (now (index .entry)))
+        (entryPlace (now (index .entry)) (bitmapCount (now (index .entry)))) ⌝ }
 {
     let n = contents::bitmaps(index);
     let mut end = contents::entry_place(index, n);
@@ -142,7 +143,9 @@ fn check_bodies(index: &[u32]) -> Checked
 // The entries, and then the bodies.
 fn check_contents(index: &[u32]) -> Checked
     requires { ⌜ HeadFacts (now index) ⌝ }
-    ensures { λ r. ⌜ verdictOf r ≡ (entriesFault (now (index .entry)) 0 (bitmapCount (now (index .entry))) (entryPlace (now (index .entry)) (bitmapCount (now (index .entry)))) then bodiesFault (now (index .entry)) 0 (bitmapCount (now (index .entry)))) ⌝ }
+    ensures { λ r. ⌜ verdictOf r ≡ (entriesFault (now (index .entry)) 0 (bitmapCount (now (index .entry)))
+        (entryPlace (now (index .entry)) (bitmapCount (now (index .entry))))
+        then bodiesFault (now (index .entry)) 0 (bitmapCount (now (index .entry)))) ⌝ }
 {
     let entries = check_entries(index);
     match entries {

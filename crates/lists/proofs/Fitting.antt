@@ -15,7 +15,7 @@ use Rattle.meaning.specs.Index.{rowCount, lengthOf, bodyAt}
 use Rattle.meaning.specs.Question.{held, totalWords, stretches}
 use Rattle.meaning.specs.Ahead.{answerRows, answerSegments}
 use Rattle.meaning.specs.Answer.{named, namedBodies}
-use Rattle.meaning.specs.Laws.{EntryFacts, IndexFacts}
+use Rattle.meaning.specs.Laws.{EntryFacts}
 use Rattle.meaning.proofs.Demanded.{named-is, twice-stretches}
 use Rattle.meaning.proofs.IndexSound.{index-means}
 use Rattle.meaning.proofs.Stretches.{stretches-le}
@@ -25,7 +25,7 @@ use Rattle.index.proofs.EntrySteps.{body-length}
 use Rattle.merge.specs.declared.evaluate.Operation.{Operation}
 use Rattle.merge.specs.Operations.{chosen}
 use Rattle.walk.specs.Queries.{Listed}
-use Rattle.merge.specs.Merges.{bodiesOf, answerBody}
+use Rattle.merge.specs.Merges.{Walkable, bodiesOf, answerBody}
 
 module _ (index list : List ℕ) where
   -- ---- the words of the named bodies, one by one
@@ -60,12 +60,12 @@ module _ (index list : List ℕ) where
         rw (answer-canonical R f b, ← t) (most-words-div (answerSegments R f b))
 
     -- as an answer over these bodies
-    module _ (f : IndexFacts index) (l : Listed index list) (some : 1 ≤ length list) where
+    module _ (w : Walkable index list) where
       twice-ends : length (answerBody index list op table) ≤ 2 * stretches (rowCount index) (namedBodies index list)
       unfolding answerBody answerRows named
       twice-ends =
           subst (λ (ps : List (ℕ → Bool)). length (canonical (rowCount index) (λ (r : ℕ). chosen op table (held ps r))) ≤ 2 * stretches (rowCount index) (namedBodies index list)) (named-is index list)
-          (twice-stretches index list (chosen op table) (index-means index .1 f) some (l .its))
+          (twice-stretches index list (chosen op table) (index-means index .1 (w .facts)) (w .some) (w .listed .its))
 
       pub twice-most : length (answerBody index list op table) ≤ 2 * totalWords (namedBodies index list)
       twice-most = omega (arith, twice-ends, stretches-le (rowCount index) (namedBodies index list))

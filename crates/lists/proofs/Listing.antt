@@ -6,13 +6,13 @@ use mathlib.Core.Path.{_≡_, refl, sym, ap, _∙_, subst}
 use mathlib.Core.List.{List}
 use native.Mathlib.Omega.{arith}
 use native.Mathlib.Numerals.{add-one}
-use borrow.Author.Tests.{lt-ltb, le-ltb, ltb-false, eq-eqb, ne-eqb, eqb-false, le-leb, lt-leb}
-use lib.Dec.{eqb, ltb}
+use borrow.Author.Tests.{lt-ltb, le-ltb, eq-eqb, ne-eqb, le-leb, lt-leb}
 use lib.ListN.{length, drop, getD, drop-of-length-le}
 use lib.Seq.{drop-cons, take-at}
 use Rattle.meaning.specs.Limits.{mostNamed}
 use Rattle.meaning.specs.Refusal.{Outcome, refused, answer}
 use Rattle.meaning.specs.Index.{bitmapCount}
+use Rattle.meaning.specs.Laws.{IndexFacts}
 use Rattle.meaning.specs.Answer.{badBitmap, anyBad, badList, namedBodies, fits, bufferAfter, wordsReported, stretchesReported}
 use Rattle.meaning.proofs.Demanded.{good-list}
 use Rattle.meaning.proofs.Outcomes.{fits-yes, fits-no}
@@ -20,8 +20,7 @@ use Rattle.answers.specs.declared.refusal.Refusal.{Refusal}
 use Rattle.answers.specs.Told.{refusedBy, refusal, answeredOf, wordsIn, stretchesIn, Reported}
 use Rattle.merge.specs.declared.evaluate.Operation.{Operation}
 use Rattle.merge.specs.declared.engine.Merged.{Merged}
-use Rattle.walk.specs.Queries.{Listed}
-use Rattle.merge.specs.Merges.{answerBody, MergedTo}
+use Rattle.merge.specs.Merges.{Walkable, answerBody, MergedTo}
 use Rattle.answers.specs.declared.answer.Answered.{Answered}
 use Rattle.answers.specs.declared.answer.Answered.the-variants as answered
 
@@ -59,11 +58,8 @@ module _ (index list : List ℕ) where
     unfolding badList
     bad-names g b e = rw (ne-eqb (length list) 0 h, le-ltb mostNamed (length list) g) e
 
-  pub good-some : badList index list ≡ false → 1 ≤ length list
-  good-some e = good-list index list e .some
-
-  pub good-listed : badList index list ≡ false → Listed index list
-  good-listed e = let g = good-list index list e in record { most = g .most; its = g .its }
+  pub good-walkable : IndexFacts index → badList index list ≡ false → Walkable index list
+  good-walkable f e = let g = good-list index list e in record { facts = f; listed = record { most = g .most; its = g .its }; some = g .some }
 
   -- ---- what is reported
 

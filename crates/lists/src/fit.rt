@@ -4,13 +4,12 @@ ghost use mathlib.Core.Bool.{true};
 ghost use mathlib.Core.List.{List};
 ghost use Prim.Native.Nat.{ℕ, _≤_};
 ghost use lib.ListN.{length};
-ghost use Rattle.meaning.specs.Limits.{histogramCounts, mostNamedWords};
+ghost use Rattle.meaning.specs.Limits.{mostNamedWords};
 ghost use Rattle.meaning.specs.Question.{totalWords};
 ghost use Rattle.meaning.specs.Laws.{IndexFacts};
 ghost use Rattle.meaning.specs.Answer as meaning;
 ghost use Rattle.walk.specs.Queries.{Listed};
-ghost use Rattle.merge.specs.Operations.{LowNumber};
-ghost use Rattle.merge.specs.Merges.{answerBody};
+ghost use Rattle.merge.specs.Merges.{Walkable, Mergeable, answerBody};
 ghost use Rattle.answers.specs.Told.{Reported};
 use answers::answer;
 use answers::answer::Answered;
@@ -24,7 +23,8 @@ use words::rows;
 fn named_words(index: &[u32], list: &[u32]) -> usize
     requires { ⌜ IndexFacts (now index) ⌝ }
     requires { ⌜ Listed (now index) (now list) ⌝ }
-    ensures { λ r. ⌜ (r ≡ totalWords (meaning.namedBodies (now (index .entry)) (now (list .entry)))) × (r ≤ mostNamedWords) ⌝ }
+    ensures { λ r. ⌜ (r ≡ totalWords (meaning.namedBodies (now (index .entry)) (now (list .entry))))
+        × (r ≤ mostNamedWords) ⌝ }
 {
     let mut total: usize = 0;
     let mut i: usize = 0;
@@ -39,7 +39,8 @@ fn named_words(index: &[u32], list: &[u32]) -> usize
 // The most words that a body of the index's rows can have.
 fn most_words(index: &[u32]) -> usize
     requires { ⌜ IndexFacts (now index) ⌝ }
-    ensures { λ r. ⌜ ((list table : List ℕ) (op : Operation) → length (answerBody (now (index .entry)) list op table) ≤ r) ⌝ }
+    ensures { λ r. ⌜ ((list table : List ℕ) (op : Operation)
+        → length (answerBody (now (index .entry)) list op table) ≤ r) ⌝ }
 {
     let segments = contents::wide(rows::segment_count(contents::rows(index)));
     segments + segments / MOST_DIRTY as usize + 1
@@ -48,10 +49,9 @@ fn most_words(index: &[u32]) -> usize
 // Whether a buffer surely has room for the answer, whatever is asked of the list: for any body of the index's rows, or for two
 // words for each word of the named bodies.
 fn surely_fits(index: &[u32], list: &[u32], room: usize) -> bool
-    requires { ⌜ IndexFacts (now index) ⌝ }
-    requires { ⌜ Listed (now index) (now list) ⌝ }
-    requires { ⌜ 1 ≤ length (now list) ⌝ }
-    ensures { λ r. ⌜ (r ≡ true → (table : List ℕ) (op : Operation) → length (answerBody (now (index .entry)) (now (list .entry)) op table) ≤ room) ⌝ }
+    requires { ⌜ Walkable (now index) (now list) ⌝ }
+    ensures { λ r. ⌜ (r ≡ true → (table : List ℕ) (op : Operation)
+        → length (answerBody (now (index .entry)) (now (list .entry)) op table) ≤ room) ⌝ }
 {
     if most_words(index) <= room {
         return true;
@@ -67,11 +67,12 @@ fn write_fitting(
     table: &[u32],
     out: &mut [u32],
 ) -> Answered
-    requires { ⌜ IndexFacts (now index) ⌝ }
-    requires { ⌜ Listed (now index) (now list) ⌝ }
-    requires { ⌜ (1 ≤ length (now list)) × (length (now table) ≤ histogramCounts) × LowNumber op ⌝ }
+    requires { ⌜ Mergeable (now index) (now list) op (now table) ⌝ }
     requires { ⌜ length (answerBody (now index) (now list) op (now table)) ≤ length (now out) ⌝ }
-    ensures { λ r. ⌜ Reported (now (index .entry)) (now (list .entry)) (meaning.fits (length (now (out .entry))) (answerBody (now (index .entry)) (now (list .entry)) op (now (table .entry)))) r (now (out .entry)) (now (out .exit)) ⌝ }
+    ensures { λ r. ⌜ Reported (now (index .entry)) (now (list .entry))
+        (meaning.fits (length (now (out .entry)))
+        (answerBody (now (index .entry)) (now (list .entry)) op (now (table .entry))))
+        r (now (out .entry)) (now (out .exit)) ⌝ }
 {
     let m = engine::merge(index, list, op, table, out, true);
     Answered::Words(m.words, m.stretches)
@@ -85,10 +86,11 @@ pub fn write_answer(
     table: &[u32],
     out: &mut [u32],
 ) -> Answered
-    requires { ⌜ IndexFacts (now index) ⌝ }
-    requires { ⌜ Listed (now index) (now list) ⌝ }
-    requires { ⌜ (1 ≤ length (now list)) × (length (now table) ≤ histogramCounts) × LowNumber op ⌝ }
-    ensures { λ r. ⌜ Reported (now (index .entry)) (now (list .entry)) (meaning.fits (length (now (out .entry))) (answerBody (now (index .entry)) (now (list .entry)) op (now (table .entry)))) r (now (out .entry)) (now (out .exit)) ⌝ }
+    requires { ⌜ Mergeable (now index) (now list) op (now table) ⌝ }
+    ensures { λ r. ⌜ Reported (now (index .entry)) (now (list .entry))
+        (meaning.fits (length (now (out .entry)))
+        (answerBody (now (index .entry)) (now (list .entry)) op (now (table .entry))))
+        r (now (out .entry)) (now (out .exit)) ⌝ }
 {
     if surely_fits(index, list, out.len()) {
         return write_fitting(index, list, op, table, out);

@@ -167,7 +167,7 @@ module _ (index list ns : List ℕ) (R o : ℕ) (s : Survey) where
     pub least-low : s .least ≤ mostClean
     least-low = omega (arith, least-left 0 some, st 0 some .in-order .left-low)
 
-    pub least-some : 1 ≤ s .least
+    least-some : 1 ≤ s .least
     least-some = omega (arith, su .least-is, least-ge m (λ k. leftOf (piece k)) 1 (omega arith) (λ i h. some-left (body i) o (cursorOf ns i) (st i h) (inside i h)))
 
     held-is : (r : ℕ) → held (map rowsOf bodies) r ≡ sumBelow m (λ i. bit (rowsOf (body i) r))

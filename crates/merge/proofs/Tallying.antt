@@ -16,19 +16,17 @@ use Rattle.meaning.specs.Segment.{isSet, segmentCount, tabulate}
 use Rattle.meaning.specs.Ewah.{rowsOf}
 use Rattle.meaning.specs.Index.{rowCount}
 use Rattle.meaning.specs.Question.{histogramOf}
-use Rattle.meaning.specs.Laws.{IndexFacts}
 use Rattle.meaning.specs.Ahead.{StretchAt, answerRows}
 use Rattle.meaning.proofs.Counting.{count-ext, count-le, count-all}
 use Rattle.meaning.proofs.RowWords.{length-tabulate, getD-tabulate, before-last, rows-fit}
 use Rattle.meaning.proofs.Evaluated.{count-cut, count-in, count-out, count-mixed}
 use Rattle.words.specs.Counters.{countAt}
 use Rattle.walk.specs.declared.survey.Survey.{Survey}
-use Rattle.walk.specs.Queries.{Listed}
 use Rattle.walk.specs.Surveys.{MovedAll}
 use Rattle.merge.specs.Parts.{MaskOf}
 use Rattle.merge.specs.Merges.{bodiesOf}
 use Rattle.merge.specs.Tallies.{heldBefore, Tally, Tallied}
-use Rattle.merge.proofs.Along.{Along, along-more, is-stretch}
+use Rattle.merge.proofs.Along.{Along, NextStretch, along-more}
 
 -- ---- one stretch
 
@@ -100,37 +98,39 @@ module _ (counts : List ℕ) (s : Survey) (mask : ℕ) where
 tabulated : (n : ℕ) (f : ℕ → ℕ) (xs : List ℕ) → length xs ≡ n → ((c : ℕ) → c < n → getD xs c 0 ≡ f c) → xs ≡ tabulate n f
 tabulated n f xs e h = ext-getD 0 xs (tabulate n f) (e ∙ sym (length-tabulate n f)) (λ c l. let k : c < n = omega arith in h c k ∙ sym (getD-tabulate n f c k))
 
-module _ (index list : List ℕ) where
-  abbrev R : ℕ
-  R = rowCount index
+-- the cursors are on their way at segment o, and the numbers are those of the first o segments
+pub record Tallying (index list ns : List ℕ) (s : Survey) (counts : List ℕ) (o : ℕ) : Type 0 where
+  pub along : Along index list ns s o
+  pub long : length counts ≡ histogramCounts
+  pub tally : Tally (rowCount index) (bodiesOf index list) o counts
 
-  abbrev S : ℕ
-  S = segmentCount 32 R
+module _ {index list ns : List ℕ} {s : Survey} {counts : List ℕ} where
+  pub tallying-none : Along index list ns s 0 → length counts ≡ histogramCounts → ((c : ℕ) → c < histogramCounts → getD counts c 0 ≡ 0) → Tallying index list ns s counts 0
+  tallying-none a n z = record {
+    along = a;
+    long = n;
+    tally = λ c l. omega (arith, z c l, count-le (min (rowCount index) (0 * 32)) (answerRows (λ k. eqb k c) (bodiesOf index list)));
+  }
 
-  abbrev bodies : List (List ℕ)
-  bodies = bodiesOf index list
+  module _ {o : ℕ} (g : Tallying index list ns s counts o) where
+    abbrev R : ℕ
+    R = rowCount index
 
-  pub record Tallying (ns : List ℕ) (s : Survey) (counts : List ℕ) (o : ℕ) : Type 0 where
-    pub along : Along index list ns s o
-    pub long : length counts ≡ histogramCounts
-    pub tally : Tally R bodies o counts
+    abbrev bodies : List (List ℕ)
+    bodies = bodiesOf index list
 
-  pub tallying-none : (ns : List ℕ) (s : Survey) (counts : List ℕ) → Along index list ns s 0 → length counts ≡ histogramCounts → ((c : ℕ) → c < histogramCounts → getD counts c 0 ≡ 0) → Tallying ns s counts 0
-  tallying-none ns s counts a n z = record { along = a; long = n; tally = λ c l. omega (arith, z c l, count-le (min R (0 * 32)) (answerRows (λ k. eqb k c) bodies)) }
-
-  module _ (ns : List ℕ) (s : Survey) (counts : List ℕ) (o : ℕ) (g : Tallying ns s counts o) where
-    pub tally-low : R ≤ mostRows → (c : ℕ) → c < histogramCounts → getD counts c 0 ≤ mostRows
+    pub tally-low : rowCount index ≤ mostRows → (c : ℕ) → c < histogramCounts → getD counts c 0 ≤ mostRows
     tally-low h c l = omega (arith, g .tally c l, count-le (min R (o * 32)) (answerRows (λ k. eqb k c) bodies))
 
-    pub tallying-more : (f : IndexFacts index) (li : Listed index list) (some : 1 ≤ length list) (l : o < S) (mask : ℕ) → MaskOf R (o + s .least) mask
-        → (r : List ℕ) → Tallied counts s mask r → (ns′ : List ℕ) (s′ : Survey) → MovedAll index list ns (s .least) ns′ s′ → Tallying ns′ s′ r (o + s .least)
-    tallying-more f li some l mask m r t ns′ s′ mv = record {
-      along = along-more index list f li some ns s o (g .along) l ns′ s′ mv;
+    pub tallying-more : NextStretch index list ns s o → {mask : ℕ} → MaskOf (rowCount index) (o + s .least) mask → {r : List ℕ} → Tallied counts s mask r
+        → {ns′ : List ℕ} {s′ : Survey} → MovedAll index list ns (s .least) ns′ s′ → Tallying index list ns′ s′ r (o + s .least)
+    tallying-more n m t mv = record {
+      along = along-more (g .along) n mv;
       long = t .long;
-      tally = t .on R o bodies (is-stretch index list f li some ns s o (g .along) l) m (g .tally);
+      tally = t .on R o bodies (n .is) m (g .tally);
     }
 
-    pub tallying-all : S ≤ o → counts ≡ histogramOf R (map rowsOf bodies)
+    pub tallying-all : segmentCount 32 (rowCount index) ≤ o → counts ≡ histogramOf (rowCount index) (map rowsOf (bodiesOf index list))
     unfolding histogramOf answerRows
     tallying-all h =
         let end : min R (o * 32) ≡ R = omega (arith, rows-fit 32 (omega arith) R) in

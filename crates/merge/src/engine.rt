@@ -3,11 +3,7 @@ ghost use mathlib.Core.Path.{_≡_};
 ghost use mathlib.Core.Bool.{true};
 ghost use Prim.Native.Nat.{_≤_};
 ghost use lib.ListN.{length};
-ghost use Rattle.meaning.specs.Limits.{histogramCounts};
-ghost use Rattle.meaning.specs.Laws.{IndexFacts};
-ghost use Rattle.walk.specs.Queries.{Listed};
-ghost use Rattle.merge.specs.Operations.{LowNumber};
-ghost use Rattle.merge.specs.Merges.{MergedTo, answerBody};
+ghost use Rattle.merge.specs.Merges.{Mergeable, MergedTo, answerBody};
 use crate::emit;
 use crate::evaluate;
 use crate::evaluate::Operation;
@@ -31,11 +27,10 @@ pub fn merge(
     out: &mut [u32],
     store: bool,
 ) -> Merged
-    requires { ⌜ IndexFacts (now index) ⌝ }
-    requires { ⌜ Listed (now index) (now list) ⌝ }
-    requires { ⌜ (1 ≤ length (now list)) × (length (now table) ≤ histogramCounts) × LowNumber op ⌝ }
+    requires { ⌜ Mergeable (now index) (now list) op (now table) ⌝ }
     requires { ⌜ (store ≡ true → length (answerBody (now index) (now list) op (now table)) ≤ length (now out)) ⌝ }
-    ensures { λ r. ⌜ MergedTo (now (index .entry)) (now (list .entry)) op (now (table .entry)) (now (out .entry)) store (now (out .exit)) r ⌝ }
+    ensures { λ r. ⌜ MergedTo (now (index .entry)) (now (list .entry)) op (now (table .entry))
+        (now (out .entry)) store (now (out .exit)) r ⌝ }
 {
     let rows = contents::rows(index);
     let segments = rows::segment_count(rows);

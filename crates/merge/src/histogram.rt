@@ -2,14 +2,13 @@
 ghost use mathlib.Core.Path.{_≡_};
 ghost use mathlib.Core.List.{map};
 ghost use Prim.Native.Nat.{ℕ, _+_, _≤_, _<_};
-ghost use lib.ListN.{length, getD};
+ghost use lib.ListN.{getD};
 ghost use Rattle.meaning.specs.Limits.{mostRows, mostNamed, histogramCounts, mostClean};
 ghost use Rattle.meaning.specs.Ewah.{rowsOf};
-ghost use Rattle.meaning.specs.Index.{rowCount, bodyAt};
-ghost use Rattle.meaning.specs.Laws.{IndexFacts};
+ghost use Rattle.meaning.specs.Index.{rowCount};
 ghost use Rattle.meaning.specs.Question.{histogramOf};
 ghost use Rattle.words.specs.Counters.{countAt};
-ghost use Rattle.walk.specs.Queries.{Listed};
+ghost use Rattle.merge.specs.Merges.{Walkable, bodiesOf};
 ghost use Rattle.merge.specs.Tallies.{Tallied};
 use crate::evaluate;
 use index::contents;
@@ -22,7 +21,9 @@ use words::rows;
 
 // The numbers with the rows of a stretch counted in, of whose last segment the mask has the rows.
 fn count_stretch(counts: [u32; HISTOGRAM_COUNTS], s: Survey, mask: u32) -> [u32; HISTOGRAM_COUNTS]
-    requires { ⌜ (s .ones + s .dirty ≤ mostNamed) × (1 ≤ s .least) × (s .least ≤ mostClean) × ((c : ℕ) → c < histogramCounts → getD counts c 0 ≤ mostRows) × ((j : ℕ) → j < 32 → countAt (s .planes) j ≤ s .dirty) ⌝ }
+    requires { ⌜ (s .ones + s .dirty ≤ mostNamed) × (1 ≤ s .least) × (s .least ≤ mostClean)
+        × ((c : ℕ) → c < histogramCounts → getD counts c 0 ≤ mostRows)
+        × ((j : ℕ) → j < 32 → countAt (s .planes) j ≤ s .dirty) ⌝ }
     ensures { λ r. ⌜ Tallied counts s mask r ⌝ }
 {
     let n = s.least;
@@ -40,10 +41,9 @@ fn count_stretch(counts: [u32; HISTOGRAM_COUNTS], s: Survey, mask: u32) -> [u32;
 
 // For each c from 0 to the most that a list can name the number of rows that exactly c of the list have.
 pub fn histogram(index: &[u32], list: &[u32]) -> [u32; HISTOGRAM_COUNTS]
-    requires { ⌜ IndexFacts (now index) ⌝ }
-    requires { ⌜ Listed (now index) (now list) ⌝ }
-    requires { ⌜ 1 ≤ length (now list) ⌝ }
-    ensures { λ r. ⌜ r ≡ histogramOf (rowCount (now (index .entry))) (map rowsOf (map (bodyAt (now (index .entry))) (now (list .entry)))) ⌝ }
+    requires { ⌜ Walkable (now index) (now list) ⌝ }
+    ensures { λ r. ⌜ r ≡ histogramOf (rowCount (now (index .entry)))
+        (map rowsOf (bodiesOf (now (index .entry)) (now (list .entry)))) ⌝ }
 {
     let rows = contents::rows(index);
     let segments = rows::segment_count(rows);

@@ -31,7 +31,8 @@ pub fn row(body: &[u32], rows: u32, r: u32) -> Flag
 // The nth set row; 8 where there are not so many.
 pub fn nth(body: &[u32], n: u32) -> Number
     requires { ⌜ (dueAfter 0 (now body) ≡ 0) × (length (segments (now body)) ≤ mostSegments) ⌝ }
-    ensures { λ x. ⌜ ((R : ℕ) → SoundFacts R (now (body .entry)) → numberOf x ≡ meaning.askNth R (rowsOf (now (body .entry))) n) ⌝ }
+    ensures { λ x. ⌜ ((R : ℕ) → SoundFacts R (now (body .entry))
+        → numberOf x ≡ meaning.askNth R (rowsOf (now (body .entry))) n) ⌝ }
 {
     let found = nth::nth(body, n);
     match found {
@@ -44,7 +45,8 @@ pub fn nth(body: &[u32], n: u32) -> Number
 pub fn plain(body: &[u32], rows: u32, out: &mut [u32]) -> Written
     requires { ⌜ rows ≤ mostRows ⌝ }
     requires { ⌜ SoundFacts rows (now body) ⌝ }
-    ensures { λ r. ⌜ Wrote (meaning.askPlain rows (rowsOf (now (body .entry))) (length (now (out .entry)))) r (now (out .entry)) (now (out .exit)) ⌝ }
+    ensures { λ r. ⌜ Wrote (meaning.askPlain rows (rowsOf (now (body .entry))) (length (now (out .entry))))
+        r (now (out .entry)) (now (out .exit)) ⌝ }
 {
     let need = rows::segment_count(rows) as usize;
     if out.len() < need {

@@ -35,7 +35,9 @@ pub fn check_plain(plain: &[u32], rows: u32) -> Checked
 
 // Plain words written in canonical form; 9 where they do not fit.
 pub fn write_plain(plain: &[u32], out: &mut [u32]) -> Written
-    ensures { λ r. ⌜ ((R : ℕ) → PlainRows R (now (plain .entry)) → Wrote (meaning.write R (hasRow 32 (now (plain .entry))) (length (now (out .entry)))) r (now (out .entry)) (now (out .exit))) ⌝ }
+    ensures { λ r. ⌜ ((R : ℕ) → PlainRows R (now (plain .entry))
+        → Wrote (meaning.write R (hasRow 32 (now (plain .entry))) (length (now (out .entry))))
+        r (now (out .entry)) (now (out .exit))) ⌝ }
 {
     let need = compress::measure(plain);
     if out.len() < need {

@@ -64,7 +64,8 @@ fn number(piece: Piece) -> u32
 
 // A cursor put at place i; the other places stay.
 pub fn set_cursor(numbers: &mut [u32; QUERY_NUMBERS], i: usize, c: Cursor)
-    requires { ⌜ (i < mostNamed) × (length (now numbers) ≡ queryNumbers) × (c .next < 4294967296) × ValueLow (c .piece) ⌝ }
+    requires { ⌜ (i < mostNamed) × (length (now numbers) ≡ queryNumbers)
+        × (c .next < 4294967296) × ValueLow (c .piece) ⌝ }
     ensures { λ _. ⌜ Stored (now (numbers .entry)) i c (now (numbers .exit)) ⌝ }
 {
     let piece = c.piece;

@@ -80,7 +80,8 @@ fn move_place(
 ) -> Survey
     requires { ⌜ HeadFacts (now index) ⌝ }
     requires { ⌜ EntryFacts (now index) ⌝ }
-    requires { ⌜ (k < bitmapCount (now index)) × (i < mostNamed) × (length (now numbers) ≡ queryNumbers) × (1 ≤ n) × (n ≤ leftOf (cursorOf (now numbers) i .piece)) ⌝ }
+    requires { ⌜ (k < bitmapCount (now index)) × (i < mostNamed) × (length (now numbers) ≡ queryNumbers)
+        × (1 ≤ n) × (n ≤ leftOf (cursorOf (now numbers) i .piece)) ⌝ }
     requires { ⌜ InOrder (bodyAt (now index) k) (cursorOf (now numbers) i) ⌝ }
     requires { ⌜ Room s ⌝ }
     ensures { λ r. ⌜ Moved (bodyAt (now (index .entry)) k) (now (numbers .entry)) i n (now (numbers .exit)) s r ⌝ }
@@ -97,8 +98,11 @@ pub fn advance(index: &[u32], list: &[u32], numbers: &mut [u32; QUERY_NUMBERS], 
     requires { ⌜ HeadFacts (now index) ⌝ }
     requires { ⌜ EntryFacts (now index) ⌝ }
     requires { ⌜ Listed (now index) (now list) ⌝ }
-    requires { ⌜ (length (now numbers) ≡ queryNumbers) × (1 ≤ n) × ((i : ℕ) → i < length (now list) → (n ≤ leftOf (cursorOf (now numbers) i .piece)) × InOrder (bodyAt (now index) (getD (now list) i 0)) (cursorOf (now numbers) i)) ⌝ }
-    ensures { λ r. ⌜ MovedAll (now (index .entry)) (now (list .entry)) (now (numbers .entry)) n (now (numbers .exit)) r ⌝ }
+    requires { ⌜ (length (now numbers) ≡ queryNumbers) × (1 ≤ n) × ((i : ℕ) → i < length (now list)
+        → (n ≤ leftOf (cursorOf (now numbers) i .piece))
+        × InOrder (bodyAt (now index) (getD (now list) i 0)) (cursorOf (now numbers) i)) ⌝ }
+    ensures { λ r. ⌜ MovedAll (now (index .entry)) (now (list .entry))
+        (now (numbers .entry)) n (now (numbers .exit)) r ⌝ }
 {
     let mut s = nothing();
     let mut i: usize = 0;
@@ -115,7 +119,8 @@ pub fn open(index: &[u32], list: &[u32]) -> Query
     requires { ⌜ HeadFacts (now index) ⌝ }
     requires { ⌜ EntryFacts (now index) ⌝ }
     requires { ⌜ Listed (now index) (now list) ⌝ }
-    ensures { λ r. ⌜ (r .len ≡ length (now (list .entry))) × (length (r .numbers) ≡ queryNumbers) × Standing (now (index .entry)) (now (list .entry)) (r .numbers) (length (now (list .entry))) 0 ⌝ }
+    ensures { λ r. ⌜ (r .len ≡ length (now (list .entry))) × (length (r .numbers) ≡ queryNumbers)
+        × Standing (now (index .entry)) (now (list .entry)) (r .numbers) (length (now (list .entry))) 0 ⌝ }
 {
     let mut q = Query {
         numbers: [0; QUERY_NUMBERS],
@@ -132,7 +137,8 @@ pub fn open(index: &[u32], list: &[u32]) -> Query
 
 // The survey of all places.
 pub fn all(q: Query) -> Survey
-    requires { ⌜ (q .len ≤ mostNamed) × (length (q .numbers) ≡ queryNumbers) × ((i : ℕ) → i < q .len → ValueLow (cursorOf (q .numbers) i .piece)) ⌝ }
+    requires { ⌜ (q .len ≤ mostNamed) × (length (q .numbers) ≡ queryNumbers)
+        × ((i : ℕ) → i < q .len → ValueLow (cursorOf (q .numbers) i .piece)) ⌝ }
     ensures { λ r. ⌜ Surveyed (q .numbers) (q .len) r ⌝ }
 {
     let mut s = nothing();

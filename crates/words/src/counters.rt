@@ -89,8 +89,11 @@ pub fn add_to_histogram(
     mask: u32,
     times: u32,
 ) -> [u32; HISTOGRAM_COUNTS]
-    requires { ⌜ (base + most ≤ mostNamed) × (times ≤ mostSegments) × ((c : ℕ) → c < histogramCounts → getD counts c 0 ≤ mostRows) × ((j : ℕ) → j < 32 → countAt planes j ≤ most) ⌝ }
-    ensures { λ r. ⌜ (length r ≡ histogramCounts) × ((c : ℕ) → c < histogramCounts → getD r c 0 ≡ getD counts c 0 + times * countBelow 32 (λ j. isSet mask j && eqb (base + countAt planes j) c)) ⌝ }
+    requires { ⌜ (base + most ≤ mostNamed) × (times ≤ mostSegments)
+        × ((c : ℕ) → c < histogramCounts → getD counts c 0 ≤ mostRows)
+        × ((j : ℕ) → j < 32 → countAt planes j ≤ most) ⌝ }
+    ensures { λ r. ⌜ (length r ≡ histogramCounts) × ((c : ℕ) → c < histogramCounts → getD r c 0
+        ≡ getD counts c 0 + times * countBelow 32 (λ j. isSet mask j && eqb (base + countAt planes j) c)) ⌝ }
 {
     let mut r = counts;
     let from = base as usize;

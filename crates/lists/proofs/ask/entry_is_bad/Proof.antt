@@ -1,3 +1,4 @@
+-- `lists::ask::entry_is_bad` meets its contract. The invariant: whether an entry from i on is bad is whether one of the table is. Assumes nothing.
 use mathlib.Core.Path.{_≡_, refl}
 use Prim.Native.Nat.{_-_, _≤_}
 use lib.ListN.{length, drop}

@@ -1,7 +1,8 @@
+-- `lists::ask::histogram` meets its contract: 8 for a bad list, and else the numbers counted. Assumes nothing.
 use denote.Ref.{now}
 use mathlib.Core.Path.{sym, _∙_}
 use Rattle.meaning.specs.Answer.{askHistogram}
-use Rattle.lists.proofs.Listing.{good-listed, good-some}
+use Rattle.lists.proofs.Listing.{good-walkable}
 use Rattle.lists.proofs.Choosing.{counted-refused, counted-sound}
 use borrow.Author.Needs.{needs}
 use Rattle.lists.proofs.ask.histogram.Statement.{statement}
@@ -27,8 +28,7 @@ histogram-requires : tie.Need-histogram-requires
 histogram-requires c κs =
     let l = c .before in
     let s = l .before .before .before in
-    let good = sym (l .list-is-bad .ensures) ∙ c .if1 .left in
-    (s .pre, (good-listed (now (s .args .index)) (now (s .args .list)) good, good-some (now (s .args .index)) (now (s .args .list)) good))
+    good-walkable (now (s .args .index)) (now (s .args .list)) (s .pre) (sym (l .list-is-bad .ensures) ∙ c .if1 .left)
 
 returns-2 : tie.Need-returns-2
 unfolding askHistogram

@@ -1,3 +1,4 @@
+-- `lists::ask::names_missing` meets its contract. The invariant: whether a number from i on names none is whether one of the list does. Assumes nothing.
 use mathlib.Core.Path.{_≡_, refl}
 use Prim.Native.Nat.{_-_, _≤_}
 use lib.ListN.{length, drop}

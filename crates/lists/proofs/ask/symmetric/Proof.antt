@@ -1,3 +1,4 @@
+-- `lists::ask::symmetric` meets its contract: 8 by one of three tests, and else the engine's answer by the table. Assumes nothing.
 use denote.Ref.{now}
 use mathlib.Core.Path.{sym, _∙_, subst}
 use mathlib.Core.List.{List}
@@ -6,7 +7,7 @@ use lib.ListN.{length}
 use Rattle.meaning.specs.Refusal.{Outcome}
 use Rattle.meaning.specs.Answer.{askSymmetric, badSymmetric}
 use Rattle.answers.specs.Told.{Reported}
-use Rattle.lists.proofs.Listing.{good-listed, good-some}
+use Rattle.lists.proofs.Listing.{good-walkable}
 use Rattle.lists.proofs.Choosing.{reported-first, reported-second, reported-third, reported-rest, symmetric-body, size-wrong, size-right}
 use native.Mathlib.Omega.{arith}
 use borrow.Author.Needs.{needs}
@@ -27,7 +28,9 @@ returns c =
     reported-first (now (a .index)) (now (a .list)) (now (a .out)) _ _ _ _ (c .bad-argument .result) (c .bad-argument .ensures) (sym (l .list-is-bad .ensures) ∙ c .before .if1 .taken)
 
 add-if2 : tie.Need-add-if2
-add-if2 c = omega (arith, good-listed (now (c .before .before .before .before .before .before .args .index)) _ (sym (c .before .list-is-bad .ensures) ∙ c .if1 .left) .most)
+add-if2 c =
+    let s = c .before .before .before .before .before .before in
+    omega (arith, good-walkable (now (s .args .index)) (now (s .args .list)) (s .pre) (sym (c .before .list-is-bad .ensures) ∙ c .if1 .left) .listed .most)
 
 bad-argument-requires-2 : tie.Need-bad-argument-requires-2
 bad-argument-requires-2 c κs = search needs
@@ -57,9 +60,8 @@ write-answer-requires c κs =
     let l = c .before .before .before .before .before in
     let s = l .before .before .before .before .before in
     let a = s .args in
-    let good = sym (l .list-is-bad .ensures) ∙ c .before .before .before .before .if1 .left in
-    let few = good-listed (now (a .index)) (now (a .list)) good in
-    (s .pre, (few, (good-some (now (a .index)) (now (a .list)) good, omega (arith, few .most, c .before .before .before .if2 .left), tt)))
+    let w = good-walkable (now (a .index)) (now (a .list)) (s .pre) (sym (l .list-is-bad .ensures) ∙ c .before .before .before .before .if1 .left) in
+    record { walkable = w; few-entries = omega (arith, w .listed .most, c .before .before .before .if2 .left); low-number = tt }
 
 same-length : tie.Need-same-length
 same-length c = search needs

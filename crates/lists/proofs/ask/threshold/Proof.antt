@@ -1,3 +1,4 @@
+-- `lists::ask::threshold` meets its contract: 8 by one of three tests, and else the engine's answer of at least t. Assumes nothing.
 use denote.Ref.{now}
 use mathlib.Core.Path.{sym, _∙_, subst}
 use mathlib.Core.List.{List}
@@ -8,7 +9,7 @@ use Rattle.answers.specs.Told.{Reported}
 use native.Mathlib.Omega.{arith}
 use borrow.Author.Tests.{eq-eqb, ne-eqb, lt-ltb, le-ltb}
 use lib.ListN.{length}
-use Rattle.lists.proofs.Listing.{good-listed, good-some}
+use Rattle.lists.proofs.Listing.{good-walkable}
 use Rattle.lists.proofs.Choosing.{reported-first, reported-second, reported-third, reported-rest, threshold-body}
 use borrow.Author.Needs.{needs}
 use Rattle.lists.proofs.ask.threshold.Statement.{statement}
@@ -64,9 +65,12 @@ write-answer-requires c κs =
     let l = c .before .before .before .before .before .before in
     let s = l .before .before .before .before in
     let a = s .args in
-    let good = sym (l .list-is-bad .ensures) ∙ c .before .before .before .before .before .if1 .left in
-    let few = good-listed (now (a .index)) (now (a .list)) good in
-    (s .pre, (few, (good-some (now (a .index)) (now (a .list)) good, search needs, omega (arith, few .most, c .before .before .before .wide .ensures .0, c .before .before .if3 .left))))
+    let w = good-walkable (now (a .index)) (now (a .list)) (s .pre) (sym (l .list-is-bad .ensures) ∙ c .before .before .before .before .before .if1 .left) in
+    record {
+      walkable = w;
+      few-entries = search needs;
+      low-number = omega (arith, w .listed .most, c .before .before .before .wide .ensures .0, c .before .before .if3 .left);
+    }
 
 same-length : tie.Need-same-length
 same-length c = search needs

@@ -1,3 +1,4 @@
+-- `lists::fit::most_words` meets its contract: at most a word for each segment, and a marker for each group of dirty words. Assumes nothing.
 use Rattle.lists.proofs.Fitting.{body-most}
 use Rattle.meaning.specs.Segment.{segmentCount}
 use denote.Ref.{now}

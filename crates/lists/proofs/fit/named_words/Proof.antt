@@ -1,3 +1,4 @@
+-- `lists::fit::named_words` meets its contract. The invariant: the total and the words of the bodies from i on are all the words. Assumes nothing.
 use Rattle.lists.proofs.Fitting.{words-next, words-end}
 use Rattle.meaning.specs.Answer.{namedBodies}
 use Rattle.meaning.specs.Question.{totalWords}

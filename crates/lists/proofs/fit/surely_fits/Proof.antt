@@ -1,3 +1,4 @@
+-- `lists::fit::surely_fits` meets its contract: any body of the rows fits, or twice the named words do. Assumes nothing.
 use Prim.Native.Nat.{_*_}
 use denote.Ref.{now}
 use borrow.Author.Tests.{leb-true}
@@ -22,7 +23,7 @@ mul-result c = search needs
 returns-2 : tie.Need-returns-2
 returns-2 c = λ e table op.
     let s = c .before .before .before .before .before in
-    omega (arith, twice-most (now (s .args .index)) (now (s .args .list)) op table (s .pre .0) (s .pre .1 .0) (s .pre .1 .1), c .named-words .ensures .0, leb-true (2 * c .named-words .result) (s .args .room) e)
+    omega (arith, twice-most (now (s .args .index)) (now (s .args .list)) op table (s .pre), c .named-words .ensures .0, leb-true (2 * c .named-words .result) (s .args .room) e)
 
 pub surely-fits-spec : {M : Type 1} → statement M
 surely-fits-spec =

@@ -1,3 +1,4 @@
+-- `lists::fit::write_answer` meets its contract: it surely fits, or what was measured says whether it does. Assumes nothing.
 use denote.Ref.{now}
 use Rattle.lists.proofs.Fitting.{not-stored}
 use Rattle.lists.proofs.Listing.{measured-none, measured-room, measured-words}
@@ -6,13 +7,13 @@ use Rattle.lists.proofs.fit.write_answer.Statement.{statement}
 use Rattle.lists.proofs.fit.write_answer.Tie as tie
 
 surely-fits-requires : tie.Need-surely-fits-requires
-surely-fits-requires c κs = let s = c .before .before .before .before in (s .pre .0, (s .pre .1 .0, s .pre .1 .1 .0))
+surely-fits-requires c κs = c .before .before .before .before .pre .walkable
 
 write-fitting-requires : tie.Need-write-fitting-requires
 write-fitting-requires c κs =
     let s = c .before .before .before .before .before .before .before in
     let a = s .args in
-    (s .pre .0, (s .pre .1 .0, (s .pre .1 .1, c .before .before .surely-fits .ensures (c .before .if1 .taken) (now (a .table)) (a .op))))
+    (s .pre, c .before .before .surely-fits .ensures (c .before .if1 .taken) (now (a .table)) (a .op))
 
 same-length : tie.Need-same-length
 same-length c = search needs
@@ -23,7 +24,7 @@ returns c = search needs
 merge-requires : tie.Need-merge-requires
 merge-requires c κs =
     let s = c .before .before .before .before .before .before .before in
-    (s .pre .0, (s .pre .1 .0, (s .pre .1 .1, λ e. not-stored (now (s .args .index)) (now (s .args .list)) (s .args .op) (now (s .args .table)) (now (s .args .out)) e)))
+    (s .pre, λ e. not-stored (now (s .args .index)) (now (s .args .list)) (s .args .op) (now (s .args .table)) (now (s .args .out)) e)
 
 no-room-requires : tie.Need-no-room-requires
 no-room-requires c κs = search needs
@@ -42,7 +43,7 @@ write-fitting-requires-2 c κs =
     let m = c .before .before .before .before in
     let s = m .before .before .before .before .before .before .before .before in
     let a = s .args in
-    (s .pre .0, (s .pre .1 .0, (s .pre .1 .1, measured-room (now (a .index)) (now (a .list)) (now (a .out)) (a .op) (now (a .table)) (m .merge .last .1 .1 .1 .1 .0) (m .merge .result) (m .merge .ensures) (c .before .if2 .left))))
+    (s .pre, measured-room (now (a .index)) (now (a .list)) (now (a .out)) (a .op) (now (a .table)) (m .merge .last .1 .1 .1 .1 .0) (m .merge .result) (m .merge .ensures) (c .before .if2 .left))
 
 same-length-3 : tie.Need-same-length-3
 same-length-3 c = search needs
