@@ -3,4 +3,4 @@ pub mod Emitting
 pub mod Stretched
 pub mod Along
 pub mod Merging
-pub mod Tallying
+pub mod Histograms

@@ -2,4 +2,4 @@ pub mod Operations
 pub mod Parts
 pub mod Emitted
 pub mod Merges
-pub mod Tallies
+pub mod Histograms

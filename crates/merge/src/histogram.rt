@@ -9,7 +9,7 @@ ghost use Rattle.meaning.specs.Index.{rowCount};
 ghost use Rattle.meaning.specs.Question.{histogramOf};
 ghost use Rattle.words.specs.Counters.{countAt};
 ghost use Rattle.merge.specs.Merges.{Walkable, bodiesOf};
-ghost use Rattle.merge.specs.Tallies.{Tallied};
+ghost use Rattle.merge.specs.Histograms.{StretchCounted};
 use crate::evaluate;
 use index::contents;
 use meaning::HISTOGRAM_COUNTS;
@@ -24,7 +24,7 @@ fn count_stretch(counts: [u32; HISTOGRAM_COUNTS], s: Survey, mask: u32) -> [u32;
     requires { ⌜ (s .ones + s .dirty ≤ mostNamed) × (1 ≤ s .least) × (s .least ≤ mostClean)
         × ((c : ℕ) → c < histogramCounts → getD counts c 0 ≤ mostRows)
         × ((j : ℕ) → j < 32 → countAt (s .planes) j ≤ s .dirty) ⌝ }
-    ensures { λ r. ⌜ Tallied counts s mask r ⌝ }
+    ensures { λ r. ⌜ StretchCounted counts s mask r ⌝ }
 {
     let n = s.least;
     let base = s.ones;

@@ -1,10 +1,10 @@
--- `merge::histogram::count_stretch` meets its contract: each way is a law of `Tallying`.
+-- `merge::histogram::count_stretch` meets its contract: each way is a law of `Histograms`.
 -- Assumes nothing.
 use borrow.Author.Needs.{needs}
 use native.Mathlib.Omega.{arith}
 use Rattle.meaning.specs.Segment.{isSet}
 use Rattle.meaning.proofs.Counting.{count-le}
-use Rattle.merge.proofs.Tallying.{tallied-clean, tallied-mixed}
+use Rattle.merge.proofs.Histograms.{clean-counted, mixed-counted}
 use Rattle.merge.proofs.histogram.count_stretch.Statement.{statement}
 use Rattle.merge.proofs.histogram.count_stretch.Tie as tie
 
@@ -14,7 +14,7 @@ add-to-histogram-requires c κs = search needs
 returns : tie.Need-returns
 returns c =
     let s = c .before .before .before in
-    tallied-mixed (s .args .counts) (s .args .s) (s .args .mask) (λ z. omega arith) _ (c .add-to-histogram .ensures .0) (c .add-to-histogram .ensures .1)
+    mixed-counted (s .args .counts) (s .args .s) (s .args .mask) (λ z. omega arith) _ (c .add-to-histogram .ensures .0) (c .add-to-histogram .ensures .1)
 
 cast-k : tie.Need-cast-k
 cast-k c = search needs
@@ -51,7 +51,7 @@ array-write-r c = search needs
 returns-2 : tie.Need-returns-2
 returns-2 c =
     let s = c .before .before in
-    rw (c .count .ensures) (tallied-clean (s .args .counts) (s .args .s) (s .args .mask) (search needs) (omega (arith, s .pre .0)) (omega arith))
+    rw (c .count .ensures) (clean-counted (s .args .counts) (s .args .s) (s .args .mask) (search needs) (omega (arith, s .pre .0)) (omega arith))
 
 pub count-stretch-spec : {M : Type 1} → statement M
 count-stretch-spec =

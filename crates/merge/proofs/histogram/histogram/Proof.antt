@@ -1,5 +1,5 @@
--- `merge::histogram::histogram` meets its contract. The invariant: the cursors are on their way at segment o, and the numbers are
--- those of the first o segments.
+-- `merge::histogram::histogram` meets its contract. The invariant: the cursors are on their way at segment o, and the counts are
+-- the histogram of the first o segments.
 -- Assumes nothing.
 use Prim.Native.Nat.{ℕ, _-_}
 use mathlib.Core.Path.{_≡_, ap, _∙_, subst}
@@ -10,13 +10,13 @@ use Rattle.meaning.specs.Segment.{segmentCount}
 use Rattle.meaning.specs.Index.{rowCount}
 use Rattle.walk.specs.Surveys.{Surveyed}
 use Rattle.merge.proofs.Along.{NextStretch, along-none, next-stretch}
-use Rattle.merge.proofs.Tallying.{Tallying, tallying-none, tallying-more, tallying-all, tally-low}
+use Rattle.merge.proofs.Histograms.{Counting, counting-none, counting-more, counting-all, entries-low}
 use native.Mathlib.Omega.{arith}
 use Rattle.merge.proofs.histogram.histogram.Statement.{statement}
 use Rattle.merge.proofs.histogram.histogram.Tie as tie
 
 abbrev Inv-loop : tie.InvT-loop
-Inv-loop index list rows segments q₀ s₀ counts₀ o₀ q s counts o = Tallying index list (q .numbers) s counts o
+Inv-loop index list rows segments q₀ s₀ counts₀ o₀ q s counts o = Counting index list (q .numbers) s counts o
 
 abbrev μ-loop : tie.MeasureT-loop
 μ-loop index list rows segments q₀ s₀ counts₀ o₀ q s counts o = segments - o
@@ -51,7 +51,7 @@ all-requires c κs =
 loop-holds : tie.Need-loop-holds Inv-loop μ-loop
 loop-holds c =
     let e = c .before .«open» .ensures in
-    tallying-none
+    counting-none
     (along-none (e .2) (e .1) (subst (λ (m : ℕ). Surveyed (c .before .«open» .result .numbers) m (c .all .result)) (e .0) (c .all .ensures)))
     (length-replicate {A = ℕ} histogramCounts 0) (λ k h. getD-replicate {A = ℕ} histogramCounts k 0 0 h)
 
@@ -65,7 +65,7 @@ count-stretch-requires : tie.Need-count-stretch-requires Inv-loop μ-loop
 count-stretch-requires c κs =
     let n = next (c .before) in
     let t = c .before .before in
-    (n .held-low, n .is .some, n .clean-low, tally-low (t .loop .inv) (call t .pre .facts .head .few-rows), n .counts-low)
+    (n .held-low, n .is .some, n .clean-low, entries-low (t .loop .inv) (call t .pre .facts .head .few-rows), n .counts-low)
 
 advance-requires : tie.Need-advance-requires Inv-loop μ-loop
 advance-requires c κs =
@@ -85,10 +85,10 @@ loop-again c =
     let k = c .before .before in
     let i = k .before .before in
     let m = rw (i .before .before .before .before .before .rows .ensures) at (k .before .mask-before .ensures) in
-    tallying-more (i .before .loop .inv) (next i) m (k .count-stretch .ensures) (c .advance .ensures)
+    counting-more (i .before .loop .inv) (next i) m (k .count-stretch .ensures) (c .advance .ensures)
 
 returns : tie.Need-returns Inv-loop μ-loop
-returns c = tallying-all (c .before .loop .inv) (omega (arith, total (c .before), c .loop-test .left))
+returns c = counting-all (c .before .loop .inv) (omega (arith, total (c .before), c .loop-test .left))
 
 pub histogram-spec : {M : Type 1} → statement M
 histogram-spec =

@@ -16,12 +16,12 @@ use Rattle.merge.specs.Parts.{MaskOf}
 abbrev pub heldBefore : (R : ℕ) (bodies : List (List ℕ)) (o c : ℕ) → ℕ
 heldBefore R bodies o c = countBelow (min R (o * 32)) (answerRows (λ k. eqb k c) bodies)
 
--- the numbers of the first o segments
-abbrev pub Tally : (R : ℕ) (bodies : List (List ℕ)) (o : ℕ) (counts : List ℕ) → Type 0
-Tally R bodies o counts = (c : ℕ) → c < histogramCounts → getD counts c 0 ≡ heldBefore R bodies o c
+-- the counts are the histogram of the first o segments
+abbrev pub HistogramBefore : (R : ℕ) (bodies : List (List ℕ)) (o : ℕ) (counts : List ℕ) → Type 0
+HistogramBefore R bodies o counts = (c : ℕ) → c < histogramCounts → getD counts c 0 ≡ heldBefore R bodies o c
 
 -- the stretch that the survey s is of is counted in, wherever it stands and whatever bodies it is over
-pub record Tallied (counts : List ℕ) (s : Survey) (mask : ℕ) (r : List ℕ) : Type 0 where
+pub record StretchCounted (counts : List ℕ) (s : Survey) (mask : ℕ) (r : List ℕ) : Type 0 where
   pub long : length r ≡ histogramCounts
   pub on : (R o : ℕ) (bodies : List (List ℕ)) → StretchAt R bodies o (s .least) (s .ones) (s .dirty) (countAt (s .planes)) → MaskOf R (o + s .least) mask
-      → Tally R bodies o counts → Tally R bodies (o + s .least) r
+      → HistogramBefore R bodies o counts → HistogramBefore R bodies (o + s .least) r

@@ -25,7 +25,7 @@ use Rattle.walk.specs.declared.survey.Survey.{Survey}
 use Rattle.walk.specs.Surveys.{MovedAll}
 use Rattle.merge.specs.Parts.{MaskOf}
 use Rattle.merge.specs.Merges.{bodiesOf}
-use Rattle.merge.specs.Tallies.{heldBefore, Tally, Tallied}
+use Rattle.merge.specs.Histograms.{heldBefore, HistogramBefore, StretchCounted}
 use Rattle.merge.proofs.Along.{Along, NextStretch, along-more}
 
 -- ---- one stretch
@@ -50,13 +50,13 @@ module _ (counts : List ℕ) (s : Survey) (mask : ℕ) where
   abbrev rowsAt : (c : ℕ) → ℕ
   rowsAt c = countBelow 32 (λ j. isSet mask j && eqb (s .ones + countAt (s .planes) j) c)
 
-  module _ (R o : ℕ) (bodies : List (List ℕ)) (st : StretchAt R bodies o (s .least) (s .ones) (s .dirty) (countAt (s .planes))) (m : MaskOf R (o + s .least) mask) (t : Tally R bodies o counts) where
+  module _ (R o : ℕ) (bodies : List (List ℕ)) (st : StretchAt R bodies o (s .least) (s .ones) (s .dirty) (countAt (s .planes))) (m : MaskOf R (o + s .least) mask) (t : HistogramBefore R bodies o counts) where
     rows-in : rowsIn ≡ min R ((o + s .least) * 32) - o * 32
     rows-in =
         let i : o + s .least - 1 < segmentCount 32 R = omega (arith, st .some, st .within) in
         omega (arith, mask-count R (o + s .least - 1) mask i (m .rows), before-last 32 (omega arith) R (o + s .least - 1) i, st .some)
 
-    on-clean : s .dirty ≡ 0 → s .ones < length counts → Tally R bodies (o + s .least) grown
+    on-clean : s .dirty ≡ 0 → s .ones < length counts → HistogramBefore R bodies (o + s .least) grown
     on-clean z h c l = go (ℕ-discrete c (s .ones))
       where
         go : Dec (c ≡ s .ones) → getD grown c 0 ≡ heldBefore R bodies (o + s .least) c
@@ -70,7 +70,7 @@ module _ (counts : List ℕ) (s : Survey) (mask : ℕ) where
             ∙ sym (count-out R (λ k. eqb k c) bodies o (s .least) (s .ones) (s .dirty) (countAt (s .planes)) st z (ne-eqb (s .ones) c (λ q. e (sym q))))
 
     on-mixed : (s .dirty ≡ 0 → ⊥) → (r : List ℕ) → ((c : ℕ) → c < histogramCounts → getD r c 0 ≡ getD counts c 0 + 1 * rowsAt c)
-        → Tally R bodies (o + s .least) r
+        → HistogramBefore R bodies (o + s .least) r
     on-mixed d r g c l =
         let here : o + s .least - 1 ≡ o = omega (arith, st .single d) in
         omega (
@@ -82,15 +82,15 @@ module _ (counts : List ℕ) (s : Survey) (mask : ℕ) where
               (λ j k. ap (λ (b : Bool). b && eqb (s .ones + countAt (s .planes) j) c) (m .rows j k ∙ ap (λ (i : ℕ). ltb (i * 32 + j) R) here)),
         )
 
-  pub tallied-clean : length counts ≡ histogramCounts → s .ones ≤ mostNamed → s .dirty ≡ 0 → Tallied counts s mask grown
-  tallied-clean n h z = record {
+  pub clean-counted : length counts ≡ histogramCounts → s .ones ≤ mostNamed → s .dirty ≡ 0 → StretchCounted counts s mask grown
+  clean-counted n h z = record {
     long = length-set counts (s .ones) _ ∙ n;
     on = λ R o bodies st m t. on-clean R o bodies st m t z (omega arith);
   }
 
-  pub tallied-mixed : (s .dirty ≡ 0 → ⊥) → (r : List ℕ) → length r ≡ histogramCounts → ((c : ℕ) → c < histogramCounts → getD r c 0 ≡ getD counts c 0 + 1 * rowsAt c)
-      → Tallied counts s mask r
-  tallied-mixed d r n g = record { long = n; on = λ R o bodies st m t. on-mixed R o bodies st m t d r g }
+  pub mixed-counted : (s .dirty ≡ 0 → ⊥) → (r : List ℕ) → length r ≡ histogramCounts → ((c : ℕ) → c < histogramCounts → getD r c 0 ≡ getD counts c 0 + 1 * rowsAt c)
+      → StretchCounted counts s mask r
+  mixed-counted d r n g = record { long = n; on = λ R o bodies st m t. on-mixed R o bodies st m t d r g }
 
 -- ---- all
 
@@ -98,41 +98,41 @@ module _ (counts : List ℕ) (s : Survey) (mask : ℕ) where
 tabulated : (n : ℕ) (f : ℕ → ℕ) (xs : List ℕ) → length xs ≡ n → ((c : ℕ) → c < n → getD xs c 0 ≡ f c) → xs ≡ tabulate n f
 tabulated n f xs e h = ext-getD 0 xs (tabulate n f) (e ∙ sym (length-tabulate n f)) (λ c l. let k : c < n = omega arith in h c k ∙ sym (getD-tabulate n f c k))
 
--- the cursors are on their way at segment o, and the numbers are those of the first o segments
-pub record Tallying (index list ns : List ℕ) (s : Survey) (counts : List ℕ) (o : ℕ) : Type 0 where
+-- the cursors are on their way at segment o, and the counts are the histogram of the first o segments
+pub record Counting (index list ns : List ℕ) (s : Survey) (counts : List ℕ) (o : ℕ) : Type 0 where
   pub along : Along index list ns s o
   pub long : length counts ≡ histogramCounts
-  pub tally : Tally (rowCount index) (bodiesOf index list) o counts
+  pub counted : HistogramBefore (rowCount index) (bodiesOf index list) o counts
 
 module _ {index list ns : List ℕ} {s : Survey} {counts : List ℕ} where
-  pub tallying-none : Along index list ns s 0 → length counts ≡ histogramCounts → ((c : ℕ) → c < histogramCounts → getD counts c 0 ≡ 0) → Tallying index list ns s counts 0
-  tallying-none a n z = record {
+  pub counting-none : Along index list ns s 0 → length counts ≡ histogramCounts → ((c : ℕ) → c < histogramCounts → getD counts c 0 ≡ 0) → Counting index list ns s counts 0
+  counting-none a n z = record {
     along = a;
     long = n;
-    tally = λ c l. omega (arith, z c l, count-le (min (rowCount index) (0 * 32)) (answerRows (λ k. eqb k c) (bodiesOf index list)));
+    counted = λ c l. omega (arith, z c l, count-le (min (rowCount index) (0 * 32)) (answerRows (λ k. eqb k c) (bodiesOf index list)));
   }
 
-  module _ {o : ℕ} (g : Tallying index list ns s counts o) where
+  module _ {o : ℕ} (g : Counting index list ns s counts o) where
     abbrev R : ℕ
     R = rowCount index
 
     abbrev bodies : List (List ℕ)
     bodies = bodiesOf index list
 
-    pub tally-low : rowCount index ≤ mostRows → (c : ℕ) → c < histogramCounts → getD counts c 0 ≤ mostRows
-    tally-low h c l = omega (arith, g .tally c l, count-le (min R (o * 32)) (answerRows (λ k. eqb k c) bodies))
+    pub entries-low : rowCount index ≤ mostRows → (c : ℕ) → c < histogramCounts → getD counts c 0 ≤ mostRows
+    entries-low h c l = omega (arith, g .counted c l, count-le (min R (o * 32)) (answerRows (λ k. eqb k c) bodies))
 
-    pub tallying-more : NextStretch index list ns s o → {mask : ℕ} → MaskOf (rowCount index) (o + s .least) mask → {r : List ℕ} → Tallied counts s mask r
-        → {ns′ : List ℕ} {s′ : Survey} → MovedAll index list ns (s .least) ns′ s′ → Tallying index list ns′ s′ r (o + s .least)
-    tallying-more n m t mv = record {
+    pub counting-more : NextStretch index list ns s o → {mask : ℕ} → MaskOf (rowCount index) (o + s .least) mask → {r : List ℕ} → StretchCounted counts s mask r
+        → {ns′ : List ℕ} {s′ : Survey} → MovedAll index list ns (s .least) ns′ s′ → Counting index list ns′ s′ r (o + s .least)
+    counting-more n m t mv = record {
       along = along-more (g .along) n mv;
       long = t .long;
-      tally = t .on R o bodies (n .is) m (g .tally);
+      counted = t .on R o bodies (n .is) m (g .counted);
     }
 
-    pub tallying-all : segmentCount 32 (rowCount index) ≤ o → counts ≡ histogramOf (rowCount index) (map rowsOf (bodiesOf index list))
+    pub counting-all : segmentCount 32 (rowCount index) ≤ o → counts ≡ histogramOf (rowCount index) (map rowsOf (bodiesOf index list))
     unfolding histogramOf answerRows
-    tallying-all h =
+    counting-all h =
         let end : min R (o * 32) ≡ R = omega (arith, rows-fit 32 (omega arith) R) in
         tabulated histogramCounts (λ c. countBelow R (answerRows (λ k. eqb k c) bodies)) counts (g .long)
-        (λ c l. g .tally c l ∙ ap (λ (k : ℕ). countBelow k (answerRows (λ k′. eqb k′ c) bodies)) end)
+        (λ c l. g .counted c l ∙ ap (λ (k : ℕ). countBelow k (answerRows (λ k′. eqb k′ c) bodies)) end)
