@@ -136,25 +136,28 @@ unfolding refuseIf
 let-through true n b w r e f = absurd (false≢true (sym e))
 let-through false n b w r e f = f
 
-run-length : (c x : ℕ) (ys : List ℕ) → length (replicate c x ++ ys) ≡ c + length ys
+pub run-length : (c x : ℕ) (ys : List ℕ) → length (replicate c x ++ ys) ≡ c + length ys
 run-length c x ys = rw (length-append (replicate c x) ys, length-replicate c x)
 
 module _ (bitmap rows : ℕ) where
   pub sound-whole : (place due left : ℕ) (ws : List ℕ) → due ≤ length ws → due ≤ left → faultFrom bitmap rows place due left ws ≡ sound → Whole (lastLimit 32 rows) due left ws
   unfolding faultFrom dueAfter decode fill allSet
   sound-whole place due left [] h k e =
-      let p = not-refused _ _ _ _ _ e in
+      let p = not-refused (ltb 0 left) 6 bitmap place sound e in
       record { ended = omega arith; count = omega (arith, ltb-false 0 left (p .0)); last = unfold lastOf lastLimit in pow-pos (lastRows 32 rows) }
   sound-whole place zero left (m ∷ ws) h k e =
-      let p5 = not-refused _ _ _ _ _ e in
-      let p6 = not-refused _ _ _ _ _ (p5 .1) in
-      let p7 = not-refused _ _ _ _ _ (p6 .1) in
-      let h6 : cleanOf m + dirtyOf m ≤ left = ltb-false _ _ (p6 .0) in
-      let f = sound-whole (suc place) (dirtyOf m) (left - cleanOf m) ws (ltb-false _ _ (p5 .0)) (omega arith) (p7 .1) in
+      let rest : Verdict = faultFrom bitmap rows (suc place) (dirtyOf m) (left - cleanOf m) ws in
+      let t7 : Bool = overPad 32 rows left (cleanOf m) (fill 32 (lastRows 32 rows) (valueOf m)) in
+      let t6 : Bool = ltb left (cleanOf m + dirtyOf m) in
+      let p5 = not-refused (ltb (length ws) (dirtyOf m)) 5 bitmap place (refuseIf t6 6 bitmap place (refuseIf t7 7 bitmap place rest)) e in
+      let p6 = not-refused t6 6 bitmap place (refuseIf t7 7 bitmap place rest) (p5 .1) in
+      let p7 = not-refused t7 7 bitmap place rest (p6 .1) in
+      let h6 : cleanOf m + dirtyOf m ≤ left = ltb-false left (cleanOf m + dirtyOf m) (p6 .0) in
+      let f = sound-whole (suc place) (dirtyOf m) (left - cleanOf m) ws (ltb-false (length ws) (dirtyOf m) (p5 .0)) (omega arith) (p7 .1) in
       let n : cleanOf m + length (decode (dirtyOf m) ws) ≡ left = omega (arith, f .count) in
       record { ended = f .ended; count = run-length _ _ _ ∙ n; last = run-last 32 rows left _ _ _ n (p7 .0) (f .last) }
   sound-whole place (suc due) left (w ∷ ws) h k e =
-      let p = not-refused _ _ _ _ _ e in
+      let p = not-refused (overPad 32 rows left 1 w) 7 bitmap place (faultFrom bitmap rows (suc place) due (left - 1) ws) e in
       let f = sound-whole (suc place) due (left - 1) ws (omega arith) (omega arith) (p .1) in
       record { ended = f .ended; count = omega (arith, f .count); last = run-last 32 rows left 1 w (decode due ws) (omega (arith, f .count)) (p .0) (f .last) }
 

@@ -5,7 +5,7 @@ use mathlib.Core.Bool.{Bool, true, false, _&&_, _||_, true≢false}
 use mathlib.Core.Path.{_≡_, refl, sym, ap, _∙_, subst}
 use mathlib.Core.List.{List, [], _∷_, _++_, map, foldl, foldl-append}
 use lib.Dec.{eqb, ltb}
-use lib.ListN.{length, getD, replicate, length-append, length-replicate}
+use lib.ListN.{length, getD, replicate}
 use native.Mathlib.Omega.{arith}
 use native.Mathlib.Decide.{decLe}
 use borrow.Author.Tests.{lt-ltb, eq-eqb, eqb-false}
@@ -17,7 +17,7 @@ use Rattle.meaning.specs.Canonical.{Draft, blank, body, put, canonicalOf
 use Rattle.meaning.specs.Question.{isIn, endsFrom, endsAt, stretches, held}
 use Rattle.meaning.proofs.Tests.{or-false, or-true}
 use Rattle.meaning.proofs.Segments.{canonical-is, encoded, map-append}
-use Rattle.meaning.proofs.Decoded.{Whole}
+use Rattle.meaning.proofs.Decoded.{Whole, run-length}
 use Rattle.meaning.proofs.RowWords.{word-at, word-ext, has-at, before-last}
 use Rattle.meaning.proofs.Least.{size, put-two, run-then-two}
 use Rattle.meaning.specs.Ahead.{flat}
@@ -51,7 +51,7 @@ size-fine (dirtyWord w) f = (omega arith, omega arith)
 
 pub flat-length : (p : Piece) (ps : List Piece) → length (flat (p ∷ ps)) ≡ pieceSize p + length (flat ps)
 unfolding flat pieceSize
-flat-length (cleanRun v n) ps = rw (length-append (replicate n (fill 32 32 v)) (flat ps), length-replicate n (fill 32 32 v))
+flat-length (cleanRun v n) ps = run-length n (fill 32 32 v) (flat ps)
 flat-length (dirtyWord w) ps = omega arith
 
 -- from any segment on, a piece ends within what one marker can hold
@@ -102,6 +102,22 @@ run-past (suc c) x ys i = ap (λ (z : ℕ). getD (x ∷ (replicate c x ++ ys)) z
     e : suc c + i ≡ suc (c + i)
     e = omega arith
 
+-- behind a run as in what follows it
+steady-past : (c x : ℕ) (ys : List ℕ) (n : ℕ) → c ≤ n → Steady ys (n - c) → Steady (replicate c x ++ ys) n
+steady-past c x ys n h s = record {
+  v = s .v;
+  hv = s .hv;
+  here = ap (λ (z : ℕ). getD (replicate c x ++ ys) z 0) at ∙ run-past c x ys (n - c) ∙ s .here;
+  next = ap (λ (z : ℕ). getD (replicate c x ++ ys) z 0) on ∙ run-past c x ys (suc (n - c)) ∙ s .next;
+  more = omega (arith, run-length c x ys, s .more);
+}
+  where
+    at : n ≡ c + (n - c)
+    at = omega arith
+
+    on : suc n ≡ c + suc (n - c)
+    on = omega arith
+
 -- where no piece ends, a run goes on
 quiet-steady : (ps : List Piece) (a n : ℕ) → AllFine ps → n < length (flat ps) → isIn (endsFrom a ps) (a + suc n) ≡ false → Steady (flat ps) n
 unfolding isIn endsFrom flat pieceSize
@@ -113,25 +129,14 @@ quiet-steady (dirtyWord w ∷ ps) a (suc n) f h q =
     let s = quiet-steady ps (a + 1) n (f .1) (omega arith) (subst (λ (z : ℕ). isIn (endsFrom (a + 1) ps) z ≡ false) e q′) in
     record { v = s .v; hv = s .hv; here = s .here; next = s .next; more = omega (arith, s .more) }
 quiet-steady (cleanRun v c ∷ ps) a n f h q = elim (decLe (suc (suc n)) c) [
-  | yes g ↦ record { v = v; hv = f .0 .0; here = run-at c (fill 32 32 v) (flat ps) n (omega arith); next = run-at c (fill 32 32 v) (flat ps) (suc n) g; more = omega (arith, whole) }
+  | yes g ↦ record { v = v; hv = f .0 .0; here = run-at c (fill 32 32 v) (flat ps) n (omega arith); next = run-at c (fill 32 32 v) (flat ps) (suc n) g; more = omega (arith, run-length c (fill 32 32 v) (flat ps)) }
   | no g ↦
       let far : c ≤ n = elim (decLe c n) [ yes k ↦ k | no k ↦ absurd (eqb-false (a + c) (a + suc n) (or-false (eqb (a + c) (a + suc n)) (isIn (endsFrom (a + c) ps) (a + suc n)) q .0) (omega arith)) ] in
       let q′ : isIn (endsFrom (a + c) ps) (a + suc n) ≡ false = or-false (eqb (a + c) (a + suc n)) (isIn (endsFrom (a + c) ps) (a + suc n)) q .1 in
-      let e″ : a + suc n ≡ a + c + suc (n - c) = omega arith in
-      let s = quiet-steady ps (a + c) (n - c) (f .1) (omega (arith, whole)) (subst (λ (z : ℕ). isIn (endsFrom (a + c) ps) z ≡ false) e″ q′) in
-      let e : n ≡ c + (n - c) = omega arith in
-      let e′ : suc n ≡ c + suc (n - c) = omega arith in
-      record {
-        v = s .v;
-        hv = s .hv;
-        here = ap (λ (z : ℕ). getD (replicate c (fill 32 32 v) ++ flat ps) z 0) e ∙ run-past c (fill 32 32 v) (flat ps) (n - c) ∙ s .here;
-        next = ap (λ (z : ℕ). getD (replicate c (fill 32 32 v) ++ flat ps) z 0) e′ ∙ run-past c (fill 32 32 v) (flat ps) (suc (n - c)) ∙ s .next;
-        more = omega (arith, whole, s .more);
-      }
+      let e : a + suc n ≡ a + c + suc (n - c) = omega arith in
+      let r : n - c < length (flat ps) = omega (arith, run-length c (fill 32 32 v) (flat ps)) in
+      steady-past c (fill 32 32 v) (flat ps) n far (quiet-steady ps (a + c) (n - c) (f .1) r (subst (λ (z : ℕ). isIn (endsFrom (a + c) ps) z ≡ false) e q′))
 ]
-  where
-    whole : length (replicate c (fill 32 32 v) ++ flat ps) ≡ c + length (flat ps)
-    whole = rw (length-append (replicate c (fill 32 32 v)) (flat ps), length-replicate c (fill 32 32 v))
 
 -- ---- the rows of one body
 

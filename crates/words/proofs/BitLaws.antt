@@ -105,7 +105,7 @@ sum-table false false = refl
 
 -- of the sum of two bits `^` is the low digit, and `&` the carry
 pub half-sum : (a b j : ℕ) → bitAt (bitXor a b) j + 2 * bitAt (bitAnd a b) j ≡ bitAt a j + bitAt b j
-half-sum a b j = rw (bit-set, bit-set (bitAnd a b), bit-set a, bit-set b, xor-set, and-set) (sum-table (isSet a j) (isSet b j))
+half-sum a b j = rw (bit-set (bitXor a b), bit-set (bitAnd a b), bit-set a, bit-set b, xor-set, and-set) (sum-table (isSet a j) (isSet b j))
 
 -- ---- a mask of one bit
 
@@ -158,7 +158,7 @@ ones-count w x h = ap ones (sym (mod-eq-of-lt h)) ∙ ones-below x w
 -- one row more, set or not
 pub count-set : (p : ℕ → Bool) (j : ℕ) → p j ≡ true → countBelow (j + 1) p ≡ countBelow j p + 1
 unfolding countBelow
-count-set p j h = rw (add-one, h)
+count-set p j h = rw (add-one j, h)
 
 pub count-unset : (p : ℕ → Bool) (j : ℕ) → p j ≡ false → countBelow (j + 1) p ≡ countBelow j p
 unfolding countBelow
