@@ -25,5 +25,5 @@ pub mod Asked
 pub mod Parts
 pub mod Walked
 pub mod Evaluated
-pub mod Cases
-pub mod Corners
+pub mod AllReadings
+pub mod AllCorners

@@ -1,4 +1,4 @@
--- The starred readings of paper 01 ("Readings to test by") as one table over the definitions; `proofs/Cases` has the one claim.
+-- The starred readings of paper 01 ("Readings to test by") as one table over the definitions; `proofs/AllReadings` has the one claim.
 -- Assumes nothing.
 use Prim.Native.Nat.{ℕ}
 use mathlib.Core.Bool.{Bool, true, false, _&&_}

@@ -1,16 +1,33 @@
 -- Corner cases of the definitions, read by hand off paper 01: zero rows, empty bodies and indexes, the limits, faults that come together.
+-- Files are proved in the order of their names, so a wrong definition is refused here or in `AllReadings` before a law's proof is.
 -- Assumes nothing.
-use mathlib.Core.Bool.{Bool, true, _&&_}
+use Prim.Native.Nat.{ℕ}
+use mathlib.Core.Bool.{Bool, true, false, not, _&&_}
 use mathlib.Core.Path.{_≡_, refl}
 use mathlib.Core.List.{List, [], _∷_}
-use Rattle.meaning.specs.Answer.{checkBody, bodyRow, bodyNth, expand, compress, check, bitmapRefusal, bitmap, partOf, threshold, symmetric}
-use Rattle.meaning.specs.Readings.{isSound, isRefused, isAnswer, same, looped, three}
+use lib.Dec.{eqb}
+use lib.ListN.{replicate}
+use Rattle.meaning.specs.Refusal.{Outcome, refused, answer}
+use Rattle.meaning.specs.Answer.{checkBody, bodyRow, bodyCount, bodyNth, expand, compress, check, bitmapRefusal, bitmap, partOf, threshold, symmetric}
+use Rattle.meaning.specs.Readings.{isSound, isRefused, isAnswer, same, looped, three, ninetySix}
 
-unfoldable every : List Bool → Bool
+unfoldable pub every : List Bool → Bool
 every [] = true
 every (t ∷ ts) = t && every ts
 
-bodies : List Bool
+unfoldable isYes : Outcome Bool → Bool
+isYes (refused n b w) = false
+isYes (answer t) = t
+
+unfoldable isNo : Outcome Bool → Bool
+isNo (refused n b w) = false
+isNo (answer t) = not t
+
+unfoldable isNumber : Outcome ℕ → ℕ → Bool
+isNumber (refused n b w) number = false
+isNumber (answer x) number = eqb x number
+
+pub bodies : List Bool
 bodies =
     -- zero rows: no words, idle markers, a marker with counts, one whose dirty word is not there
     isSound (checkBody 0 [])
@@ -40,6 +57,13 @@ bodies =
     ∷ isRefused (bodyNth 64 (5 ∷ []) 64) 8 0 0
     ∷ isRefused (bodyNth 0 [] 0) 8 0 0
     ∷ isRefused (bodyRow 0 [] 0) 8 0 0
+    -- rows 5 and 64 of 96: a row, how many, each of them, and one past the last
+    ∷ isYes (bodyRow 96 ninetySix 64)
+    ∷ isNo (bodyRow 96 ninetySix 63)
+    ∷ isNumber (bodyCount 96 ninetySix) 2
+    ∷ isNumber (bodyNth 96 ninetySix 0) 5
+    ∷ isNumber (bodyNth 96 ninetySix 1) 64
+    ∷ isRefused (bodyNth 96 ninetySix 2) 8 0 0
     -- buffers: nothing needed, exactly enough, one less
     ∷ isAnswer (expand 0 [] 0) []
     ∷ isAnswer (expand 40 (3 ∷ 2 ∷ []) 2) (0xFFFFFFFF ∷ 0 ∷ [])
@@ -53,7 +77,7 @@ bodies =
     ∷ isRefused (compress 40 (1 ∷ 0x100 ∷ []) 0) 7 0 1
     ∷ []
 
-indexes : List Bool
+pub indexes : List Bool
 indexes =
     -- too short, for the head and for the contents
     isRefused (check []) 1 0 0
@@ -89,6 +113,8 @@ indexes =
     ∷ isRefused (threshold looped [] 1 9) 8 0 0
     ∷ isRefused (threshold looped (3 ∷ []) 1 9) 8 0 0
     ∷ isRefused (threshold looped three 0 9) 8 0 0
+    ∷ isAnswer (threshold looped (replicate 64 0) 64 2) (0x00020000 ∷ 0x3 ∷ [])
+    ∷ isRefused (threshold looped (replicate 65 0) 64 2) 8 0 0
     ∷ isAnswer (threshold looped (1 ∷ 1 ∷ []) 2 9) (0x00020000 ∷ 0xE ∷ [])
     ∷ isAnswer (symmetric looped three (1 ∷ 0 ∷ 0 ∷ 1 ∷ []) 1) (2 ∷ [])
     ∷ isRefused (symmetric looped three (0 ∷ 1 ∷ 0 ∷ []) 9) 8 0 0
@@ -99,10 +125,10 @@ indexes =
     ∷ isAnswer (symmetric looped (2 ∷ []) (1 ∷ 0 ∷ []) 2) (0x00020000 ∷ 0x7 ∷ [])
     ∷ []
 
-bodies-hold : every bodies ≡ true
-unfolding every bodies isSound isRefused isAnswer checkBody bodyRow bodyNth expand compress
+pub bodies-hold : every bodies ≡ true
+unfolding every bodies isYes isNo isNumber isSound isRefused isAnswer checkBody bodyRow bodyCount bodyNth expand compress
 bodies-hold = refl
 
-indexes-hold : every indexes ≡ true
+pub indexes-hold : every indexes ≡ true
 unfolding every indexes isSound isRefused isAnswer same check bitmapRefusal bitmap partOf threshold symmetric
 indexes-hold = refl
