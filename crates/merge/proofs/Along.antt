@@ -29,7 +29,7 @@ bit-most : (p : code.Piece) (j : ℕ) → bitIn p j ≤ dirtyIn p
 bit-most (Clean v n) j = omega arith
 bit-most (Dirty x) j = unfold bitAt in omega arith
 
-segments-few : (R : ℕ) → R ≤ mostRows → segmentCount 32 R ≤ mostSegments
+pub segments-few : (R : ℕ) → R ≤ mostRows → segmentCount 32 R ≤ mostSegments
 segments-few R h = unfold segmentCount in omega arith
 
 -- every cursor stands at segment o of its body, and s is their survey
