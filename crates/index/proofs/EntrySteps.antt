@@ -16,11 +16,6 @@ use Rattle.index.specs.declared.check.Step.{Step}
 use Rattle.index.specs.declared.check.Step.the-variants.{Next, Fault}
 use Rattle.index.specs.Entries.{Passed, Faulty, Stepped}
 
--- an entry lies within the index
-pub entry-within : (index : List ℕ) (k : ℕ) → HeadFacts index → k < bitmapCount index → entryPlace index k + 1 < length index
-unfolding entryPlace
-entry-within index k h l = omega (arith, h .contents)
-
 module _ (index : List ℕ) (k end s place : ℕ) (at : s ≡ startOf index k) (is : place ≡ entryPlace index k) where
   pub start-wrong : (s ≡ end → ⊥) → Faulty index k end place
   unfolding entriesFault refuseIf
@@ -88,27 +83,11 @@ module _ (index : List ℕ) (n k : ℕ) (v : Verdict) (inv : bodiesFault index k
   unfolding bodiesFault
   bodies-end h = let e : n - k ≡ 0 = omega arith in rw e at inv
 
--- ---- a body lies within the index
-
-pub body-within : (index : List ℕ) (k : ℕ) → EntryFacts index → k < bitmapCount index → startOf index k + lengthOf index k ≤ length index
-unfolding bodyPlace
-body-within index k f h = omega (arith, f .starts k h, f .ends (suc k) h)
-
--- the part that is body k
-pub body-part : (index : List ℕ) (k s l : ℕ) → s ≡ startOf index k → l ≡ lengthOf index k → take (s + l - s) (drop s index) ≡ bodyAt index k
-unfolding bodyAt
-body-part index k s l e f = let z : s + l - s ≡ l = omega arith in rw (z, e, f)
-
 pub entries-start : (index : List ℕ) (n e : ℕ) → n ≡ bitmapCount index → e ≡ entryPlace index n → entriesFault index 0 (n - 0) e ≡ entriesFault index 0 (bitmapCount index) (entryPlace index (bitmapCount index))
 entries-start index n e h g = let z : n - 0 ≡ n = omega arith in rw (z, g, h)
 
 pub bodies-start : (index : List ℕ) (n : ℕ) → n ≡ bitmapCount index → bodiesFault index 0 (n - 0) ≡ bodiesFault index 0 (bitmapCount index)
 bodies-start index n h = let z : n - 0 ≡ n = omega arith in rw (z, h)
-
--- the length of a body
-pub body-length : (index : List ℕ) (k : ℕ) → EntryFacts index → k < bitmapCount index → length (bodyAt index k) ≡ lengthOf index k
-unfolding bodyAt
-body-length index k f h = length-take-le (lengthOf index k) (drop (startOf index k) index) (omega (arith, length-drop (startOf index k) index, body-within index k f h))
 
 -- the fault of body k, where the rows were read before
 pub fault-of : (index : List ℕ) (k rows : ℕ) (v : Verdict) → rows ≡ rowCount index → bodyFault k (startOf index k) rows (bodyAt index k) ≡ v → bodyFault k (startOf index k) (rowCount index) (bodyAt index k) ≡ v

@@ -8,7 +8,6 @@ ghost use Rattle.meaning.specs.Index.{rowCount, bitmapCount, entryPlace, startO
 ghost use Rattle.meaning.specs.Laws.{HeadFacts, EntryFacts};
 ghost use Rattle.answers.specs.Told.{verdictOf};
 ghost use Rattle.index.specs.Entries.{Stepped, refusal};
-use crate::contents;
 use answers::refusal::Checked;
 use answers::refusal::Refusal;
 use ewah::check as body;

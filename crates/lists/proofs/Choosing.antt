@@ -27,7 +27,7 @@ use Rattle.answers.specs.declared.answer.Histogram.{Histogram}
 use Rattle.answers.specs.declared.answer.Answered.{Answered}
 use Rattle.answers.specs.declared.answer.Answered.the-variants as answered
 use Rattle.answers.specs.declared.refusal.Checked.the-variants as checked
-use Rattle.lists.proofs.Listing.{reported-refused}
+use Rattle.fit.proofs.Listing.{reported-refused}
 
 -- ---- one of three tests refuses, or none does
 

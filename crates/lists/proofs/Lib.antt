@@ -1,3 +1,1 @@
-pub mod Listing
-pub mod Fitting
 pub mod Choosing

@@ -6,12 +6,10 @@ ghost use Rattle.meaning.specs.Limits.{headWords};
 ghost use Rattle.meaning.specs.Laws.{IndexFacts};
 ghost use Rattle.meaning.specs.Answer as meaning;
 ghost use Rattle.answers.specs.Told.{Reported, Counted};
-use crate::fit;
 use answers::answer;
 use answers::answer::Answered;
 use answers::answer::Histogram;
 use answers::refusal::Checked;
-use index::contents;
 use meaning::MOST_NAMED;
 use merge::evaluate::Operation;
 

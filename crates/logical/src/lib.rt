@@ -16,7 +16,6 @@ use answers::answer;
 use answers::answer::Answered;
 use answers::answer::Written;
 use lists::ask;
-use lists::fit;
 use merge::evaluate::Operation;
 
 // An answer's words alone: a logical question reports no stretches.

@@ -8,7 +8,6 @@ use crate::emit;
 use crate::evaluate;
 use crate::evaluate::Operation;
 use ewah_write::writer;
-use index::contents;
 use walk::survey;
 use words::rows;
 

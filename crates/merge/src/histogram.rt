@@ -11,7 +11,6 @@ ghost use Rattle.words.specs.Counters.{countAt};
 ghost use Rattle.merge.specs.Merges.{Walkable, bodiesOf};
 ghost use Rattle.merge.specs.Histograms.{StretchCounted};
 use crate::evaluate;
-use index::contents;
 use meaning::HISTOGRAM_COUNTS;
 use walk::survey;
 use walk::survey::Survey;

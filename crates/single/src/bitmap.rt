@@ -8,7 +8,6 @@ ghost use Rattle.meaning.specs.Answer as meaning;
 ghost use Rattle.answers.specs.Told.{verdictOf};
 use answers::answer;
 use answers::refusal::Checked;
-use index::contents;
 
 // Whether an index has a bitmap k; 8 where it has not.
 pub fn check_number(index: &[u32], k: u32) -> Checked

@@ -7,7 +7,6 @@ ghost use Rattle.ewah.specs.Cursors.{ValueLow};
 ghost use Rattle.walk.specs.Queries.{cursorOf, tagOf, numberOf, Stored};
 use ewah::cursor::Cursor;
 use ewah::cursor::Piece;
-use index::contents;
 use meaning::PLACE_NUMBERS;
 use meaning::QUERY_NUMBERS;
 

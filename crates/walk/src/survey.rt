@@ -13,7 +13,6 @@ use crate::query;
 use crate::query::Query;
 use ewah::cursor;
 use ewah::cursor::Piece;
-use index::contents;
 use meaning::PLANES;
 use meaning::QUERY_NUMBERS;
 use words::counters;

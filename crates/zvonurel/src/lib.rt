@@ -20,7 +20,6 @@ pub use answers::answer::Number;
 pub use answers::answer::Written;
 pub use answers::refusal::Checked;
 pub use answers::refusal::Refusal;
-use index::contents;
 use meaning::MOST_ROWS;
 
 // ---- one body alone: bitmap 0, with places counted in the body. More rows than the limit are refused first

@@ -15,11 +15,11 @@ use Rattle.answers.specs.declared.refusal.Checked.{Checked}
 use Rattle.answers.specs.declared.refusal.Checked.the-variants as checked
 use Rattle.answers.specs.Told.{verdictOf}
 use Rattle.answers.proofs.Checks.{sound-is}
-use Rattle.zvonurel_c.specs.declared.reply.ZvPart.{ZvPart}
-use Rattle.zvonurel_c.specs.Exported.{numberIn, bitmapIn, wordIn, ifAnswered, partReply, told, Lends}
-use Rattle.index.proofs.EntrySteps.{body-within}
+use Rattle.replies.specs.declared.reply.ZvPart.{ZvPart}
+use Rattle.replies.specs.Exported.{numberIn, bitmapIn, wordIn, ifAnswered, partReply, told, Lends}
+use Rattle.contents.proofs.Places.{body-within}
 use Rattle.meaning.proofs.Numbered.{number-of, bitmap-refusal}
-use Rattle.zvonurel_c.proofs.Codes.{told-refused}
+use Rattle.replies.proofs.Codes.{told-refused}
 
 -- what the two places of the contents are read under
 pub there : (c : Checked) (index : List ℕ) (k : ℕ) → verdictOf c ≡ bitmapRefusal index k → c ≡ checked.Sound → HeadFacts index × (k < bitmapCount index)

@@ -5,18 +5,16 @@
 ghost use lib.ListN.{length};
 ghost use Rattle.meaning.specs.Answer as meaning;
 ghost use Rattle.meaning.specs.Demands.{Asked, ThresholdDemand};
-ghost use Rattle.zvonurel_c.specs.Exported.{Checks, Flags, Numbers, Writes, Reports, Lends, Counts, answeredTold};
-use index::contents;
-pub use reply::ZvAnswered;
-pub use reply::ZvChecked;
-pub use reply::ZvFlag;
-pub use reply::ZvHistogram;
-pub use reply::ZvNumber;
-pub use reply::ZvPart;
-pub use reply::ZvWritten;
+ghost use Rattle.replies.specs.Exported.{Checks, Flags, Numbers, Writes, Reports, Lends, Counts, answeredTold};
+use replies::reply;
+pub use replies::reply::ZvAnswered;
+pub use replies::reply::ZvChecked;
+pub use replies::reply::ZvFlag;
+pub use replies::reply::ZvHistogram;
+pub use replies::reply::ZvNumber;
+pub use replies::reply::ZvPart;
+pub use replies::reply::ZvWritten;
 use zvonurel::Checked;
-
-mod reply;
 
 // ---- one body alone: bitmap 0, with places counted in the body
 

@@ -1,4 +1,4 @@
--- `zvonurel::bitmap` meets its contract: by `part-laws` the part is empty on a refusal, and else it is body k, which `index::contents::body` lends. Assumes nothing.
+-- `zvonurel::bitmap` meets its contract: by `part-laws` the part is empty on a refusal, and else it is body k, which `contents::body` lends. Assumes nothing.
 use mathlib.Core.Path.{refl, sym, _∙_}
 use denote.Ref.{now}
 use Rattle.answers.proofs.Checks.{sound-is, refused-is, refused-not-sound}

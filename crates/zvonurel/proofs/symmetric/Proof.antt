@@ -3,7 +3,7 @@ use denote.Ref.{now}
 use lib.ListN.{length}
 use Rattle.answers.proofs.Checks.{refuses}
 use Rattle.meaning.specs.Answer.{check, askSymmetric, symmetric}
-use Rattle.lists.proofs.Listing.{reported-refused}
+use Rattle.fit.proofs.Listing.{reported-refused}
 use Rattle.zvonurel.proofs.Guards.{checked-index, reported-then}
 use borrow.Author.Needs.{needs}
 use Rattle.zvonurel.proofs.symmetric.Statement.{statement}

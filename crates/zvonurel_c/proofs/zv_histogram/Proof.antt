@@ -2,7 +2,7 @@
 use denote.Ref.{now}
 use Rattle.meaning.specs.Answer as meaning
 use Rattle.meaning.proofs.Numbered as numbered
-use Rattle.zvonurel_c.proofs.Codes.{counts}
+use Rattle.replies.proofs.Codes.{counts}
 use borrow.Author.Needs.{needs}
 use Rattle.zvonurel_c.proofs.zv_histogram.Statement.{statement}
 use Rattle.zvonurel_c.proofs.zv_histogram.Tie as tie

@@ -3,7 +3,7 @@ use denote.Ref.{now}
 use lib.ListN.{length}
 use Rattle.meaning.specs.Answer as meaning
 use Rattle.meaning.proofs.Numbered as numbered
-use Rattle.zvonurel_c.proofs.Codes.{reports}
+use Rattle.replies.proofs.Codes.{reports}
 use borrow.Author.Needs.{needs}
 use Rattle.zvonurel_c.proofs.zv_symmetric.Statement.{statement}
 use Rattle.zvonurel_c.proofs.zv_symmetric.Tie as tie

@@ -4,7 +4,7 @@ use mathlib.Core.Path.{ap₂}
 use mathlib.Core.List.{List}
 use lib.ListN.{length}
 use Rattle.meaning.specs.Ewah.{bodyFault}
-use Rattle.index.proofs.EntrySteps.{body-within, body-length}
+use Rattle.contents.proofs.Places.{body-within, body-length}
 use mathlib.Core.Path.{ap, _∙_}
 use denote.Ref.{now}
 use native.Mathlib.Omega.{arith}

@@ -2,7 +2,7 @@
 use denote.Ref.{now}
 use mathlib.Core.Path.{sym, _∙_}
 use Rattle.meaning.specs.Answer.{askHistogram}
-use Rattle.lists.proofs.Listing.{good-walkable}
+use Rattle.fit.proofs.Listing.{good-walkable}
 use Rattle.lists.proofs.Choosing.{counted-refused, counted-sound}
 use borrow.Author.Needs.{needs}
 use Rattle.lists.proofs.ask.histogram.Statement.{statement}

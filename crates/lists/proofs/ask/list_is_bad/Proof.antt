@@ -1,5 +1,5 @@
 -- `lists::ask::list_is_bad` meets its contract: each way is a law of `Listing`. Assumes nothing.
-use Rattle.lists.proofs.Listing.{bad-none, bad-long, bad-names}
+use Rattle.fit.proofs.Listing.{bad-none, bad-long, bad-names}
 use borrow.Author.Needs.{needs}
 use Rattle.lists.proofs.ask.list_is_bad.Statement.{statement}
 use Rattle.lists.proofs.ask.list_is_bad.Tie as tie

@@ -4,7 +4,7 @@ use Prim.Native.Nat.{_-_, _≤_}
 use lib.ListN.{length, drop}
 use Rattle.meaning.specs.Index.{bitmapCount}
 use Rattle.meaning.specs.Answer.{anyBad}
-use Rattle.lists.proofs.Listing.{any-here, any-next, any-end}
+use Rattle.fit.proofs.Listing.{any-here, any-next, any-end}
 use borrow.Author.Needs.{needs}
 use native.Mathlib.Omega.{arith}
 use Rattle.lists.proofs.ask.names_missing.Statement.{statement}

@@ -7,7 +7,7 @@ use lib.ListN.{length}
 use Rattle.meaning.specs.Refusal.{Outcome}
 use Rattle.meaning.specs.Answer.{askSymmetric, badSymmetric}
 use Rattle.answers.specs.Told.{Reported}
-use Rattle.lists.proofs.Listing.{good-walkable}
+use Rattle.fit.proofs.Listing.{good-walkable}
 use Rattle.lists.proofs.Choosing.{reported-first, reported-second, reported-third, reported-rest, symmetric-body, size-wrong, size-right}
 use native.Mathlib.Omega.{arith}
 use borrow.Author.Needs.{needs}

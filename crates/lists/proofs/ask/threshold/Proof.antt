@@ -9,7 +9,7 @@ use Rattle.answers.specs.Told.{Reported}
 use native.Mathlib.Omega.{arith}
 use borrow.Author.Tests.{eq-eqb, ne-eqb, lt-ltb, le-ltb}
 use lib.ListN.{length}
-use Rattle.lists.proofs.Listing.{good-walkable}
+use Rattle.fit.proofs.Listing.{good-walkable}
 use Rattle.lists.proofs.Choosing.{reported-first, reported-second, reported-third, reported-rest, threshold-body}
 use borrow.Author.Needs.{needs}
 use Rattle.lists.proofs.ask.threshold.Statement.{statement}
