@@ -61,7 +61,7 @@ of-histogram index list entries e =
     rw is (long, histogram-adds (rowCount index) (named index list) (few-named index list (p .0)))
   where
     long : length (histogramOf (rowCount index) (named index list)) ≡ histogramCounts
-    long = unfold histogramOf in length-tabulate (histogramCounts) (λ c. countBelow (rowCount index) (λ r. eqb (held (named index list) r) c))
+    long = unfold histogramOf in length-tabulate histogramCounts (λ c. countBelow (rowCount index) (λ r. eqb (held (named index list) r) c))
 
 pub answer-laws : AnswerLaws
 answer-laws = record { of-pair = of-pair; of-not = of-not; of-threshold = of-threshold; of-symmetric = of-symmetric; of-histogram = of-histogram }

@@ -116,11 +116,11 @@ one-hot (suc n) (suc x) h =
 
 pub histogram-adds : HistogramAdds
 unfolding histogramOf countBelow sumBelow
-histogram-adds zero ps h = tabulate-zero (histogramCounts)
+histogram-adds zero ps h = tabulate-zero histogramCounts
 histogram-adds (suc R) ps h =
-    let e : sumOf (tabulate (histogramCounts) (λ c. sumBelow R (λ r. bit (eqb (held ps r) c)))) ≡ R = histogram-adds R ps h in
-    let g : sumOf (tabulate (histogramCounts) (λ c. bit (eqb (held ps R) c))) ≡ 1 = one-hot (histogramCounts) (held ps R) (omega (arith, held-le ps R)) in
-    sum-tabulate (histogramCounts) (λ c. sumBelow R (λ r. bit (eqb (held ps r) c))) (λ c. bit (eqb (held ps R) c)) ∙ (omega arith)
+    let e : sumOf (tabulate histogramCounts (λ c. sumBelow R (λ r. bit (eqb (held ps r) c)))) ≡ R = histogram-adds R ps h in
+    let g : sumOf (tabulate histogramCounts (λ c. bit (eqb (held ps R) c))) ≡ 1 = one-hot histogramCounts (held ps R) (omega (arith, held-le ps R)) in
+    sum-tabulate histogramCounts (λ c. sumBelow R (λ r. bit (eqb (held ps r) c))) (λ c. bit (eqb (held ps R) c)) ∙ (omega arith)
 
 getD-past : (n : ℕ) (f : ℕ → ℕ) (i : ℕ) → n ≤ i → getD (tabulate n f) i 0 ≡ 0
 unfolding tabulate
@@ -130,7 +130,7 @@ getD-past (suc n) f (suc i) h = getD-past n (λ i. f (suc i)) i (omega arith)
 
 pub histogram-ends : HistogramEnds
 unfolding histogramOf
-histogram-ends R ps c h = elim (decLe (histogramCounts) c) [
-  | yes g ↦ getD-past (histogramCounts) (λ c. countBelow R (λ r. eqb (held ps r) c)) c g
-  | no g ↦ getD-tabulate (histogramCounts) (λ c. countBelow R (λ r. eqb (held ps r) c)) c (omega arith) ∙ count-none R (λ r. eqb (held ps r) c) (λ r g. ne-eqb (held ps r) c (omega (arith, held-le ps r)))
+histogram-ends R ps c h = elim (decLe histogramCounts c) [
+  | yes g ↦ getD-past histogramCounts (λ c. countBelow R (λ r. eqb (held ps r) c)) c g
+  | no g ↦ getD-tabulate histogramCounts (λ c. countBelow R (λ r. eqb (held ps r) c)) c (omega arith) ∙ count-none R (λ r. eqb (held ps r) c) (λ r g. ne-eqb (held ps r) c (omega (arith, held-le ps r)))
 ]

@@ -34,7 +34,7 @@ wordsReported (answer words) = length words
 
 -- the histogram reported: zeros on a refusal
 unfoldable pub histogramReported : Outcome (List ℕ) → List ℕ
-histogramReported (refused number bitmap word) = replicate (histogramCounts) 0
+histogramReported (refused number bitmap word) = replicate histogramCounts 0
 histogramReported (answer counts) = counts
 
 -- the part returned: empty on a refusal

@@ -55,7 +55,7 @@ byTable table ps r = eqb (getD table (held ps r) 0) 1
 -- histogram (paper 01: tally): for each c from 0 to the most, how many of R rows exactly c of the list have
 unfoldable pub histogramOf : (R : ℕ) → List (ℕ → Bool) → List ℕ
 unfolding tabulate countBelow held
-histogramOf R ps = tabulate (histogramCounts) (λ c. countBelow R (λ r. eqb (held ps r) c))
+histogramOf R ps = tabulate histogramCounts (λ c. countBelow R (λ r. eqb (held ps r) c))
 
 -- the sum of a list
 unfoldable pub sumOf : List ℕ → ℕ

@@ -233,7 +233,7 @@ pub fn not(index: &[u32], k: u32, out: &mut [u32]) -> Written
     }
 }
 
-// ---- a list of 1 to the most bitmap numbers, repeats included, each counted as often as it is named
+// ---- a list of 1 to `MOST_NAMED` bitmap numbers, repeats included, each counted as often as it is named
 
 // The rows that at least t of the list have, as a body in canonical form.
 pub fn threshold(index: &[u32], list: &[u32], t: u32, out: &mut [u32]) -> Answered
@@ -264,7 +264,7 @@ pub fn symmetric(index: &[u32], list: &[u32], table: &[u32], out: &mut [u32]) ->
     }
 }
 
-// For each c from 0 to the most that a list can name the number of rows that exactly c of the list have.
+// For each c from 0 to `MOST_NAMED` the number of rows that exactly c of the list have.
 pub fn histogram(index: &[u32], list: &[u32]) -> Histogram
     ensures { λ r. ⌜ Counted (meaning.histogram (now (index .entry)) (now (list .entry))) r ⌝ }
 {
