@@ -4,19 +4,30 @@ use std::env;
 use std::path::PathBuf;
 
 fn main() {
+    println!("cargo:rerun-if-env-changed=ZVONUREL_LIB");
     let folder = match env::var_os("ZVONUREL_LIB") {
         Some(folder) => PathBuf::from(folder),
         None => PathBuf::from(env::var_os("CARGO_MANIFEST_DIR").expect("cargo names the package's folder"))
             .join("../../target/staticlib"),
     };
+    // cargo runs this in the package's folder, so what a relative path was meant from can't be known
+    if !folder.is_absolute() {
+        let given = folder.display();
+        refuse(&format!("ZVONUREL_LIB is the relative path `{given}`: name the folder by its whole path, from / on"));
+    }
     let library = folder.join("libzvonurel_c.a");
-    println!("cargo:rerun-if-env-changed=ZVONUREL_LIB");
     println!("cargo:rerun-if-changed={}", library.display());
-    assert!(
-        library.is_file(),
-        "there is no {}: `rt staticlib zvonurel_c` at the repository's root writes it, or name its folder in ZVONUREL_LIB",
-        library.display()
-    );
+    if !library.is_file() {
+        let missing = library.display();
+        refuse(&format!(
+            "there is no {missing}: `./build` at the repository's root writes it, or name its folder in ZVONUREL_LIB"
+        ));
+    }
     println!("cargo:rustc-link-search=native={}", folder.display());
     println!("cargo:rustc-link-lib=static=zvonurel_c");
+}
+
+fn refuse(why: &str) -> ! {
+    eprintln!("{why}");
+    std::process::exit(1);
 }

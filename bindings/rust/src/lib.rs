@@ -21,14 +21,38 @@
 //! assert!(zvonurel::body_row(body, 4, 1)? && zvonurel::body_row(body, 4, 3)?);
 //!
 //! // there is no way for at least four of three to have a row
-//! assert_eq!(zvonurel::threshold(&index, &[0, 1, 2], 4, &mut out).unwrap_err().number, 8);
+//! let refusal = zvonurel::threshold(&index, &[0, 1, 2], 4, &mut out).unwrap_err();
+//! assert_eq!(refusal.number, zvonurel::Refusal::BAD_ARGUMENT);
 //! # Ok::<(), zvonurel::Refusal>(())
 //! ```
+//!
+//! # Beside the calls
+//!
+//! Plain Rust over the proved calls, not itself proved; these allocate what they return:
+//!
+//! - [`set_rows`] and [`spells`] list a body's rows. A loop of [`body_nth`] would walk the body anew for each row.
+//! - [`IndexBuilder`] makes an index of bodies, plain words or rows, and [`index_of`] of words that may be anything.
+//! - [`import`] makes a body of the words that another EWAH library wrote, or says why not.
+//!
+//! # Room
+//!
+//! A buffer of [`most_body_words`] words takes every body of so many rows, one of [`segments`] words every body's plain
+//! words. A buffer of length 0 measures: the refusal is [`Refusal::NO_ROOM`], with the words needed.
+//!
+//! # Cost
+//!
+//! A call on an index checks the whole of it first, so it costs at least that: the contents and every marker, though no
+//! dirty word but a last one. For many questions on one bitmap, take its body with [`bitmap`] once and ask the calls on
+//! a body. The library was built for Linux on x86-64; a call needs less than 8 KiB of stack.
 #![deny(missing_docs)]
 #![deny(unsafe_op_in_unsafe_fn)]
 #![warn(clippy::undocumented_unsafe_blocks)]
 
+mod argument;
+mod builder;
+mod import;
 mod limits;
+mod listing;
 mod raw;
 mod refusal;
 
@@ -41,13 +65,20 @@ mod pages {
     struct Format;
     #[doc = include_str!("../../../docs/REFUSALS.md")]
     struct Refusals;
+    #[doc = include_str!("../../../docs/QUESTIONS.md")]
+    struct Questions;
 }
 
+pub use argument::BadArgument;
+pub use builder::{index_of, IndexBuilder};
+pub use import::{import, NotImported};
 pub use limits::*;
+pub use listing::{set_rows, spells, SetRows, Spell, Spells};
 pub use refusal::Refusal;
 
 /// A body that answers a question over a list.
 #[derive(Clone, Copy, Debug, PartialEq, Eq, Hash)]
+#[must_use = "the answer is only so many words at the front of the buffer"]
 pub struct Answer {
     /// How many words it has, at the front of the buffer.
     pub words: usize,
@@ -55,13 +86,24 @@ pub struct Answer {
     pub stretches: u32,
 }
 
-/// The library's number 0 says that the call was not refused.
-fn settled<T>(number: u32, bitmap: u32, word: u64, value: T) -> Result<T, Refusal> {
-    if number == 0 {
-        Ok(value)
-    } else {
-        Err(Refusal { number, bitmap, word })
+/// The library's number 0 says that the call was not refused. At 8 `argument` is asked which argument it was.
+fn settled<T>(
+    number: u32,
+    bitmap: u32,
+    word: u64,
+    value: T,
+    argument: impl FnOnce() -> Option<BadArgument>,
+) -> Result<T, Refusal> {
+    match number {
+        0 => Ok(value),
+        Refusal::BAD_ARGUMENT => Err(Refusal { number, bitmap, word, argument: argument() }),
+        _ => Err(Refusal { number, bitmap, word, argument: None }),
     }
+}
+
+/// A call that has no argument to refuse beside its words and its buffer.
+fn none() -> Option<BadArgument> {
+    None
 }
 
 /// A number of words within a slice that the caller lent, so it fits.
@@ -85,7 +127,7 @@ fn words(n: u64) -> usize {
 pub fn check_body(body: &[u32], rows: u32) -> Result<(), Refusal> {
     // SAFETY: each pointer is a slice's, with its length.
     let told = unsafe { raw::zv_check_body(body.as_ptr(), body.len(), rows) };
-    settled(told.number, told.bitmap, told.word, ())
+    settled(told.number, told.bitmap, told.word, (), none)
 }
 
 /// Whether a row of the body is set.
@@ -99,7 +141,7 @@ pub fn check_body(body: &[u32], rows: u32) -> Result<(), Refusal> {
 pub fn body_row(body: &[u32], rows: u32, row: u32) -> Result<bool, Refusal> {
     // SAFETY: each pointer is a slice's, with its length.
     let told = unsafe { raw::zv_body_row(body.as_ptr(), body.len(), rows, row) };
-    settled(told.number, told.bitmap, told.word, told.value == 1)
+    settled(told.number, told.bitmap, told.word, told.value == 1, || Some(BadArgument::Row { row, rows }))
 }
 
 /// How many rows of the body are set.
@@ -113,7 +155,7 @@ pub fn body_row(body: &[u32], rows: u32, row: u32) -> Result<bool, Refusal> {
 pub fn body_count(body: &[u32], rows: u32) -> Result<u32, Refusal> {
     // SAFETY: each pointer is a slice's, with its length.
     let told = unsafe { raw::zv_body_count(body.as_ptr(), body.len(), rows) };
-    settled(told.number, told.bitmap, told.word, told.value)
+    settled(told.number, told.bitmap, told.word, told.value, none)
 }
 
 /// The nth set row of the body, counted from 0.
@@ -129,7 +171,7 @@ pub fn body_count(body: &[u32], rows: u32) -> Result<u32, Refusal> {
 pub fn body_nth(body: &[u32], rows: u32, n: u32) -> Result<u32, Refusal> {
     // SAFETY: each pointer is a slice's, with its length.
     let told = unsafe { raw::zv_body_nth(body.as_ptr(), body.len(), rows, n) };
-    settled(told.number, told.bitmap, told.word, told.value)
+    settled(told.number, told.bitmap, told.word, told.value, || Some(BadArgument::SetRow { n }))
 }
 
 /// Writes the body's rows as plain words, one for each [`WORD_BITS`] rows, and returns how many.
@@ -145,7 +187,7 @@ pub fn body_nth(body: &[u32], rows: u32, n: u32) -> Result<u32, Refusal> {
 pub fn expand(body: &[u32], rows: u32, out: &mut [u32]) -> Result<usize, Refusal> {
     // SAFETY: each pointer is a slice's, with its length.
     let told = unsafe { raw::zv_expand(body.as_ptr(), body.len(), rows, out.as_mut_ptr(), out.len()) };
-    settled(told.number, told.bitmap, told.word, words(told.words))
+    settled(told.number, told.bitmap, told.word, words(told.words), none)
 }
 
 /// Writes plain words as a body, in the one form with the fewest words, and returns how many.
@@ -162,7 +204,9 @@ pub fn expand(body: &[u32], rows: u32, out: &mut [u32]) -> Result<usize, Refusal
 pub fn compress(rows: u32, plain: &[u32], out: &mut [u32]) -> Result<usize, Refusal> {
     // SAFETY: each pointer is a slice's, with its length.
     let told = unsafe { raw::zv_compress(rows, plain.as_ptr(), plain.len(), out.as_mut_ptr(), out.len()) };
-    settled(told.number, told.bitmap, told.word, words(told.words))
+    settled(told.number, told.bitmap, told.word, words(told.words), || {
+        Some(BadArgument::PlainWords { words: plain.len(), rows })
+    })
 }
 
 // ---- an index
@@ -180,7 +224,7 @@ pub fn compress(rows: u32, plain: &[u32], out: &mut [u32]) -> Result<usize, Refu
 pub fn check(index: &[u32]) -> Result<(), Refusal> {
     // SAFETY: each pointer is a slice's, with its length.
     let told = unsafe { raw::zv_check(index.as_ptr(), index.len()) };
-    settled(told.number, told.bitmap, told.word, ())
+    settled(told.number, told.bitmap, told.word, (), none)
 }
 
 /// Why [`bitmap`] is refused; `None` where it is not.
@@ -190,10 +234,11 @@ pub fn check(index: &[u32]) -> Result<(), Refusal> {
 /// assert_eq!(zvonurel::bitmap_refusal(&index, 0), None);
 /// assert_eq!(zvonurel::bitmap_refusal(&index, 1).unwrap().number, 8);
 /// ```
+#[must_use]
 pub fn bitmap_refusal(index: &[u32], k: u32) -> Option<Refusal> {
     // SAFETY: each pointer is a slice's, with its length.
     let told = unsafe { raw::zv_bitmap_refusal(index.as_ptr(), index.len(), k) };
-    settled(told.number, told.bitmap, told.word, ()).err()
+    settled(told.number, told.bitmap, told.word, (), || argument::bitmap(index, k)).err()
 }
 
 /// The part of the index that is bitmap k's body: the caller's own words.
@@ -210,7 +255,7 @@ pub fn bitmap(index: &[u32], k: u32) -> Result<&[u32], Refusal> {
     // SAFETY: each pointer is a slice's, with its length.
     let told = unsafe { raw::zv_bitmap(index.as_ptr(), index.len(), k) };
     let (start, length) = (words(told.start), words(told.length));
-    settled(told.number, told.bitmap, told.word, &index[start..start + length])
+    settled(told.number, told.bitmap, told.word, &index[start..start + length], || argument::bitmap(index, k))
 }
 
 /// Whether a row of bitmap k is set.
@@ -225,7 +270,7 @@ pub fn bitmap(index: &[u32], k: u32) -> Result<&[u32], Refusal> {
 pub fn row(index: &[u32], k: u32, row: u32) -> Result<bool, Refusal> {
     // SAFETY: each pointer is a slice's, with its length.
     let told = unsafe { raw::zv_row(index.as_ptr(), index.len(), k, row) };
-    settled(told.number, told.bitmap, told.word, told.value == 1)
+    settled(told.number, told.bitmap, told.word, told.value == 1, || argument::row(index, k, row))
 }
 
 /// How many rows of bitmap k are set.
@@ -240,7 +285,7 @@ pub fn row(index: &[u32], k: u32, row: u32) -> Result<bool, Refusal> {
 pub fn count(index: &[u32], k: u32) -> Result<u32, Refusal> {
     // SAFETY: each pointer is a slice's, with its length.
     let told = unsafe { raw::zv_count(index.as_ptr(), index.len(), k) };
-    settled(told.number, told.bitmap, told.word, told.value)
+    settled(told.number, told.bitmap, told.word, told.value, || argument::bitmap(index, k))
 }
 
 /// The nth set row of bitmap k, counted from 0.
@@ -255,7 +300,7 @@ pub fn count(index: &[u32], k: u32) -> Result<u32, Refusal> {
 pub fn nth(index: &[u32], k: u32, n: u32) -> Result<u32, Refusal> {
     // SAFETY: each pointer is a slice's, with its length.
     let told = unsafe { raw::zv_nth(index.as_ptr(), index.len(), k, n) };
-    settled(told.number, told.bitmap, told.word, told.value)
+    settled(told.number, told.bitmap, told.word, told.value, || argument::nth(index, k, n))
 }
 
 /// Writes the rows of bitmap k as plain words, one for each [`WORD_BITS`] rows, and returns how many.
@@ -272,7 +317,7 @@ pub fn nth(index: &[u32], k: u32, n: u32) -> Result<u32, Refusal> {
 pub fn expand_bitmap(index: &[u32], k: u32, out: &mut [u32]) -> Result<usize, Refusal> {
     // SAFETY: each pointer is a slice's, with its length.
     let told = unsafe { raw::zv_expand_bitmap(index.as_ptr(), index.len(), k, out.as_mut_ptr(), out.len()) };
-    settled(told.number, told.bitmap, told.word, words(told.words))
+    settled(told.number, told.bitmap, told.word, words(told.words), || argument::bitmap(index, k))
 }
 
 // ---- two bitmaps of an index, or one
@@ -291,7 +336,7 @@ pub fn expand_bitmap(index: &[u32], k: u32, out: &mut [u32]) -> Result<usize, Re
 pub fn and(index: &[u32], j: u32, k: u32, out: &mut [u32]) -> Result<usize, Refusal> {
     // SAFETY: each pointer is a slice's, with its length.
     let told = unsafe { raw::zv_and(index.as_ptr(), index.len(), j, k, out.as_mut_ptr(), out.len()) };
-    settled(told.number, told.bitmap, told.word, words(told.words))
+    settled(told.number, told.bitmap, told.word, words(told.words), || argument::two(index, j, k))
 }
 
 /// Writes the rows that one or both bitmaps have, as a body in the one form with the fewest words, and returns how
@@ -309,7 +354,7 @@ pub fn and(index: &[u32], j: u32, k: u32, out: &mut [u32]) -> Result<usize, Refu
 pub fn or(index: &[u32], j: u32, k: u32, out: &mut [u32]) -> Result<usize, Refusal> {
     // SAFETY: each pointer is a slice's, with its length.
     let told = unsafe { raw::zv_or(index.as_ptr(), index.len(), j, k, out.as_mut_ptr(), out.len()) };
-    settled(told.number, told.bitmap, told.word, words(told.words))
+    settled(told.number, told.bitmap, told.word, words(told.words), || argument::two(index, j, k))
 }
 
 /// Writes the rows that just one of the two bitmaps has, as a body in the one form with the fewest words, and returns
@@ -327,7 +372,7 @@ pub fn or(index: &[u32], j: u32, k: u32, out: &mut [u32]) -> Result<usize, Refus
 pub fn xor(index: &[u32], j: u32, k: u32, out: &mut [u32]) -> Result<usize, Refusal> {
     // SAFETY: each pointer is a slice's, with its length.
     let told = unsafe { raw::zv_xor(index.as_ptr(), index.len(), j, k, out.as_mut_ptr(), out.len()) };
-    settled(told.number, told.bitmap, told.word, words(told.words))
+    settled(told.number, told.bitmap, told.word, words(told.words), || argument::two(index, j, k))
 }
 
 /// Writes the rows that bitmap j has and bitmap k has not, as a body in the one form with the fewest words, and
@@ -345,7 +390,7 @@ pub fn xor(index: &[u32], j: u32, k: u32, out: &mut [u32]) -> Result<usize, Refu
 pub fn and_not(index: &[u32], j: u32, k: u32, out: &mut [u32]) -> Result<usize, Refusal> {
     // SAFETY: each pointer is a slice's, with its length.
     let told = unsafe { raw::zv_and_not(index.as_ptr(), index.len(), j, k, out.as_mut_ptr(), out.len()) };
-    settled(told.number, told.bitmap, told.word, words(told.words))
+    settled(told.number, told.bitmap, told.word, words(told.words), || argument::two(index, j, k))
 }
 
 /// Writes the rows that bitmap k has not, as a body in the one form with the fewest words, and returns how many words.
@@ -362,7 +407,7 @@ pub fn and_not(index: &[u32], j: u32, k: u32, out: &mut [u32]) -> Result<usize, 
 pub fn not(index: &[u32], k: u32, out: &mut [u32]) -> Result<usize, Refusal> {
     // SAFETY: each pointer is a slice's, with its length.
     let told = unsafe { raw::zv_not(index.as_ptr(), index.len(), k, out.as_mut_ptr(), out.len()) };
-    settled(told.number, told.bitmap, told.word, words(told.words))
+    settled(told.number, told.bitmap, told.word, words(told.words), || argument::bitmap(index, k))
 }
 
 // ---- a list of bitmap numbers, each counted as often as it is named
@@ -387,7 +432,9 @@ pub fn threshold(index: &[u32], list: &[u32], t: u32, out: &mut [u32]) -> Result
     let told = unsafe {
         raw::zv_threshold(index.as_ptr(), index.len(), list.as_ptr(), list.len(), t, out.as_mut_ptr(), out.len())
     };
-    settled(told.number, told.bitmap, told.word, Answer { words: words(told.words), stretches: told.stretches })
+    settled(told.number, told.bitmap, told.word, Answer { words: words(told.words), stretches: told.stretches }, || {
+        argument::threshold(index, list, t)
+    })
 }
 
 /// Writes the rows for which the table has a 1 at the number of the list that have the row, as such a body. The table
@@ -418,7 +465,9 @@ pub fn symmetric(index: &[u32], list: &[u32], table: &[u32], out: &mut [u32]) ->
             out.len(),
         )
     };
-    settled(told.number, told.bitmap, told.word, Answer { words: words(told.words), stretches: told.stretches })
+    settled(told.number, told.bitmap, told.word, Answer { words: words(told.words), stretches: told.stretches }, || {
+        argument::symmetric(index, list, table)
+    })
 }
 
 /// For each c from 0 to [`MOST_NAMED`], how many rows exactly c of the list have.
@@ -435,5 +484,5 @@ pub fn symmetric(index: &[u32], list: &[u32], table: &[u32], out: &mut [u32]) ->
 pub fn histogram(index: &[u32], list: &[u32]) -> Result<[u32; HISTOGRAM_COUNTS], Refusal> {
     // SAFETY: each pointer is a slice's, with its length.
     let told = unsafe { raw::zv_histogram(index.as_ptr(), index.len(), list.as_ptr(), list.len()) };
-    settled(told.number, told.bitmap, told.word, told.counts)
+    settled(told.number, told.bitmap, told.word, told.counts, || argument::list(index, list))
 }

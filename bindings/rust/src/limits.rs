@@ -38,3 +38,27 @@ pub const DIRTY_SHIFT: u32 = 17;
 
 /// The bits of a word: as many rows stand in a segment, and in a plain word.
 pub const WORD_BITS: usize = 32;
+
+/// The segments of that many rows, which are also its plain words.
+///
+/// ```
+/// assert_eq!(zvonurel::segments(0), 0);
+/// assert_eq!(zvonurel::segments(40), 2);
+/// ```
+#[must_use]
+pub const fn segments(rows: u32) -> usize {
+    (rows as u64).div_ceil(WORD_BITS as u64) as usize
+}
+
+/// The most words that a body of that many rows can have in canonical form, the form of every body that the library
+/// writes: a buffer of so many words always has room.
+///
+/// ```
+/// assert_eq!(zvonurel::most_body_words(40), 3);
+/// let mut body = [0; zvonurel::most_body_words(40)];
+/// assert_eq!(zvonurel::compress(40, &[0x1, 0x80], &mut body), Ok(3));
+/// ```
+#[must_use]
+pub const fn most_body_words(rows: u32) -> usize {
+    segments(rows) + segments(rows) / MOST_DIRTY + 1
+}

@@ -3,65 +3,90 @@
 use std::error::Error;
 use std::fmt;
 
-use crate::{ENTRY_WORDS, HEAD_WORDS, INDEX_KIND, MOST_BITMAPS, MOST_INDEX_WORDS, MOST_ROWS};
+use crate::{BadArgument, ENTRY_WORDS, HEAD_WORDS, INDEX_KIND, MOST_BITMAPS, MOST_INDEX_WORDS, MOST_ROWS};
 
 /// Why a call was refused: a number from 1 to 9, and where.
 ///
 /// A body that stands alone is bitmap 0, with places counted in the body. As text it is a sentence:
 ///
 /// ```
+/// use zvonurel::Refusal;
+///
 /// // the marker says that two dirty words follow, and one does
 /// let refusal = zvonurel::check_body(&[0x0004_0000, 1], 40).unwrap_err();
-/// assert_eq!((refusal.number, refusal.bitmap, refusal.word), (5, 0, 0));
+/// assert_eq!(refusal.numbers(), (Refusal::DIRTY_PAST_END, 0, 0));
 /// assert_eq!(refusal.to_string(), "bitmap 0, word 0: the marker's dirty words pass the body's end (refusal 5)");
+///
+/// let refusal = zvonurel::body_row(&[0x0000_0004], 40, 40).unwrap_err();
+/// assert_eq!(refusal.to_string(), "a bad argument: there is no row 40, of 40 counted from 0 (refusal 8)");
 /// ```
 #[derive(Clone, Copy, Debug, PartialEq, Eq, Hash)]
+#[non_exhaustive]
 pub struct Refusal {
-    /// What is wrong:
-    ///
-    /// 1. the index is too short for its head and its contents; `word` is its length
-    /// 2. word 0 of the index isn't [`INDEX_KIND`]
-    /// 3. more than [`MOST_INDEX_WORDS`] words (`word` 0), [`MOST_ROWS`] rows (`word` 1) or [`MOST_BITMAPS`] bitmaps
-    ///    (`word` 2)
-    /// 4. the contents name a wrong start or length, at `word`, or the index goes on behind the last body, which ends
-    ///    at `word`
-    /// 5. the dirty words of the marker at `word` pass the body's end
-    /// 6. the marker at `word` counts more segments than are left, or the body ends at `word` with segments missing
-    /// 7. the marker or word at `word` sets a bit behind the last row
-    /// 8. a bad argument
-    /// 9. the answer doesn't fit into the buffer; `word` is how many words it has
+    /// What is wrong: one of this type's named numbers.
     pub number: u32,
     /// The bitmap that has the fault; 0 where the fault is no bitmap's.
     pub bitmap: u32,
     /// The place of the word at fault, or what `number` says.
     pub word: u64,
+    /// Which argument it was, as the binding sees it, where `number` is [`Refusal::BAD_ARGUMENT`].
+    pub argument: Option<BadArgument>,
+}
+
+impl Refusal {
+    /// The index is too short for its head and its contents; `word` is its length.
+    pub const TOO_SHORT: u32 = 1;
+    /// Word 0 of the index isn't [`INDEX_KIND`].
+    pub const NOT_AN_INDEX: u32 = 2;
+    /// More than [`MOST_INDEX_WORDS`] words (`word` 0), [`MOST_ROWS`] rows (`word` 1) or [`MOST_BITMAPS`] bitmaps (`word` 2).
+    pub const TOO_LARGE: u32 = 3;
+    /// The contents name a wrong start or length, at `word`, or the index goes on behind the last body, which ends at
+    /// `word`.
+    pub const BAD_CONTENTS: u32 = 4;
+    /// The dirty words of the marker at `word` pass the body's end.
+    pub const DIRTY_PAST_END: u32 = 5;
+    /// The marker at `word` counts more segments than are left, or the body ends at `word` with segments missing.
+    pub const BAD_COUNT: u32 = 6;
+    /// The marker or word at `word` sets a bit behind the last row.
+    pub const PAD_BIT: u32 = 7;
+    /// A bad argument; `argument` says which.
+    pub const BAD_ARGUMENT: u32 = 8;
+    /// The answer doesn't fit into the buffer; `word` is how many words it has.
+    pub const NO_ROOM: u32 = 9;
+
+    /// The number, the bitmap and the word, as the library, C and the program tell them.
+    #[must_use]
+    pub const fn numbers(&self) -> (u32, u32, u64) {
+        (self.number, self.bitmap, self.word)
+    }
 }
 
 impl fmt::Display for Refusal {
     fn fmt(&self, f: &mut fmt::Formatter<'_>) -> fmt::Result {
-        let Refusal { number, bitmap, word } = *self;
+        let Refusal { number, bitmap, word, argument } = *self;
         match number {
-            1 => write!(f, "the index has {word} words, too few for its head and its contents")?,
-            2 => write!(f, "word 0 is not {INDEX_KIND}, so this is no index")?,
-            3 => match word {
+            Refusal::TOO_SHORT => write!(f, "the index has {word} words, too few for its head and its contents")?,
+            Refusal::NOT_AN_INDEX => write!(f, "word 0 is not {INDEX_KIND}, so this is no index")?,
+            Refusal::TOO_LARGE => match word {
                 0 => write!(f, "the index has more than {MOST_INDEX_WORDS} words")?,
                 1 => write!(f, "there are more than {MOST_ROWS} rows")?,
                 _ => write!(f, "there are more than {MOST_BITMAPS} bitmaps")?,
             },
-            4 => contents_fault(f, bitmap, word)?,
-            5 => write!(f, "bitmap {bitmap}, word {word}: the marker's dirty words pass the body's end")?,
-            6 => write!(
+            Refusal::BAD_CONTENTS => contents_fault(f, bitmap, word)?,
+            Refusal::DIRTY_PAST_END => {
+                write!(f, "bitmap {bitmap}, word {word}: the marker's dirty words pass the body's end")?
+            }
+            Refusal::BAD_COUNT => write!(
                 f,
                 "bitmap {bitmap}, word {word}: the marker counts more segments than are left, or the body ends here \
                  with segments missing"
             )?,
-            7 => write!(f, "bitmap {bitmap}, word {word}: a bit behind the last row is set")?,
-            8 => write!(
-                f,
-                "a bad argument: there is no such bitmap, row or set row, or the list, the threshold, the table or the \
-                 number of plain words is not one that can be"
-            )?,
-            9 => write!(f, "the buffer is too short for an answer of {word} words")?,
+            Refusal::PAD_BIT => write!(f, "bitmap {bitmap}, word {word}: a bit behind the last row is set")?,
+            Refusal::BAD_ARGUMENT => match argument {
+                Some(argument) => write!(f, "a bad argument: {argument}")?,
+                None => write!(f, "a bad argument")?,
+            },
+            Refusal::NO_ROOM => write!(f, "the buffer is too short for an answer of {word} words")?,
             _ => write!(f, "bitmap {bitmap}, word {word}")?,
         }
         write!(f, " (refusal {number})")

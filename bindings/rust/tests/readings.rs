@@ -1,4 +1,4 @@
-//! Every call, on the paper's LOOPED and 8-row readings and others, a refusal of each number, and each limit.
+//! Every call, on an index of four rows, one of eight and others, a refusal of each number, and each limit.
 
 use zvonurel::*;
 
@@ -8,14 +8,18 @@ const FORTY: [u32; 3] = [0x40000, 0x1, 0x80];
 const ALL: [u32; 3] = [0, 1, 2];
 const UNTOUCHED: u32 = 0x7777_7777;
 
-const fn refusal(number: u32, bitmap: u32, word: u64) -> Refusal {
-    Refusal { number, bitmap, word }
+/// A refusal's number, bitmap and word.
+type Numbers = (u32, u32, u64);
+
+const BAD: Numbers = (Refusal::BAD_ARGUMENT, 0, 0);
+
+fn no_room<T>(need: u64) -> Result<T, Numbers> {
+    Err((Refusal::NO_ROOM, 0, need))
 }
 
-const BAD: Refusal = refusal(8, 0, 0);
-
-fn no_room<T>(need: u64) -> Result<T, Refusal> {
-    Err(refusal(9, 0, need))
+/// What a call told, a refusal by its three numbers.
+fn told<T>(result: Result<T, Refusal>) -> Result<T, Numbers> {
+    result.map_err(|refusal| refusal.numbers())
 }
 
 /// The call writes these words into a buffer of their length and one more, which it leaves; and it is refused with
@@ -27,7 +31,7 @@ fn writes(want: &[u32], call: impl Fn(&mut [u32]) -> Result<usize, Refusal>) {
     assert_eq!(out[want.len()], UNTOUCHED);
     if let Some(short) = want.len().checked_sub(1) {
         let mut out = vec![UNTOUCHED; short];
-        assert_eq!(call(&mut out), no_room(want.len() as u64));
+        assert_eq!(told(call(&mut out)), no_room(want.len() as u64));
         assert!(out.iter().all(|w| *w == UNTOUCHED));
     }
 }
@@ -52,7 +56,7 @@ fn bodies() {
     let mut most = vec![0x1FFFE; 8];
     most.push(0x10);
     body_of(16_777_216, &vec![0; 524_288], &most);
-    assert_eq!(check_body(&most, MOST_ROWS + 1), Err(refusal(3, 0, 1)));
+    assert_eq!(told(check_body(&most, MOST_ROWS + 1)), Err((3, 0, 1)));
     // sound, and wasteful
     writes(&[0x20, 0, 0x1], |out| expand(&[0x60000, 0x20, 0, 1], 96, out));
 }
@@ -61,16 +65,16 @@ fn bodies() {
 fn one_body() {
     assert_eq!(body_row(&FORTY, 40, 39), Ok(true));
     assert_eq!(body_row(&FORTY, 40, 38), Ok(false));
-    assert_eq!(body_row(&FORTY, 40, 40), Err(BAD));
+    assert_eq!(told(body_row(&FORTY, 40, 40)), Err(BAD));
     assert_eq!(body_count(&FORTY, 40), Ok(2));
     assert_eq!(body_nth(&FORTY, 40, 1), Ok(39));
-    assert_eq!(body_nth(&FORTY, 40, 2), Err(BAD));
-    assert_eq!(compress(65, &[1, 0x80], &mut [0; 9]), Err(BAD));
-    assert_eq!(compress(40, &[1, 0x100], &mut [0; 9]), Err(refusal(7, 0, 1)));
-    assert_eq!(check_body(&[0x40000, 1], 40), Err(refusal(5, 0, 0)));
-    assert_eq!(check_body(&[0x6], 40), Err(refusal(6, 0, 0)));
-    assert_eq!(check_body(&[0x2], 40), Err(refusal(6, 0, 1)));
-    assert_eq!(check_body(&[0x5], 40), Err(refusal(7, 0, 0)));
+    assert_eq!(told(body_nth(&FORTY, 40, 2)), Err(BAD));
+    assert_eq!(told(compress(65, &[1, 0x80], &mut [0; 9])), Err(BAD));
+    assert_eq!(told(compress(40, &[1, 0x100], &mut [0; 9])), Err((7, 0, 1)));
+    assert_eq!(told(check_body(&[0x40000, 1], 40)), Err((5, 0, 0)));
+    assert_eq!(told(check_body(&[0x6], 40)), Err((6, 0, 0)));
+    assert_eq!(told(check_body(&[0x2], 40)), Err((6, 0, 1)));
+    assert_eq!(told(check_body(&[0x5], 40)), Err((7, 0, 0)));
 }
 
 #[test]
@@ -79,15 +83,15 @@ fn one_index() {
     let part = bitmap(&LOOPED, 1).unwrap();
     assert!(std::ptr::eq(part, &LOOPED[11..13]));
     assert_eq!(bitmap_refusal(&LOOPED, 1), None);
-    assert_eq!(bitmap_refusal(&LOOPED, 3), Some(BAD));
-    assert_eq!(bitmap(&LOOPED, 3), Err(BAD));
+    assert_eq!(bitmap_refusal(&LOOPED, 3).map(|refusal| refusal.numbers()), Some(BAD));
+    assert_eq!(told(bitmap(&LOOPED, 3)), Err(BAD));
     assert_eq!(row(&LOOPED, 0, 1), Ok(true));
     assert_eq!(row(&LOOPED, 0, 2), Ok(false));
-    assert_eq!(row(&LOOPED, 0, 4), Err(BAD));
+    assert_eq!(told(row(&LOOPED, 0, 4)), Err(BAD));
     assert_eq!(count(&LOOPED, 1), Ok(3));
-    assert_eq!(count(&LOOPED, 3), Err(BAD));
+    assert_eq!(told(count(&LOOPED, 3)), Err(BAD));
     assert_eq!(nth(&LOOPED, 1, 2), Ok(3));
-    assert_eq!(nth(&LOOPED, 1, 3), Err(BAD));
+    assert_eq!(told(nth(&LOOPED, 1, 3)), Err(BAD));
     writes(&[0xE], |out| expand_bitmap(&LOOPED, 1, out));
 }
 
@@ -121,26 +125,26 @@ fn bad_indexes() {
         index[place] = value;
         let told = check(&index).unwrap_err();
         assert!(refused_by_all(&index).iter().all(|r| *r == Some(told)));
-        told
+        told.numbers()
     };
-    assert_eq!(check(&[]), Err(refusal(1, 0, 0)));
-    assert_eq!(check(&LOOPED[..8]), Err(refusal(1, 0, 8)));
-    assert_eq!(changed(0, 2), refusal(2, 0, 0));
-    assert_eq!(changed(1, MOST_ROWS + 1), refusal(3, 0, 1));
-    assert_eq!(changed(2, MOST_BITMAPS + 1), refusal(3, 0, 2));
-    assert_eq!(changed(5, 12), refusal(4, 1, 5));
-    assert_eq!(changed(8, 3), refusal(4, 2, 8));
-    assert_eq!(changed(8, 1), refusal(4, 0, 14));
-    assert_eq!(changed(11, 0x40000), refusal(5, 1, 11));
-    assert_eq!(changed(11, 0x20002), refusal(6, 1, 11));
-    assert_eq!(changed(12, 0x1E), refusal(7, 1, 12));
+    assert_eq!(told(check(&[])), Err((1, 0, 0)));
+    assert_eq!(told(check(&LOOPED[..8])), Err((1, 0, 8)));
+    assert_eq!(changed(0, 2), (2, 0, 0));
+    assert_eq!(changed(1, MOST_ROWS + 1), (3, 0, 1));
+    assert_eq!(changed(2, MOST_BITMAPS + 1), (3, 0, 2));
+    assert_eq!(changed(5, 12), (4, 1, 5));
+    assert_eq!(changed(8, 3), (4, 2, 8));
+    assert_eq!(changed(8, 1), (4, 0, 14));
+    assert_eq!(changed(11, 0x40000), (5, 1, 11));
+    assert_eq!(changed(11, 0x20002), (6, 1, 11));
+    assert_eq!(changed(12, 0x1E), (7, 1, 12));
 }
 
 /// The library has each limit where its name says: so many pass, and one more does not.
 #[test]
 fn limits() {
     assert_eq!(check(&[INDEX_KIND, MOST_ROWS, 0]), Ok(()));
-    assert_eq!(check(&[INDEX_KIND, MOST_ROWS + 1, 0]), Err(refusal(3, 0, 1)));
+    assert_eq!(told(check(&[INDEX_KIND, MOST_ROWS + 1, 0])), Err((3, 0, 1)));
 
     // bitmaps of no rows, without a word
     let end = HEAD_WORDS + ENTRY_WORDS * MOST_BITMAPS as usize;
@@ -148,13 +152,13 @@ fn limits() {
     full.extend([end as u32, 0].repeat(MOST_BITMAPS as usize));
     assert_eq!(check(&full), Ok(()));
     full[2] += 1;
-    assert_eq!(check(&full), Err(refusal(3, 0, 2)));
+    assert_eq!(told(check(&full)), Err((3, 0, 2)));
 
-    assert_eq!(check(&vec![0; MOST_INDEX_WORDS]), Err(refusal(2, 0, 0)));
-    assert_eq!(check(&vec![0; MOST_INDEX_WORDS + 1]), Err(refusal(3, 0, 0)));
+    assert_eq!(told(check(&vec![0; MOST_INDEX_WORDS])), Err((2, 0, 0)));
+    assert_eq!(told(check(&vec![0; MOST_INDEX_WORDS + 1])), Err((3, 0, 0)));
 
     assert_eq!(histogram(&LOOPED, &[0; MOST_NAMED]).unwrap()[MOST_NAMED], 2);
-    assert_eq!(histogram(&LOOPED, &[0; MOST_NAMED + 1]), Err(BAD));
+    assert_eq!(told(histogram(&LOOPED, &[0; MOST_NAMED + 1])), Err(BAD));
 
     let body = |word: u32, segments: usize| {
         let mut out = vec![0; segments + 2];
@@ -175,8 +179,8 @@ fn two_bitmaps() {
     writes(&[0x20000, 0x82], |out| xor(&EIGHT, 0, 1, out));
     writes(&[0x20000, 0x02], |out| and_not(&EIGHT, 0, 1, out));
     writes(&[0x20000, 0xCD], |out| not(&EIGHT, 0, out));
-    assert_eq!(and(&EIGHT, 0, 2, &mut []), Err(BAD));
-    assert_eq!(not(&EIGHT, 2, &mut []), Err(BAD));
+    assert_eq!(told(and(&EIGHT, 0, 2, &mut [])), Err(BAD));
+    assert_eq!(told(not(&EIGHT, 2, &mut [])), Err(BAD));
 }
 
 #[test]
@@ -184,15 +188,15 @@ fn lists() {
     let at_least = |t, out: &mut [u32]| threshold(&LOOPED, &ALL, t, out);
     writes(&[0x20000, 0xA], |out| at_least(2, out).map(|a| a.words));
     assert_eq!(at_least(2, &mut [0; 2]), Ok(Answer { words: 2, stretches: 1 }));
-    assert_eq!(at_least(4, &mut [0; 2]), Err(BAD));
-    assert_eq!(at_least(2, &mut [0; 1]), no_room(2));
-    assert_eq!(threshold(&LOOPED, &[], 1, &mut [0; 2]), Err(BAD));
+    assert_eq!(told(at_least(4, &mut [0; 2])), Err(BAD));
+    assert_eq!(told(at_least(2, &mut [0; 1])), no_room(2));
+    assert_eq!(told(threshold(&LOOPED, &[], 1, &mut [0; 2])), Err(BAD));
 
     let by = |table: &[u32], out: &mut [u32]| symmetric(&LOOPED, &ALL, table, out);
     writes(&[0x20000, 0x5], |out| by(&[0, 1, 0, 0], out).map(|a| a.words));
     assert_eq!(by(&[0, 1, 0, 0], &mut [0; 2]).unwrap().stretches, 1);
-    assert_eq!(by(&[0, 1, 0], &mut [0; 2]), Err(BAD));
-    assert_eq!(by(&[0, 2, 0, 0], &mut [0; 2]), Err(BAD));
+    assert_eq!(told(by(&[0, 1, 0], &mut [0; 2])), Err(BAD));
+    assert_eq!(told(by(&[0, 2, 0, 0], &mut [0; 2])), Err(BAD));
 
     let mut want = [0; HISTOGRAM_COUNTS];
     want[1] = 2;
@@ -204,21 +208,76 @@ fn lists() {
     assert_eq!(threshold(&index, &[0, 1], 1, &mut [0; 8]), Ok(Answer { words: 4, stretches: 3 }));
 }
 
+/// What each refusal says. The numbers at fault are changed words of LOOPED, or the arguments.
 #[test]
 fn sentences() {
-    let said = |number, bitmap, word| refusal(number, bitmap, word).to_string();
-    assert_eq!(said(2, 0, 0), "word 0 is not 1, so this is no index (refusal 2)");
-    assert_eq!(said(3, 0, 1), "there are more than 16777216 rows (refusal 3)");
+    let changed = |place: usize, value: u32| {
+        let mut index = LOOPED;
+        index[place] = value;
+        check(&index).unwrap_err().to_string()
+    };
+    assert_eq!(
+        check(&LOOPED[..8]).unwrap_err().to_string(),
+        "the index has 8 words, too few for its head and its contents (refusal 1)"
+    );
+    assert_eq!(changed(0, 2), "word 0 is not 1, so this is no index (refusal 2)");
+    assert_eq!(changed(1, MOST_ROWS + 1), "there are more than 16777216 rows (refusal 3)");
+    assert_eq!(changed(2, MOST_BITMAPS + 1), "there are more than 64 bitmaps (refusal 3)");
     let first = "word 3: bitmap 0 has the wrong start, or there is no bitmap and the index goes on (refusal 4)";
-    assert_eq!(said(4, 0, 3), first);
-    assert_eq!(said(4, 0, 4), "bitmap 0, word 4: this length passes the index's end (refusal 4)");
-    assert_eq!(said(4, 0, 5), "word 5: the last body ends here, and the index goes on (refusal 4)");
-    assert_eq!(said(4, 1, 5), "bitmap 1, word 5: this start is not where the words before end (refusal 4)");
-    assert_eq!(said(4, 2, 8), "bitmap 2, word 8: this length passes the index's end (refusal 4)");
-    assert_eq!(said(4, 0, 14), "word 14: the last body ends here, and the index goes on (refusal 4)");
-    assert_eq!(said(5, 2, 11), "bitmap 2, word 11: the marker's dirty words pass the body's end (refusal 5)");
-    assert_eq!(said(9, 0, 2), "the buffer is too short for an answer of 2 words (refusal 9)");
-    for number in 1..=9 {
-        assert!(said(number, 0, 4).ends_with(&format!(" (refusal {number})")));
+    assert_eq!(changed(3, 8), first);
+    assert_eq!(check(&[1, 0, 0, 0]).unwrap_err().to_string(), first);
+    assert_eq!(changed(4, 7), "bitmap 0, word 4: this length passes the index's end (refusal 4)");
+    assert_eq!(
+        check(&[1, 0, 1, 5, 0, 0]).unwrap_err().to_string(),
+        "word 5: the last body ends here, and the index goes on (refusal 4)"
+    );
+    assert_eq!(changed(5, 12), "bitmap 1, word 5: this start is not where the words before end (refusal 4)");
+    assert_eq!(changed(8, 3), "bitmap 2, word 8: this length passes the index's end (refusal 4)");
+    assert_eq!(changed(8, 1), "word 14: the last body ends here, and the index goes on (refusal 4)");
+    assert_eq!(changed(11, 0x40000), "bitmap 1, word 11: the marker's dirty words pass the body's end (refusal 5)");
+    let count = "the marker counts more segments than are left, or the body ends here with segments missing";
+    assert_eq!(changed(11, 0x20002), format!("bitmap 1, word 11: {count} (refusal 6)"));
+    assert_eq!(changed(12, 0x1E), "bitmap 1, word 12: a bit behind the last row is set (refusal 7)");
+    let room = and(&LOOPED, 0, 1, &mut []).unwrap_err().to_string();
+    assert_eq!(room, "the buffer is too short for an answer of 2 words (refusal 9)");
+}
+
+fn said<T: std::fmt::Debug>(result: Result<T, Refusal>) -> String {
+    let refusal = result.unwrap_err();
+    assert_eq!(refusal.numbers(), BAD);
+    let text = refusal.to_string();
+    text.strip_prefix("a bad argument: ").and_then(|rest| rest.strip_suffix(" (refusal 8)")).unwrap().to_string()
+}
+
+/// A refusal 8 names the argument, the first in the call's order where two are wrong.
+#[test]
+fn bad_arguments() {
+    let out = &mut [0; 4][..];
+    assert_eq!(said(body_row(&FORTY, 40, 40)), "there is no row 40, of 40 counted from 0");
+    let set = "there is no set row 2, counted from 0: so many or fewer are set";
+    assert_eq!(said(body_nth(&FORTY, 40, 2)), set);
+    assert_eq!(said(compress(65, &[1, 2], out)), "there are 2 plain words, and 65 rows need 3");
+    let no_bitmap = |k: u32| format!("there is no bitmap {k}, of 3 counted from 0");
+    assert_eq!(said(bitmap(&LOOPED, 3)), no_bitmap(3));
+    assert_eq!(bitmap_refusal(&LOOPED, 4).unwrap(), bitmap(&LOOPED, 4).unwrap_err());
+    assert_eq!(said(row(&LOOPED, 3, 4)), no_bitmap(3));
+    assert_eq!(said(row(&LOOPED, 2, 4)), "there is no row 4, of 4 counted from 0");
+    assert_eq!(said(count(&LOOPED, 3)), no_bitmap(3));
+    assert_eq!(said(nth(&LOOPED, 3, 0)), no_bitmap(3));
+    assert_eq!(said(nth(&LOOPED, 0, 2)), set);
+    assert_eq!(said(expand_bitmap(&LOOPED, u32::MAX, out)), no_bitmap(u32::MAX));
+    for call in [and, or, xor, and_not] {
+        assert_eq!(said(call(&LOOPED, 5, 6, out)), no_bitmap(5));
+        assert_eq!(said(call(&LOOPED, 2, 6, out)), no_bitmap(6));
     }
+    assert_eq!(said(not(&LOOPED, 3, out)), no_bitmap(3));
+    assert_eq!(said(histogram(&LOOPED, &[])), "the list has no number");
+    assert_eq!(said(histogram(&LOOPED, &[9; 65])), "the list has 65 numbers, and 64 are the most");
+    let name = "place 1 of the list has 3, and there are 3 bitmaps, counted from 0";
+    assert_eq!(said(threshold(&LOOPED, &[0, 3, 4], 0, out)), name);
+    assert_eq!(said(threshold(&LOOPED, &ALL, 0, out)), "the threshold is 0, and for this list it can be 1 to 3");
+    assert_eq!(said(threshold(&LOOPED, &ALL, 4, out)), "the threshold is 4, and for this list it can be 1 to 3");
+    assert_eq!(said(symmetric(&LOOPED, &[0, 3], &[9], out)), name);
+    assert_eq!(said(symmetric(&LOOPED, &ALL, &[9; 3], out)), "the table has 3 entries, and for this list it needs 4");
+    assert_eq!(said(symmetric(&LOOPED, &ALL, &[0, 1, 2, 3], out)), "entry 2 of the table is 2, neither 0 nor 1");
 }

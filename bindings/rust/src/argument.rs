@@ -1,0 +1,153 @@
+//! Which argument of a call a refusal 8 is about.
+//!
+//! The library says 8 and no more. What it lent tells the rest: by then the index is sound, so its words 1 and 2 are
+//! the rows and the number of bitmaps. Each function here looks in the order of the call's arguments.
+
+use std::fmt;
+
+use crate::{segments, MOST_NAMED};
+
+/// What is wrong with an argument, and what would not be.
+#[derive(Clone, Copy, Debug, PartialEq, Eq, Hash)]
+#[non_exhaustive]
+pub enum BadArgument {
+    /// There is no bitmap of this number.
+    Bitmap {
+        /// The number asked for.
+        number: u32,
+        /// How many bitmaps there are.
+        bitmaps: u32,
+    },
+    /// There is no row of this number.
+    Row {
+        /// The row asked for.
+        row: u32,
+        /// How many rows there are.
+        rows: u32,
+    },
+    /// n or fewer rows are set.
+    SetRow {
+        /// The set row asked for, counted from 0.
+        n: u32,
+    },
+    /// The list has no number.
+    EmptyList,
+    /// The list has more than [`MOST_NAMED`] numbers.
+    LongList {
+        /// How many it has.
+        names: usize,
+    },
+    /// A number of the list is no bitmap's.
+    Name {
+        /// Its place in the list, counted from 0.
+        place: usize,
+        /// The number there.
+        number: u32,
+        /// How many bitmaps there are.
+        bitmaps: u32,
+    },
+    /// The threshold is 0, or above the list's length.
+    Threshold {
+        /// The threshold asked for.
+        t: u32,
+        /// How many numbers the list has.
+        names: usize,
+    },
+    /// The table has not one entry more than the list.
+    TableLength {
+        /// How many entries it has.
+        entries: usize,
+        /// How many numbers the list has.
+        names: usize,
+    },
+    /// An entry of the table is neither 0 nor 1.
+    TableEntry {
+        /// Its place in the table, counted from 0.
+        place: usize,
+        /// What stands there.
+        entry: u32,
+    },
+    /// There is not one plain word for each segment.
+    PlainWords {
+        /// How many words there are.
+        words: usize,
+        /// How many rows they were to be.
+        rows: u32,
+    },
+}
+
+use BadArgument::{Bitmap, EmptyList, LongList, Name, PlainWords, Row, SetRow, TableEntry, TableLength, Threshold};
+
+impl fmt::Display for BadArgument {
+    fn fmt(&self, f: &mut fmt::Formatter<'_>) -> fmt::Result {
+        match *self {
+            Bitmap { number, bitmaps } => write!(f, "there is no bitmap {number}, of {bitmaps} counted from 0"),
+            Row { row, rows } => write!(f, "there is no row {row}, of {rows} counted from 0"),
+            SetRow { n } => write!(f, "there is no set row {n}, counted from 0: so many or fewer are set"),
+            EmptyList => write!(f, "the list has no number"),
+            LongList { names } => write!(f, "the list has {names} numbers, and {MOST_NAMED} are the most"),
+            Name { place, number, bitmaps } => {
+                write!(f, "place {place} of the list has {number}, and there are {bitmaps} bitmaps, counted from 0")
+            }
+            Threshold { t, names } => write!(f, "the threshold is {t}, and for this list it can be 1 to {names}"),
+            TableLength { entries, names } => {
+                write!(f, "the table has {entries} entries, and for this list it needs {}", names + 1)
+            }
+            TableEntry { place, entry } => write!(f, "entry {place} of the table is {entry}, neither 0 nor 1"),
+            PlainWords { words, rows } => {
+                write!(f, "there are {words} plain words, and {rows} rows need {}", segments(rows))
+            }
+        }
+    }
+}
+
+fn rows_of(index: &[u32]) -> u32 {
+    index[1]
+}
+
+fn bitmaps_of(index: &[u32]) -> u32 {
+    index[2]
+}
+
+pub(crate) fn bitmap(index: &[u32], number: u32) -> Option<BadArgument> {
+    let bitmaps = bitmaps_of(index);
+    (number >= bitmaps).then_some(Bitmap { number, bitmaps })
+}
+
+pub(crate) fn two(index: &[u32], j: u32, k: u32) -> Option<BadArgument> {
+    bitmap(index, j).or_else(|| bitmap(index, k))
+}
+
+pub(crate) fn row(index: &[u32], k: u32, row: u32) -> Option<BadArgument> {
+    bitmap(index, k).or(Some(Row { row, rows: rows_of(index) }))
+}
+
+pub(crate) fn nth(index: &[u32], k: u32, n: u32) -> Option<BadArgument> {
+    bitmap(index, k).or(Some(SetRow { n }))
+}
+
+pub(crate) fn list(index: &[u32], list: &[u32]) -> Option<BadArgument> {
+    let bitmaps = bitmaps_of(index);
+    match list.len() {
+        0 => Some(EmptyList),
+        names if names > MOST_NAMED => Some(LongList { names }),
+        _ => {
+            let place = list.iter().position(|number| *number >= bitmaps)?;
+            Some(Name { place, number: list[place], bitmaps })
+        }
+    }
+}
+
+pub(crate) fn threshold(index: &[u32], names: &[u32], t: u32) -> Option<BadArgument> {
+    list(index, names).or(Some(Threshold { t, names: names.len() }))
+}
+
+pub(crate) fn symmetric(index: &[u32], names: &[u32], table: &[u32]) -> Option<BadArgument> {
+    list(index, names).or_else(|| {
+        if table.len() != names.len() + 1 {
+            return Some(TableLength { entries: table.len(), names: names.len() });
+        }
+        let place = table.iter().position(|entry| *entry > 1)?;
+        Some(TableEntry { place, entry: table[place] })
+    })
+}

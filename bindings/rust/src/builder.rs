@@ -1,0 +1,123 @@
+//! Indexes made of bodies.
+
+use crate::{argument::BadArgument, check, check_body, compress, most_body_words, segments, Refusal};
+use crate::{ENTRY_WORDS, HEAD_WORDS, INDEX_KIND, WORD_BITS};
+
+/// The words of an index of these bodies, in order, with its contents right.
+///
+/// The rows and the bodies are taken as they are: [`check`], or any question, says whether the index is sound.
+///
+/// ```
+/// assert_eq!(zvonurel::index_of(64, &[[0x4], [0x5]]), [1, 64, 2, 7, 1, 8, 1, 0x4, 0x5]);
+/// ```
+#[must_use]
+pub fn index_of<B: AsRef<[u32]>>(rows: u32, bodies: &[B]) -> Vec<u32> {
+    // an index in which one of these numbers passes a word is longer than an index may be, and so is refused
+    let word = |n: usize| u32::try_from(n).unwrap_or(u32::MAX);
+    let mut start = HEAD_WORDS + ENTRY_WORDS * bodies.len();
+    let mut index = vec![INDEX_KIND, rows, word(bodies.len())];
+    for body in bodies {
+        let length = body.as_ref().len();
+        index.extend([word(start), word(length)]);
+        start += length;
+    }
+    for body in bodies {
+        index.extend_from_slice(body.as_ref());
+    }
+    index
+}
+
+/// An index in the making. Every bitmap of it has the same rows, and is numbered from 0 in the order of the calls.
+///
+/// ```
+/// use zvonurel::IndexBuilder;
+///
+/// let mut builder = IndexBuilder::new(4);
+/// builder.add_rows([0, 1])?;
+/// builder.add_plain(&[0b1110])?;
+/// builder.add_body(&[0x20000, 0b1000])?;
+/// let index = builder.build()?;
+///
+/// // and an answer becomes a bitmap of a new index
+/// let mut out = [0; zvonurel::most_body_words(4)];
+/// let answer = zvonurel::threshold(&index, &[0, 1, 2], 2, &mut out)?;
+/// let mut builder = IndexBuilder::new(4);
+/// let k = builder.add_body(&out[..answer.words])?;
+/// let answers = builder.build()?;
+/// assert_eq!(zvonurel::count(&answers, k), Ok(2));
+/// # Ok::<(), zvonurel::Refusal>(())
+/// ```
+#[derive(Clone, Debug)]
+#[must_use = "an index is made by `build`"]
+pub struct IndexBuilder {
+    rows: u32,
+    bodies: Vec<Vec<u32>>,
+}
+
+impl IndexBuilder {
+    /// An index of that many rows, with no bitmap yet.
+    pub fn new(rows: u32) -> IndexBuilder {
+        IndexBuilder { rows, bodies: Vec::new() }
+    }
+
+    /// Adds a bitmap by its body, which is kept as it is, and returns its number.
+    ///
+    /// # Errors
+    /// 3 for too many rows; 5, 6 or 7 for the body's first fault. Then nothing is added.
+    pub fn add_body(&mut self, body: &[u32]) -> Result<u32, Refusal> {
+        check_body(body, self.rows)?;
+        Ok(self.push(body.to_vec()))
+    }
+
+    /// Adds a bitmap by its plain words, and returns its number.
+    ///
+    /// # Errors
+    /// 3 for too many rows; 8 unless there is one word for each [`WORD_BITS`] rows; 7 where the last has a bit behind
+    /// the last row. Then nothing is added.
+    pub fn add_plain(&mut self, plain: &[u32]) -> Result<u32, Refusal> {
+        self.check_rows()?;
+        let mut body = vec![0; most_body_words(self.rows)];
+        let words = compress(self.rows, plain, &mut body)?;
+        body.truncate(words);
+        body.shrink_to_fit();
+        Ok(self.push(body))
+    }
+
+    /// Adds a bitmap by its set rows, in any order, and returns its number.
+    ///
+    /// # Errors
+    /// 3 for too many rows; 8 for a row that is not there. Then nothing is added.
+    pub fn add_rows(&mut self, set: impl IntoIterator<Item = u32>) -> Result<u32, Refusal> {
+        self.check_rows()?;
+        let rows = self.rows;
+        let mut plain = vec![0; segments(rows)];
+        for row in set {
+            if row >= rows {
+                let argument = Some(BadArgument::Row { row, rows });
+                return Err(Refusal { number: Refusal::BAD_ARGUMENT, bitmap: 0, word: 0, argument });
+            }
+            plain[row as usize / WORD_BITS] |= 1 << (row as usize % WORD_BITS);
+        }
+        self.add_plain(&plain)
+    }
+
+    /// The index's words, checked.
+    ///
+    /// # Errors
+    /// 3 for too many rows, bitmaps or words.
+    pub fn build(self) -> Result<Vec<u32>, Refusal> {
+        let index = index_of(self.rows, &self.bodies);
+        check(&index)?;
+        Ok(index)
+    }
+
+    fn push(&mut self, body: Vec<u32>) -> u32 {
+        self.bodies.push(body);
+        (self.bodies.len() - 1) as u32
+    }
+
+    /// Whether an index may have so many rows, asked of one with no bitmap before room for the rows is taken.
+    fn check_rows(&self) -> Result<(), Refusal> {
+        check(&[INDEX_KIND, self.rows, 0])
+    }
+}

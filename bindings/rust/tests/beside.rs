@@ -1,0 +1,136 @@
+//! What stands beside the calls: listings, sizes and the builder, against a bool for each row.
+
+use zvonurel::*;
+
+/// Bits by a small generator, the same in each run.
+struct Bits(u64);
+
+impl Bits {
+    fn next(&mut self) -> u64 {
+        self.0 ^= self.0 << 13;
+        self.0 ^= self.0 >> 7;
+        self.0 ^= self.0 << 17;
+        self.0
+    }
+
+    /// So many rows in runs, with lengths about `longest`.
+    fn rows(&mut self, rows: usize, longest: u64) -> Vec<bool> {
+        let mut set = Vec::new();
+        while set.len() < rows {
+            let value = self.next() % 2 == 1;
+            let length = 1 + self.next() % longest;
+            set.extend((0..length).map(|_| value));
+        }
+        set.truncate(rows);
+        set
+    }
+}
+
+fn numbers(set: &[bool]) -> Vec<u32> {
+    (0..set.len() as u32).filter(|r| set[*r as usize]).collect()
+}
+
+/// The longest runs of set rows, by looking at each row and the one before it.
+fn runs(set: &[bool]) -> Vec<(u32, u32)> {
+    let mut found: Vec<(u32, u32)> = Vec::new();
+    for (row, _) in set.iter().enumerate().filter(|(_, s)| **s) {
+        match found.last_mut() {
+            Some((first, length)) if (*first + *length) as usize == row => *length += 1,
+            _ => found.push((row as u32, 1)),
+        }
+    }
+    found
+}
+
+/// Rows in, rows and spells out, over every remainder of the last segment and runs of many lengths.
+#[test]
+fn listings() {
+    let mut bits = Bits(2026);
+    for rows in (0..200).chain([1_023, 1_024, 5_000]) {
+        for longest in [1, 3, 70, 4_000] {
+            let set = bits.rows(rows, longest);
+            let mut builder = IndexBuilder::new(rows as u32);
+            assert_eq!(builder.add_rows(numbers(&set).into_iter().rev()), Ok(0));
+            let index = builder.build().unwrap();
+            let body = bitmap(&index, 0).unwrap();
+            let listed = set_rows(body, rows as u32).unwrap();
+            assert_eq!(listed.len(), numbers(&set).len());
+            assert_eq!(listed.collect::<Vec<_>>(), numbers(&set));
+            let told: Vec<_> = spells(body, rows as u32).unwrap().map(|s| (s.first, s.length)).collect();
+            assert_eq!(told, runs(&set));
+        }
+    }
+}
+
+/// A listing and the nth set row agree, and a listing that is over stays so.
+#[test]
+fn listing_and_nth() {
+    let body = [0x0006_0000, 0x20, 0, 1];
+    let mut listed = set_rows(&body, 96).unwrap();
+    assert_eq!(listed.size_hint(), (2, Some(2)));
+    assert_eq!(listed.next(), body_nth(&body, 96, 0).ok());
+    assert_eq!(listed.next(), body_nth(&body, 96, 1).ok());
+    assert_eq!((listed.len(), listed.next(), listed.next()), (0, None, None));
+    let mut all = spells(&[0x5], 64).unwrap();
+    assert_eq!(all.next(), Some(Spell { first: 0, length: 64 }));
+    assert_eq!((all.next(), all.next()), (None, None));
+}
+
+/// A wrong body, or too many rows, are refused as by the calls.
+#[test]
+fn listings_refuse() {
+    assert_eq!(set_rows(&[0x5], 40).unwrap_err().numbers(), (Refusal::PAD_BIT, 0, 0));
+    assert_eq!(spells(&[0x2], 40).unwrap_err().numbers(), (Refusal::BAD_COUNT, 0, 1));
+    assert_eq!(set_rows(&[], u32::MAX).unwrap_err().numbers(), (Refusal::TOO_LARGE, 0, 1));
+}
+
+#[test]
+fn sizes() {
+    let sizes = |rows| (segments(rows), most_body_words(rows));
+    assert_eq!(sizes(0), (0, 1));
+    assert_eq!(sizes(1), (1, 2));
+    assert_eq!(sizes(32), (1, 2));
+    assert_eq!(sizes(33), (2, 3));
+    assert_eq!(sizes(1_048_544), (32_767, 32_769));
+    assert_eq!(sizes(1_048_576), (32_768, 32_770));
+    assert_eq!(sizes(MOST_ROWS), (524_288, 524_305));
+    assert_eq!(sizes(u32::MAX), (134_217_728, 134_221_825));
+    // a body that needs them all: rows 0, 32, 64 and so on
+    let mut body = vec![0; most_body_words(1_048_576)];
+    assert_eq!(compress(1_048_576, &vec![1; 32_768], &mut body), Ok(32_770));
+}
+
+#[test]
+fn builder() {
+    let mut builder = IndexBuilder::new(40);
+    assert_eq!(builder.add_body(&[0x40000, 0x1, 0x80]), Ok(0));
+    assert_eq!(builder.add_plain(&[!0, 0xFF]), Ok(1));
+    assert_eq!(builder.add_rows([39, 0, 39]), Ok(2));
+    // what is refused adds nothing
+    assert_eq!(builder.add_body(&[0x5]).unwrap_err().numbers(), (Refusal::PAD_BIT, 0, 0));
+    assert_eq!(builder.add_plain(&[0, 0x100]).unwrap_err().numbers(), (Refusal::PAD_BIT, 0, 1));
+    assert_eq!(builder.add_plain(&[0]).unwrap_err().numbers(), (Refusal::BAD_ARGUMENT, 0, 0));
+    let refusal = builder.add_rows([0, 40]).unwrap_err();
+    assert_eq!(refusal.argument, Some(BadArgument::Row { row: 40, rows: 40 }));
+    assert_eq!(refusal.numbers(), (Refusal::BAD_ARGUMENT, 0, 0));
+    let index = builder.build().unwrap();
+    let want = [1, 40, 3, 9, 3, 12, 2, 14, 3, 0x40000, 0x1, 0x80, 0x20003, 0xFF, 0x40000, 0x1, 0x80];
+    assert_eq!(index, want);
+}
+
+#[test]
+fn builder_limits() {
+    assert_eq!(IndexBuilder::new(7).build(), Ok(vec![1, 7, 0]));
+    let mut long = IndexBuilder::new(MOST_ROWS + 1);
+    assert_eq!(long.add_rows([]).unwrap_err().numbers(), (Refusal::TOO_LARGE, 0, 1));
+    assert_eq!(long.add_plain(&[]).unwrap_err().numbers(), (Refusal::TOO_LARGE, 0, 1));
+    assert_eq!(long.add_body(&[]).unwrap_err().numbers(), (Refusal::TOO_LARGE, 0, 1));
+    assert_eq!(long.build().unwrap_err().numbers(), (Refusal::TOO_LARGE, 0, 1));
+    let mut full = IndexBuilder::new(0);
+    for k in 0..MOST_BITMAPS {
+        assert_eq!(full.add_body(&[]), Ok(k));
+    }
+    assert!(full.clone().build().is_ok());
+    assert_eq!(full.add_body(&[]), Ok(MOST_BITMAPS));
+    assert_eq!(full.build().unwrap_err().numbers(), (Refusal::TOO_LARGE, 0, 2));
+}
