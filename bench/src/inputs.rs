@@ -1,6 +1,6 @@
 //! The inputs: the same words in every run.
 
-use zvonurel::{ENTRY_WORDS, HEAD_WORDS, INDEX_KIND, WORD_BITS};
+use zvonurel::{most_body_words, segments, IndexBuilder, ENTRY_WORDS, HEAD_WORDS, WORD_BITS};
 
 #[derive(Debug, Clone, Copy, PartialEq, Eq)]
 pub enum Kind {
@@ -68,10 +68,10 @@ pub struct Data {
 impl Data {
     pub fn new(kind: Kind, rows: u32, bitmaps: usize) -> Data {
         let mut plain = Vec::new();
-        let mut bodies = Vec::new();
+        let mut builder = IndexBuilder::new(rows);
         for k in 0..bitmaps {
             let words = bitmap(kind, rows, 1_000 + k as u64);
-            bodies.push(body(rows, &words));
+            builder.add_plain(&words).expect("plain words of so many rows");
             plain.extend(words);
         }
         let t = match bitmaps {
@@ -81,7 +81,7 @@ impl Data {
         Data {
             kind,
             rows,
-            index: index(rows, &bodies),
+            index: builder.build().expect("no more bitmaps than an index can have"),
             bitmaps,
             plain,
             list: (0..bitmaps as u32).collect(),
@@ -91,7 +91,7 @@ impl Data {
     }
 
     pub fn segments(&self) -> usize {
-        segments_of(self.rows)
+        segments(self.rows)
     }
 
     /// The plain words of a bitmap.
@@ -106,7 +106,7 @@ impl Data {
 
     /// How many stretches the bitmaps make together.
     pub fn stretches(&self) -> u32 {
-        let mut out = vec![0; room(self.segments())];
+        let mut out = vec![0; most_body_words(self.rows)];
         let answer = zvonurel::threshold(&self.index, &self.list, self.t, &mut out);
         answer.expect("a sound question").stretches
     }
@@ -116,7 +116,7 @@ impl Data {
         self.index.len() - entry_place(self.bitmaps)
     }
 
-    /// A bitmap's body as a part of the index.
+    /// A bitmap's body as a part of the index, found without the check that a call would begin with.
     pub fn body(&self, k: usize) -> &[u32] {
         let entry = entry_place(k);
         let (start, length) = (self.index[entry] as usize, self.index[entry + 1] as usize);
@@ -124,31 +124,22 @@ impl Data {
     }
 }
 
-fn segments_of(rows: u32) -> usize {
-    (rows as usize).div_ceil(WORD_BITS)
-}
-
 /// Where a bitmap's entry stands, its start and then its length; with N for `k`, where the bodies begin.
 fn entry_place(k: usize) -> usize {
     HEAD_WORDS + ENTRY_WORDS * k
-}
-
-/// Words enough for any body of so many segments.
-pub fn room(segments: usize) -> usize {
-    2 * segments + 2
 }
 
 /// Clears the bits behind the last row.
 pub fn mask_last(words: &mut [u32], rows: u32) {
     let used = rows as usize % WORD_BITS;
     if used > 0 {
-        words[segments_of(rows) - 1] &= (1 << used) - 1;
+        words[segments(rows) - 1] &= (1 << used) - 1;
     }
 }
 
 /// Plain words of one bitmap.
 fn bitmap(kind: Kind, rows: u32, seed: u64) -> Vec<u32> {
-    let segments = segments_of(rows);
+    let segments = segments(rows);
     let mut random = Random(seed);
     let mut words = Vec::with_capacity(segments);
     while words.len() < segments {
@@ -164,23 +155,5 @@ fn bitmap(kind: Kind, rows: u32, seed: u64) -> Vec<u32> {
         words.extend((0..mixed).map(|_| random.mixed()));
     }
     mask_last(&mut words, rows);
-    words
-}
-
-fn body(rows: u32, plain: &[u32]) -> Vec<u32> {
-    let mut out = vec![0; room(plain.len())];
-    let words = zvonurel::compress(rows, plain, &mut out).expect("room for any body");
-    out.truncate(words);
-    out
-}
-
-fn index(rows: u32, bodies: &[Vec<u32>]) -> Vec<u32> {
-    let mut words = vec![INDEX_KIND, rows, bodies.len() as u32];
-    let mut start = entry_place(bodies.len());
-    for body in bodies {
-        words.extend([start as u32, body.len() as u32]);
-        start += body.len();
-    }
-    words.extend(bodies.iter().flatten());
     words
 }

@@ -14,7 +14,7 @@ use zvonurel::{MOST_BITMAPS, MOST_ROWS};
 use crate::baseline::Plain;
 use crate::calls::{baselines, measured_call, plain_answer, Call, CALLS};
 use crate::growth::{growth, Figure};
-use crate::inputs::{room, Data, Kind, ENOUGH, TANKS};
+use crate::inputs::{Data, Kind, ENOUGH, TANKS};
 use crate::timing::best_seconds;
 
 /// The sizes that are measured. A dense index of the last of both has to keep within `MOST_INDEX_WORDS`.
@@ -70,7 +70,7 @@ fn main() -> ExitCode {
 
 /// Room for any answer of these rows.
 fn buffer(data: &Data) -> Vec<u32> {
-    vec![0; room(data.segments())]
+    vec![0; zvonurel::most_body_words(data.rows)]
 }
 
 /// One call and nothing else, for a profiler.

@@ -71,8 +71,7 @@ fn guarded(ask: impl FnOnce() -> Result<Value, Refused>) -> Result<Value, Refuse
 
 pub fn ask_library(words: &[u32], question: &Question) -> Outcome {
     let mut buffer = pattern(question.room);
-    let result =
-        guarded(|| library(words, question, &mut buffer[..question.room]).map_err(|r| (r.number, r.bitmap, r.word)));
+    let result = guarded(|| library(words, question, &mut buffer[..question.room]).map_err(|r| r.numbers()));
     Outcome { result, buffer }
 }
 

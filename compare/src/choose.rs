@@ -1,9 +1,9 @@
 //! Every question on an input, with good and bad arguments.
 
-use zvonurel::{HISTOGRAM_COUNTS, MOST_NAMED, MOST_ROWS, WORD_BITS};
+use zvonurel::{segments, HISTOGRAM_COUNTS, MOST_NAMED, MOST_ROWS, WORD_BITS};
 
 use crate::ask::words_needed;
-use crate::encode::{entry_place, last_mask, segments_of};
+use crate::encode::{entry_place, last_mask};
 use crate::generate::{Effort, Form, Input};
 use crate::question::{Call, Question};
 use crate::random::Random;
@@ -166,7 +166,7 @@ impl Asker<'_> {
             self.session.ask(plain, question(wrong).room(room));
         }
         let whole = (WORD_BITS * plain.len()) as u32;
-        if segments_of(whole) == plain.len() {
+        if segments(whole) == plain.len() {
             self.ask_rooms(plain, question(whole));
         }
     }

@@ -1,12 +1,8 @@
-//! Plain words, and bodies and indexes made of them.
+//! Plain words, and bodies made of them.
 
-use zvonurel::{CLEAN_SHIFT, DIRTY_SHIFT, ENTRY_WORDS, HEAD_WORDS, INDEX_KIND, MOST_CLEAN, MOST_DIRTY, WORD_BITS};
+use zvonurel::{CLEAN_SHIFT, DIRTY_SHIFT, ENTRY_WORDS, HEAD_WORDS, MOST_CLEAN, MOST_DIRTY, WORD_BITS};
 
 use crate::random::Random;
-
-pub fn segments_of(rows: u32) -> usize {
-    (rows as usize).div_ceil(WORD_BITS)
-}
 
 /// The bits of the last segment that are rows.
 pub fn last_mask(rows: u32) -> u32 {
@@ -114,17 +110,4 @@ fn some_dirty(rest: &[u32], random: &mut Random) -> usize {
 /// Where bitmap `k`'s entry stands, its start and then its length; with N for `k`, where the bodies begin.
 pub const fn entry_place(k: usize) -> usize {
     HEAD_WORDS + ENTRY_WORDS * k
-}
-
-/// The index of these bodies, with its contents right.
-pub fn index_of(rows: u32, bodies: &[Vec<u32>]) -> Vec<u32> {
-    let mut words = vec![INDEX_KIND, rows, bodies.len() as u32];
-    let mut start = entry_place(bodies.len());
-    for body in bodies {
-        words.push(start as u32);
-        words.push(body.len() as u32);
-        start += body.len();
-    }
-    words.extend(bodies.iter().flatten());
-    words
 }

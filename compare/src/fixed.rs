@@ -1,9 +1,9 @@
 //! Cases that always run, so that rare places are reached every time.
 
-use zvonurel::{INDEX_KIND, MOST_BITMAPS, MOST_INDEX_WORDS, MOST_ROWS};
+use zvonurel::{index_of, segments, INDEX_KIND, MOST_BITMAPS, MOST_INDEX_WORDS, MOST_ROWS};
 
 use crate::choose::ask_all;
-use crate::encode::{entry_place, index_of, one_run, segments_of};
+use crate::encode::{entry_place, one_run};
 use crate::generate::{Effort, Form, Input};
 use crate::question::{Call, Question};
 use crate::random::Random;
@@ -99,7 +99,7 @@ pub fn run(session: &mut Session) {
 
 /// The most rows there can be: none set in one bitmap, all in the other.
 fn edge_of_rows(session: &mut Session) {
-    let [none, all] = [false, true].map(|value| one_run(value, segments_of(MOST_ROWS)));
+    let [none, all] = [false, true].map(|value| one_run(value, segments(MOST_ROWS)));
     let room = all.len();
     let words = index_of(MOST_ROWS, &[none, all]);
     let both = |call: Call| Question::new(call).list(&[0, 1]).number(1).room(room);

@@ -1,8 +1,8 @@
 //! Makes the input of a case.
 
-use zvonurel::{MOST_BITMAPS, MOST_CLEAN, MOST_DIRTY, WORD_BITS};
+use zvonurel::{index_of, segments, MOST_BITMAPS, MOST_CLEAN, MOST_DIRTY, WORD_BITS};
 
-use crate::encode::{index_of, last_mask, segments_of, settled, wasteful};
+use crate::encode::{last_mask, settled, wasteful};
 use crate::random::Random;
 use crate::tear::{tear_body, tear_index, tear_rows};
 
@@ -64,7 +64,7 @@ pub fn generate(random: &mut Random, long: bool) -> Input {
         Form::Index => some_bitmaps(random),
     };
     let rows = some_rows(random, bitmaps);
-    let effort = match bitmaps * segments_of(rows) {
+    let effort = match bitmaps * segments(rows) {
         0..=150 => Effort::Full,
         _ => Effort::Some,
     };
@@ -246,7 +246,7 @@ pub fn some_word(random: &mut Random) -> u32 {
 
 /// Plain words of one bitmap: runs and mixed words by a taste of its own.
 fn spelled(rows: u32, random: &mut Random) -> Vec<u32> {
-    let segments = segments_of(rows);
+    let segments = segments(rows);
     let longest = random.pick(&[1, 3, 10, 40, segments.max(1)]);
     let mixed_share = random.below(5);
     let mut plain = Vec::new();

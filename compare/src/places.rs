@@ -1,10 +1,10 @@
 //! Which line of the paper's table a refusal belongs to, and how often each
 //! line was reached by each call.
 
-use zvonurel::{ENTRY_WORDS, HEAD_WORDS, MOST_NAMED};
+use zvonurel::{segments, Refusal, ENTRY_WORDS, HEAD_WORDS, MOST_NAMED};
 
 use crate::ask::Refused;
-use crate::encode::{dirty_of, entry_place, segments_of};
+use crate::encode::{dirty_of, entry_place};
 use crate::question::{Call, Question};
 
 #[derive(Debug, Clone, Copy, PartialEq, Eq)]
@@ -111,19 +111,19 @@ pub fn place_of(words: &[u32], question: &Question, refused: Option<Refused>) ->
     };
     let word = word as usize;
     match number {
-        1 if word < HEAD_WORDS => ShortHead,
-        1 => ShortContents,
-        2 => WordZero,
-        3 if !question.call.of_index() || word == 1 => Rows,
-        3 if word == 0 => TooLong,
-        3 => Bitmaps,
-        4 if word >= entry_place(words[2] as usize) => FinalEnd,
-        4 if (word - HEAD_WORDS).is_multiple_of(ENTRY_WORDS) => Start,
-        4 => Length,
-        5 => PastBody,
-        6 | 7 if question.call == Call::Compress => PadInPlain,
-        6 | 7 => in_body(words, question, number, bitmap as usize, word),
-        8 => bad_argument(words, question),
+        Refusal::TOO_SHORT if word < HEAD_WORDS => ShortHead,
+        Refusal::TOO_SHORT => ShortContents,
+        Refusal::NOT_AN_INDEX => WordZero,
+        Refusal::TOO_LARGE if !question.call.of_index() || word == 1 => Rows,
+        Refusal::TOO_LARGE if word == 0 => TooLong,
+        Refusal::TOO_LARGE => Bitmaps,
+        Refusal::BAD_CONTENTS if word >= entry_place(words[2] as usize) => FinalEnd,
+        Refusal::BAD_CONTENTS if (word - HEAD_WORDS).is_multiple_of(ENTRY_WORDS) => Start,
+        Refusal::BAD_CONTENTS => Length,
+        Refusal::DIRTY_PAST_END => PastBody,
+        Refusal::BAD_COUNT | Refusal::PAD_BIT if question.call == Call::Compress => PadInPlain,
+        Refusal::BAD_COUNT | Refusal::PAD_BIT => in_body(words, question, number, bitmap as usize, word),
+        Refusal::BAD_ARGUMENT => bad_argument(words, question),
         _ => NoRoom,
     }
 }
@@ -137,7 +137,7 @@ fn in_body(words: &[u32], question: &Question, number: u32, bitmap: usize, word:
         }
         false => (0, words.len()),
     };
-    if number == 6 {
+    if number == Refusal::BAD_COUNT {
         return if word == end { Missing } else { PastSegments };
     }
     let mut marker = start;
@@ -188,7 +188,7 @@ fn bad_numbers(words: &[u32], question: &Question) -> Vec<Place> {
 fn bad_others(words: &[u32], question: &Question) -> Vec<Place> {
     let (call, table) = (question.call, &question.table);
     let (length, t) = (question.list.len(), question.number as usize);
-    let segments = segments_of(question.rows);
+    let segments = segments(question.rows);
     // No T fits an empty list, so there it is the list that counts.
     let threshold = call == Call::Threshold && length > 0;
     let symmetric = call == Call::Symmetric;

@@ -5,9 +5,9 @@ use std::io::Write;
 use std::process::{Command, Stdio};
 use std::time::Instant;
 
-use zvonurel::MOST_ROWS;
+use zvonurel::{index_of, segments, Refusal, MOST_ROWS};
 
-use crate::encode::{entry_place, index_of, one_run, segments_of};
+use crate::encode::{entry_place, one_run};
 use crate::fixed::LOOPED;
 use crate::generate::{generate, Form};
 use crate::random::Random;
@@ -28,9 +28,11 @@ fn output(program: &str, input: &[u8]) -> Vec<u8> {
     let bytes = input.to_vec();
     // Input that it leaves unread is no fault.
     let feeder = std::thread::spawn(move || stdin.write_all(&bytes).ok());
-    let told = child.wait_with_output().expect("it ends").stdout;
+    let told = child.wait_with_output().expect("it ends");
     feeder.join().expect("the input was fed");
-    told
+    // Answered or refused, it ends with 0.
+    assert!(told.status.success(), "the program ended with {}", told.status);
+    told.stdout
 }
 
 /// T and an index, lowest byte first.
@@ -53,7 +55,7 @@ fn padded(bytes: usize) -> Vec<u8> {
 
 /// All rows of the longest bitmap there can be.
 fn all_rows() -> Vec<u8> {
-    question(1, &single(MOST_ROWS, &one_run(true, segments_of(MOST_ROWS))))
+    question(1, &single(MOST_ROWS, &one_run(true, segments(MOST_ROWS))))
 }
 
 /// Inputs that every run tries.
@@ -119,5 +121,6 @@ pub fn run(program: &str, seed: u64, cases: u64) -> bool {
         inputs.len(),
         begun.elapsed().as_secs_f64()
     );
-    (1..=8).all(|number| reached.contains_key(&format!("refused {number}"))) && reached.contains_key("answered")
+    (Refusal::TOO_SHORT..=Refusal::BAD_ARGUMENT).all(|number| reached.contains_key(&format!("refused {number}")))
+        && reached.contains_key("answered")
 }

@@ -1,9 +1,8 @@
 //! The paper's own readings, word for word, held against both programs.
 
-use zvonurel::{HISTOGRAM_COUNTS, WORD_BITS};
+use zvonurel::{index_of, segments, HISTOGRAM_COUNTS, WORD_BITS};
 
 use crate::ask::{ask_library, ask_reference, Outcome, Refused, Value};
-use crate::encode::{index_of, segments_of};
 use crate::fixed::LOOPED;
 use crate::question::{Call, Question};
 
@@ -43,7 +42,7 @@ impl Readings {
 
     /// Writing these rows gives this body, and reading it gives them back.
     fn body(&mut self, rows: u32, set: &[u32], body: &[u32]) {
-        let mut plain = vec![0; segments_of(rows)];
+        let mut plain = vec![0; segments(rows)];
         set.iter().for_each(|&r| plain[r as usize / WORD_BITS] |= 1 << (r as usize % WORD_BITS));
         let written = Ok(Value::Words(body.len()));
         let compress = Question::new(Call::Compress).rows(rows).room(body.len());
