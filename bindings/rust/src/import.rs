@@ -11,6 +11,7 @@ use crate::{compress, most_body_words, segments, Refusal};
 use crate::{CLEAN_SHIFT, DIRTY_SHIFT, MOST_CLEAN, MOST_ROWS, WORD_BITS};
 
 const SEGMENT_ROWS: u64 = WORD_BITS as u64;
+const WORD_BYTES: usize = WORD_BITS / 8;
 
 /// Why words were not imported. A place is that of a word among the words given, counted from 0.
 #[derive(Clone, Copy, Debug, PartialEq, Eq, Hash)]
@@ -52,6 +53,21 @@ pub enum NotImported {
         /// The rows wanted.
         rows: u32,
     },
+    /// The file does not have as many bytes as its head says.
+    FileLength {
+        /// How many it has.
+        bytes: usize,
+        /// How many it should have, at least those of a head and a trailer.
+        needed: u64,
+    },
+    /// The file's trailer names another word as the last marker. The library that wrote the file went on writing at the
+    /// wrong place, or will: its rows may be damaged.
+    LastMarker {
+        /// The place that the trailer names.
+        stated: u32,
+        /// The last marker's place; 0 where there is none.
+        found: usize,
+    },
     /// The library refused the rows, which can't be once all of the above is ruled out.
     Refused(Refusal),
 }
@@ -71,6 +87,10 @@ impl fmt::Display for NotImported {
                 write!(f, "word {word}: a bit behind the last one is set, which may or may not be a row")
             }
             NotImported::RowNotWanted { row, rows } => write!(f, "row {row} is set, and {rows} rows are wanted"),
+            NotImported::FileLength { bytes, needed } => write!(f, "the file has {bytes} bytes, and needs {needed}"),
+            NotImported::LastMarker { stated, found } => {
+                write!(f, "the trailer names word {stated} as the last marker, and that is word {found}")
+            }
             NotImported::Refused(refusal) => write!(f, "{refusal}"),
         }
     }
@@ -129,6 +149,44 @@ pub fn import(words: &[u32], bits: u64, rows: u32) -> Result<Vec<u32>, NotImport
         true => wanted.body(),
         false => Err(NotImported::SegmentsMissing { said, segments: all }),
     }
+}
+
+/// Makes a body of a whole file as JavaEWAH's 32-bit class serializes it: the number of bits, the number of words, the
+/// words, and the place of the last marker, each four bytes, the highest first. For the rows see [`import`].
+///
+/// # Errors
+/// See [`NotImported`].
+///
+/// ```
+/// // 40 bits, one word, a run of two segments of ones, which is the last marker
+/// let file = [0, 0, 0, 40, 0, 0, 0, 1, 0, 0, 0, 5, 0, 0, 0, 0];
+/// assert_eq!(zvonurel::import_java(&file, 40), Ok(vec![0x20003, 0xFF]));
+/// ```
+pub fn import_java(file: &[u8], rows: u32) -> Result<Vec<u32>, NotImported> {
+    let numbers: Vec<u32> =
+        file.chunks_exact(WORD_BYTES).map(|b| u32::from_be_bytes([b[0], b[1], b[2], b[3]])).collect();
+    // the words, and around them the number of bits, their own number and the place
+    let count = numbers.get(1).copied().unwrap_or(0);
+    let needed = WORD_BYTES as u64 * (u64::from(count) + 3);
+    if file.len() as u64 != needed {
+        return Err(NotImported::FileLength { bytes: file.len(), needed });
+    }
+    let (words, stated) = (&numbers[2..numbers.len() - 1], numbers[numbers.len() - 1]);
+    let body = import(words, numbers[0].into(), rows)?;
+    match last_marker(words) {
+        found if found == stated as usize => Ok(body),
+        found => Err(NotImported::LastMarker { stated, found }),
+    }
+}
+
+/// The place of the last marker, 0 where there is no word.
+fn last_marker(words: &[u32]) -> usize {
+    let (mut last, mut place) = (0, 0);
+    while place < words.len() {
+        last = place;
+        place += 1 + fields(words[place]).2;
+    }
+    last
 }
 
 /// A marker's value, its clean segments and its dirty words.

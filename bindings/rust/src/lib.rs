@@ -32,7 +32,8 @@
 //!
 //! - [`set_rows`] and [`spells`] list a body's rows. A loop of [`body_nth`] would walk the body anew for each row.
 //! - [`IndexBuilder`] makes an index of bodies, plain words or rows, and [`index_of`] of words that may be anything.
-//! - [`import`] makes a body of the words that another EWAH library wrote, or says why not.
+//! - [`import`] makes a body of the words that another EWAH library wrote, [`import_java`] of a whole file, or says why
+//!   not.
 //!
 //! # Room
 //!
@@ -71,7 +72,7 @@ mod pages {
 
 pub use argument::BadArgument;
 pub use builder::{index_of, IndexBuilder};
-pub use import::{import, NotImported};
+pub use import::{import, import_java, NotImported};
 pub use limits::*;
 pub use listing::{set_rows, spells, SetRows, Spell, Spells};
 pub use refusal::Refusal;

@@ -1,6 +1,6 @@
 //! Words of other makers: what is imported has exactly the rows that the words set, and anything else is not imported.
 
-use zvonurel::{check_body, import, set_rows, NotImported, MOST_ROWS};
+use zvonurel::{check_body, import, import_java, set_rows, NotImported, MOST_ROWS};
 
 /// A number from 0 to below `n`, by a small generator that is the same in each run.
 struct Random(u64);
@@ -127,6 +127,22 @@ fn reasons() {
     assert_eq!(import(&[0x20004, 0x10], 96, 40), Err(RowNotWanted { row: 68, rows: 40 }));
     let text = import(&[0x7], 96, 40).unwrap_err().to_string();
     assert_eq!(text, "row 40 is set, and 40 rows are wanted");
+}
+
+/// A file's head and trailer.
+#[test]
+fn files() {
+    use NotImported::*;
+    let file = |numbers: &[u32]| numbers.iter().flat_map(|n| n.to_be_bytes()).collect::<Vec<u8>>();
+    assert_eq!(import_java(&file(&[0, 1, 0, 0]), 64), Ok(vec![0x4]));
+    assert_eq!(import_java(&file(&[0, 0, 0]), 64), Ok(vec![0x4]));
+    assert_eq!(import_java(&file(&[36, 3, 0x20000, 8, 3, 2]), 40), Ok(vec![0x40000, 8, 0xF]));
+    assert_eq!(import_java(&file(&[36, 3, 0x20000, 8, 3, 0]), 40), Err(LastMarker { stated: 0, found: 2 }));
+    assert_eq!(import_java(&file(&[36, 3, 0x20000, 8, 3]), 40), Err(FileLength { bytes: 20, needed: 24 }));
+    assert_eq!(import_java(&file(&[36, 3, 0x20000, 8, 3, 2, 0]), 40), Err(FileLength { bytes: 28, needed: 24 }));
+    assert_eq!(import_java(&[], 40), Err(FileLength { bytes: 0, needed: 12 }));
+    assert_eq!(import_java(&[0; 13], 40), Err(FileLength { bytes: 13, needed: 12 }));
+    assert_eq!(import_java(&file(&[u32::MAX, u32::MAX]), 40), Err(FileLength { bytes: 8, needed: 17_179_869_192 }));
 }
 
 /// Long ends: zeros past 65,535 segments need several markers, and bits far past the rows are no burden.
