@@ -1,8 +1,11 @@
 /*
  * Zvonurel for C: EWAH bitmaps of 32-bit words that answer a question rightly or refuse it.
  *
- * Link target/staticlib/libzvonurel_c.a, which `rt staticlib zvonurel_c` writes (x86-64, Linux). It needs nothing but
- * C's memcpy and memset. crates/zvonurel_c/src/lib.rt has the contract of each call, and every one is proved.
+ * Link target/staticlib/libzvonurel_c.a, which `rt staticlib zvonurel_c` writes; `install` puts both where pkg-config
+ * finds them. It needs nothing but C's memcpy and memset. crates/zvonurel_c/src/lib.rt has the contract of each call,
+ * and every one is proved. What this header itself computes, sizes and texts, is tested and not proved.
+ *
+ * PLATFORM. x86-64, Linux, the System V calling convention. Words in memory are in the machine's own byte order.
  *
  * WORDS ARE LENT. An index, a body, a list or a buffer is a pointer and a number of words. The library keeps no
  * pointer and no state, allocates nothing, and may be called from several threads. What a caller owes of each pointer:
@@ -23,6 +26,21 @@
  * ANSWERS. `number` is 0 where the call was not refused. Else `number`, `bitmap` and `word` say why, every value
  * beside them is 0, and no word of the buffer changes. A call that writes puts its words at the front of the buffer;
  * the words behind them keep their values. Compare answers field by field: a struct may have unused bytes at its end.
+ *
+ * ROOM. A buffer of ZV_SEGMENTS(rows) words is always long enough for plain words, and one of
+ * ZV_MOST_BODY_WORDS(rows) for a body. A call with a buffer of length 0 measures: it is refused with ZV_NO_ROOM, and
+ * `word` is the words needed, unless none are, as with no rows. The pointer must still not be NULL.
+ *
+ * COST. A call on an index checks the whole of it first, so it costs at least that check: the head, every entry, and
+ * every body's markers and last word, but not its other dirty words. For many questions on one bitmap, ask zv_bitmap
+ * once where its body lies, and then the body calls, with the index's word 1 as the rows: they check that body alone.
+ *
+ * LISTING. zv_nth and zv_body_nth check and walk from the front each time. To list all set rows, expand the body once
+ * and scan the bits, as example/listing.c does: for 20,000 scattered set rows that is some thousand times as fast.
+ *
+ * STACK. A call needs less than ZV_MOST_STACK bytes of stack, whatever it is given: none recurses, and none has an
+ * array whose length depends on the input. tests/c/stack.c measures less than 4 KiB. A program's first memcpy or
+ * memset may add some 3 KiB, while the system looks for it.
  */
 #ifndef ZVONUREL_H
 #define ZVONUREL_H
@@ -33,6 +51,12 @@
 #ifdef __cplusplus
 extern "C" {
 #endif
+
+/* The version of the header and its library. */
+#define ZV_VERSION_MAJOR 0
+#define ZV_VERSION_MINOR 1
+#define ZV_VERSION_PATCH 0
+#define ZV_VERSION "0.1.0"
 
 /* Every limit and size, once. */
 
@@ -52,6 +76,19 @@ extern "C" {
 #define ZV_MOST_DIRTY 32767u
 /* The bits of a word, which are the rows of a segment. */
 #define ZV_WORD_BITS 32u
+/* More bytes of stack than any call needs. */
+#define ZV_MOST_STACK 16384u
+
+/*
+ * Sizes that follow from a number of rows, any unsigned 32-bit one. They are computed in uint64_t, so that nothing
+ * wraps, and are constant where `rows` is. ZV_MOST_BODY_WORDS evaluates `rows` twice.
+ */
+
+/* The segments of that many rows, which are also their plain words. */
+#define ZV_SEGMENTS(rows) (((uint64_t)(rows) + (ZV_WORD_BITS - 1u)) / ZV_WORD_BITS)
+/* No body of that many rows that a call writes has more words, since the canonical form has at most a word for each
+ * segment and one more for each ZV_MOST_DIRTY of them begun. It is never 0, so it can be the length of an array. */
+#define ZV_MOST_BODY_WORDS(rows) (ZV_SEGMENTS(rows) + ZV_SEGMENTS(rows) / ZV_MOST_DIRTY + 1u)
 
 /*
  * Numbers of refusal, with what `bitmap` and `word` are beside each. The first fault in this order is told: the index's
@@ -86,6 +123,36 @@ extern "C" {
 #define ZV_BAD_ARGUMENT 8u
 /* The answer does not fit into the buffer. bitmap 0; word: the words needed. */
 #define ZV_NO_ROOM 9u
+
+/* What a number of refusal says, in words that can stand within a sentence; `bitmap` and `word` say where. */
+static inline const char *zv_refusal_text(uint32_t number)
+{
+    switch (number) {
+    case ZV_FINE:
+        return "nothing was refused";
+    case ZV_TOO_SHORT:
+        return "the index is too short for its head and its contents";
+    case ZV_NOT_AN_INDEX:
+        return "word 0 does not say that this is an index";
+    case ZV_TOO_LARGE:
+        return "there are too many words in the index (if word is 0), rows (if 1) or bitmaps (if 2)";
+    case ZV_BAD_CONTENTS:
+        return "the contents have a wrong start or length, or words are left behind the last body";
+    case ZV_DIRTY_PAST_END:
+        return "the marker's dirty words pass the body's end";
+    case ZV_BAD_COUNT:
+        return "the marker counts more segments than are left, or the body ends with segments missing";
+    case ZV_PAD_BIT:
+        return "a bit behind the last row is set";
+    case ZV_BAD_ARGUMENT:
+        return "a bad argument: there is no such bitmap, row or set row, or the list, the threshold, the table or the "
+               "number of plain words is not one that can be";
+    case ZV_NO_ROOM:
+        return "the buffer is too short for the answer (word is how many words it needs)";
+    default:
+        return "no call gives this number";
+    }
+}
 
 /* Whether there was a fault. */
 typedef struct zv_checked {

@@ -1,5 +1,5 @@
 /*
- * The paper's LOOPED and 8-row readings, and a refusal of each number, through include/zvonurel.h.
+ * Every call, on an index of four rows and one of eight, and a refusal of each number, through include/zvonurel.h.
  * Writes `ok`, or the first difference, with exit status 1.
  *
  *   gcc -std=c99 -Wall -Wextra -Werror -pedantic -Iinclude tests/c/readings.c \
@@ -7,11 +7,8 @@
  */
 #include "zvonurel.h"
 
-#include <stdio.h>
-#include <stdlib.h>
+#include "shared.h"
 
-#define WORDS(a) (a), sizeof(a) / sizeof((a)[0])
-#define SAME(what, got, want) same(__LINE__, what, (uint64_t)(got), (uint64_t)(want))
 #define FINE(a) refusal(__LINE__, (a).number, (a).bitmap, (a).word, 0, 0, 0)
 #define REFUSED(a, n, b, w) refusal(__LINE__, (a).number, (a).bitmap, (a).word, n, b, w)
 
@@ -22,15 +19,6 @@ static const uint32_t eight[] = {1, 8, 2, 7, 2, 9, 2, 0x00020000, 0x32, 0x000200
 static const uint32_t three[] = {0, 1, 2};
 static const uint32_t forty[] = {0x00040000, 0x00000001, 0x00000080};
 static uint32_t out[70];
-
-static void same(int line, const char *what, uint64_t got, uint64_t want)
-{
-    if (got != want) {
-        printf("readings.c line %d: %s is %llu, not %llu\n", line, what, (unsigned long long)got,
-               (unsigned long long)want);
-        exit(1);
-    }
-}
 
 static void refusal(int line, uint32_t number, uint32_t bitmap, uint64_t word, uint32_t n, uint32_t b, uint64_t w)
 {

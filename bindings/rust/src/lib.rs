@@ -38,13 +38,13 @@
 //! # Room
 //!
 //! A buffer of [`most_body_words`] words takes every body of so many rows, one of [`segments`] words every body's plain
-//! words. A buffer of length 0 measures: the refusal is [`Refusal::NO_ROOM`], with the words needed.
+//! words. A buffer of length 0 measures: the refusal is [`Refusal::NO_ROOM`], with the words needed, unless none are.
 //!
 //! # Cost
 //!
 //! A call on an index checks the whole of it first, so it costs at least that: the contents and every marker, though no
 //! dirty word but a last one. For many questions on one bitmap, take its body with [`bitmap`] once and ask the calls on
-//! a body. The library was built for Linux on x86-64; a call needs less than 8 KiB of stack.
+//! a body. The library was built for Linux on x86-64; a call needs less than 16 KiB of stack.
 #![deny(missing_docs)]
 #![deny(unsafe_op_in_unsafe_fn)]
 #![warn(clippy::undocumented_unsafe_blocks)]

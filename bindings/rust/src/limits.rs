@@ -50,8 +50,7 @@ pub const fn segments(rows: u32) -> usize {
     (rows as u64).div_ceil(WORD_BITS as u64) as usize
 }
 
-/// The most words that a body of that many rows can have in canonical form, the form of every body that the library
-/// writes: a buffer of so many words always has room.
+/// Room for every body of that many rows that the library writes: none in canonical form has more words.
 ///
 /// ```
 /// assert_eq!(zvonurel::most_body_words(40), 3);

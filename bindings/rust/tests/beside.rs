@@ -100,6 +100,43 @@ fn sizes() {
     assert_eq!(compress(1_048_576, &vec![1; 32_768], &mut body), Ok(32_770));
 }
 
+/// The C header has the same version and the same numbers.
+#[test]
+fn header() {
+    let header = include_str!("../../../include/zvonurel.h");
+    let defined = |name: &str| {
+        let line = header.lines().find_map(|line| line.strip_prefix(&format!("#define ZV_{name} ")));
+        line.unwrap_or_else(|| panic!("ZV_{name} is not there")).to_string()
+    };
+    assert_eq!(defined("VERSION"), format!("{:?}", env!("CARGO_PKG_VERSION")));
+    let version = ["MAJOR", "MINOR", "PATCH"].map(|part| defined(&format!("VERSION_{part}")));
+    assert_eq!(version.join("."), env!("CARGO_PKG_VERSION"));
+    let same = [
+        ("MOST_ROWS", MOST_ROWS as usize),
+        ("MOST_BITMAPS", MOST_BITMAPS as usize),
+        ("MOST_INDEX_WORDS", MOST_INDEX_WORDS),
+        ("MOST_NAMED", MOST_NAMED),
+        ("INDEX_KIND", INDEX_KIND as usize),
+        ("HEAD_WORDS", HEAD_WORDS),
+        ("ENTRY_WORDS", ENTRY_WORDS),
+        ("MOST_CLEAN", MOST_CLEAN),
+        ("MOST_DIRTY", MOST_DIRTY),
+        ("WORD_BITS", WORD_BITS),
+        ("TOO_SHORT", Refusal::TOO_SHORT as usize),
+        ("NOT_AN_INDEX", Refusal::NOT_AN_INDEX as usize),
+        ("TOO_LARGE", Refusal::TOO_LARGE as usize),
+        ("BAD_CONTENTS", Refusal::BAD_CONTENTS as usize),
+        ("DIRTY_PAST_END", Refusal::DIRTY_PAST_END as usize),
+        ("BAD_COUNT", Refusal::BAD_COUNT as usize),
+        ("PAD_BIT", Refusal::PAD_BIT as usize),
+        ("BAD_ARGUMENT", Refusal::BAD_ARGUMENT as usize),
+        ("NO_ROOM", Refusal::NO_ROOM as usize),
+    ];
+    for (name, value) in same {
+        assert_eq!(defined(name), format!("{value}u"), "ZV_{name}");
+    }
+}
+
 #[test]
 fn builder() {
     let mut builder = IndexBuilder::new(40);

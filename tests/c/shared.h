@@ -1,0 +1,24 @@
+/*
+ * What the tests of the header share: a comparison that ends the program at the first difference.
+ */
+#ifndef ZVONUREL_TESTS_SHARED_H
+#define ZVONUREL_TESTS_SHARED_H
+
+#include <stdint.h>
+#include <stdio.h>
+#include <stdlib.h>
+
+/* An array as a call takes it. */
+#define WORDS(a) (a), sizeof(a) / sizeof((a)[0])
+#define SAME(what, got, want) same(__LINE__, what, (uint64_t)(got), (uint64_t)(want))
+
+static inline void same(int line, const char *what, uint64_t got, uint64_t want)
+{
+    if (got != want) {
+        printf("%s line %d: %s is %llu, not %llu\n", __BASE_FILE__, line, what, (unsigned long long)got,
+               (unsigned long long)want);
+        exit(1);
+    }
+}
+
+#endif

@@ -1,0 +1,139 @@
+/*
+ * The version, the sizes and the texts of include/zvonurel.h, against numbers worked out by hand and against what the
+ * calls need. Writes `ok`, or the first difference, with exit status 1.
+ *
+ *   gcc -std=c99 -Wall -Wextra -Werror -pedantic -Iinclude tests/c/sizes.c \
+ *       target/staticlib/libzvonurel_c.a -o target/sizes && target/sizes
+ */
+#include "zvonurel.h"
+
+#include "shared.h"
+
+#include <string.h>
+
+/* A fact that the compiler can settle: an array type of negative length is an error. */
+#define HOLDS(name, fact) typedef char name[(fact) ? 1 : -1]
+
+/* Rows of ZV_MOST_DIRTY segments, and of one more, so that a mixed body of them needs a second marker. */
+#define FULL_ROWS 1048544u
+#define PAST_FULL_ROWS 1048576u
+#define MOST_UINT32 4294967295u
+
+HOLDS(full, FULL_ROWS == ZV_MOST_DIRTY * ZV_WORD_BITS);
+HOLDS(segments_need_no_variable, ZV_SEGMENTS(MOST_UINT32) == 134217728u);
+HOLDS(words_need_no_variable, ZV_MOST_BODY_WORDS(MOST_UINT32) == 134221825u);
+HOLDS(segments_are_64_bits, sizeof(ZV_SEGMENTS(1u)) == sizeof(uint64_t));
+HOLDS(words_are_64_bits, sizeof(ZV_MOST_BODY_WORDS(1u)) == sizeof(uint64_t));
+HOLDS(an_argument_may_be_a_sum, ZV_SEGMENTS(1u + 31u) == 1u && ZV_MOST_BODY_WORDS(1u ? 33u : 0u) == 3u);
+HOLDS(a_size_may_be_divided, 12u / ZV_SEGMENTS(33u) == 6u && 12u / ZV_MOST_BODY_WORDS(33u) == 4u);
+HOLDS(a_stack_is_a_power_of_two, ZV_MOST_STACK > 0u && (ZV_MOST_STACK & (ZV_MOST_STACK - 1u)) == 0u);
+
+static uint32_t plain[ZV_SEGMENTS(PAST_FULL_ROWS)];
+static uint32_t body[ZV_MOST_BODY_WORDS(PAST_FULL_ROWS)];
+
+static void version(void)
+{
+    char numbers[32];
+    snprintf(numbers, sizeof(numbers), "%d.%d.%d", ZV_VERSION_MAJOR, ZV_VERSION_MINOR, ZV_VERSION_PATCH);
+    SAME("whether the version is its numbers", strcmp(numbers, ZV_VERSION) == 0, 1);
+}
+
+static void sizes(void)
+{
+    static const struct {
+        uint32_t rows;
+        uint64_t segments, words;
+    } known[] = {
+        {0, 0, 1},
+        {1, 1, 2},
+        {32, 1, 2},
+        {33, 2, 3},
+        {FULL_ROWS, 32767, 32769},
+        {PAST_FULL_ROWS, 32768, 32770},
+        {ZV_MOST_ROWS, 524288, 524305},
+        {MOST_UINT32, 134217728, 134221825},
+    };
+
+    for (size_t i = 0; i < sizeof(known) / sizeof(known[0]); i++) {
+        SAME("segments", ZV_SEGMENTS(known[i].rows), known[i].segments);
+        SAME("most words of a body", ZV_MOST_BODY_WORDS(known[i].rows), known[i].words);
+    }
+}
+
+/* Each text has words that belong to its number, and is no other number's. Any number past the last has one text. */
+static void texts(void)
+{
+    static const char *const has[] = {"nothing",  "too short for its head", "word 0",   "too many",
+                                      "contents", "dirty words",            "segments", "behind the last row",
+                                      "argument", "buffer",                 "no call"};
+    const uint32_t unknown = ZV_NO_ROOM + 1;
+
+    SAME("the number of texts", sizeof(has) / sizeof(has[0]), unknown + 1);
+    for (uint32_t n = 0; n <= unknown; n++) {
+        SAME("whether a text fits its number", strstr(zv_refusal_text(n), has[n]) != NULL, 1);
+        for (uint32_t m = 0; m < n; m++) {
+            SAME("whether two texts are one", strcmp(zv_refusal_text(m), zv_refusal_text(n)) == 0, 0);
+        }
+    }
+    SAME("whether unknown numbers have one text", zv_refusal_text(unknown) == zv_refusal_text(MOST_UINT32), 1);
+}
+
+/* Mixed segments throughout have the longest body of their rows. It is measured, and written with just that room. */
+static void longest(uint32_t rows, uint64_t need)
+{
+    size_t segments = ZV_SEGMENTS(rows);
+    zv_written told;
+
+    for (size_t i = 0; i < segments; i++) {
+        plain[i] = 1;
+    }
+    told = zv_compress(rows, plain, segments, body, 0);
+    SAME("the number of a measured body", told.number, ZV_NO_ROOM);
+    SAME("the words needed", told.word, need);
+    SAME("whether a size is enough", need <= ZV_MOST_BODY_WORDS(rows), 1);
+    told = zv_compress(rows, plain, segments, body, need);
+    SAME("the number of a fitting body", told.number, ZV_FINE);
+    SAME("the words written", told.words, need);
+}
+
+#define MEASURES(call, need) measures(__LINE__, (call).number, (call).word, need)
+
+static void measures(int line, uint32_t number, uint64_t word, uint64_t need)
+{
+    same(line, "number", number, ZV_NO_ROOM);
+    same(line, "word", word, need);
+}
+
+/* Every call that writes measures where its buffer has length 0, and writes nothing. */
+static void measuring(void)
+{
+    static const uint32_t index[] = {1, 40, 2, 7, 3, 10, 1, 0x00040000, 0x00000001, 0x00000080, 0x00000004};
+    static const uint32_t list[] = {0, 1}, table[] = {0, 1, 0}, none[1];
+
+    body[0] = 77;
+    MEASURES(zv_expand(index + 7, 3, 40, body, 0), 2);
+    MEASURES(zv_compress(40, index + 8, 2, body, 0), 3);
+    MEASURES(zv_expand_bitmap(WORDS(index), 0, body, 0), 2);
+    MEASURES(zv_and(WORDS(index), 0, 1, body, 0), 1);
+    MEASURES(zv_or(WORDS(index), 0, 1, body, 0), 3);
+    MEASURES(zv_xor(WORDS(index), 0, 1, body, 0), 3);
+    MEASURES(zv_and_not(WORDS(index), 0, 1, body, 0), 3);
+    MEASURES(zv_not(WORDS(index), 0, body, 0), 3);
+    MEASURES(zv_threshold(WORDS(index), WORDS(list), 1, body, 0), 3);
+    MEASURES(zv_symmetric(WORDS(index), WORDS(list), WORDS(table), body, 0), 3);
+    SAME("the buffer's first word", body[0], 77);
+    SAME("the number for no rows", zv_compress(0, none, 0, body, 0).number, ZV_FINE);
+}
+
+int main(void)
+{
+    version();
+    sizes();
+    texts();
+    longest(33, 3);
+    longest(FULL_ROWS, 32768);
+    longest(PAST_FULL_ROWS, 32770);
+    measuring();
+    printf("ok\n");
+    return 0;
+}
