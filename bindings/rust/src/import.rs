@@ -1,8 +1,8 @@
 //! Words that another 32-bit EWAH library wrote, as a body.
 //!
 //! Such words are markers and dirty words as here, but around their end they may say more than they mean, or less than
-//! is wanted. The order of the steps matters: first the words are held to their own number of bits, then the rows are
-//! cut out or made longer. What the words may mean in two ways is not imported.
+//! is wanted. The order of the steps matters: first the words are held to their own number of bits, which is taken at
+//! its word, and only then the rows are cut out or made longer.
 
 use std::error::Error;
 use std::fmt;
@@ -102,8 +102,10 @@ impl Error for NotImported {}
 /// body has `rows` rows, and exactly the rows that the words set; where they can't be had, it says why.
 ///
 /// - The words are those of the buffer alone, each as a number: no header, no trailer, bytes in the right order.
-/// - `bits` is what that library says. A run of ones over the end of the bits sets the real ones only.
+/// - `bits` is what that library says, and is taken at its word: a run of ones over their end sets the real ones only.
 /// - Rows past the bits are not set. Bits past the rows must not be set.
+/// - Rows that were wrong when the library wrote them can't be seen here; a file's trailer, which [`import_java`] reads,
+///   shows some.
 ///
 /// # Errors
 /// See [`NotImported`]. The first fault from front to back is told.

@@ -123,6 +123,7 @@ fn reasons() {
     assert_eq!(import(&[], 1, 1), Err(SegmentsMissing { said: 0, segments: 1 }));
     assert_eq!(import(&[0x20002, 0x100], 40, 96), Err(BitBehindEnd { word: 1 }));
     assert_eq!(import(&[0x20003, u32::MAX], 40, 96), Err(BitBehindEnd { word: 1 }));
+    assert_eq!(import(&[0x40002, 1, 0x100], 72, 96), Err(BitBehindEnd { word: 2 }));
     assert_eq!(import(&[0x7], 96, 40), Err(RowNotWanted { row: 40, rows: 40 }));
     assert_eq!(import(&[0x20004, 0x10], 96, 40), Err(RowNotWanted { row: 68, rows: 40 }));
     let text = import(&[0x7], 96, 40).unwrap_err().to_string();
@@ -137,6 +138,7 @@ fn files() {
     assert_eq!(import_java(&file(&[0, 1, 0, 0]), 64), Ok(vec![0x4]));
     assert_eq!(import_java(&file(&[0, 0, 0]), 64), Ok(vec![0x4]));
     assert_eq!(import_java(&file(&[36, 3, 0x20000, 8, 3, 2]), 40), Ok(vec![0x40000, 8, 0xF]));
+    assert_eq!(import_java(&file(&[40, 3, 0x40000, 1, 0x80, 0]), 40), Ok(vec![0x40000, 1, 0x80]));
     assert_eq!(import_java(&file(&[36, 3, 0x20000, 8, 3, 0]), 40), Err(LastMarker { stated: 0, found: 2 }));
     assert_eq!(import_java(&file(&[36, 3, 0x20000, 8, 3]), 40), Err(FileLength { bytes: 20, needed: 24 }));
     assert_eq!(import_java(&file(&[36, 3, 0x20000, 8, 3, 2, 0]), 40), Err(FileLength { bytes: 28, needed: 24 }));

@@ -53,9 +53,7 @@ fn rows_come_back() {
         let file = file(case);
         assert_eq!(file[..4], case.bits.to_be_bytes(), "{}", case.name);
         let Some(set) = &case.set else {
-            for rows in [case.rows, case.bits, case.bits + 1, case.bits + 100] {
-                assert!(import_java(&file, rows).is_err(), "{}, {rows} rows", case.name);
-            }
+            assert!(import_java(&file, case.rows).is_err(), "{}", case.name);
             continue;
         };
         let least = set.last().map_or(0, |last| last + 1);
