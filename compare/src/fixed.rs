@@ -9,7 +9,7 @@ use crate::question::{Call, Question};
 use crate::random::Random;
 use crate::session::Session;
 
-/// The LOOPED example of the paper: 4 rows, three bitmaps.
+/// The example called LOOPED: 4 rows, three bitmaps.
 pub const LOOPED: [u32; 15] = [1, 4, 3, 9, 2, 11, 2, 13, 2, 0x20000, 0x3, 0x20000, 0xE, 0x20000, 0x8];
 
 /// Bodies of 40 rows, sound and otherwise.

@@ -31,7 +31,7 @@ compare SEED CASES [--mutate] [--long] [--only CASE] [--program PATH]
 
 Makes CASES indexes and bodies, always the same for one SEED, asks every
 question of the library and of the reference, and compares the results and the
-whole buffers. Then come the paper's readings and a few fixed cases, and a
+whole buffers. Then come the readings (examples with known answers) and a few fixed cases, and a
 table of the refusals that were reached. Exit code 1: a difference, or a
 refusal never reached.
 

@@ -1,4 +1,4 @@
-//! Which line of the paper's table a refusal belongs to, and how often each
+//! Which line of the table of refusals a refusal belongs to, and how often each
 //! line was reached by each call.
 
 use zvonurel::{segments, Refusal, ENTRY_WORDS, HEAD_WORDS, MOST_NAMED};

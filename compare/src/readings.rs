@@ -1,4 +1,4 @@
-//! The paper's own readings, word for word, held against both programs.
+//! The readings, examples with known answers, held against both programs.
 
 use zvonurel::{index_of, segments, HISTOGRAM_COUNTS, WORD_BITS};
 
@@ -19,7 +19,7 @@ pub fn run() -> bool {
     readings.looped();
     readings.pairs();
     readings.wasteful();
-    println!("{} readings of the paper hold for both", readings.held);
+    println!("{} readings hold for both", readings.held);
     !readings.failed
 }
 
@@ -34,8 +34,8 @@ impl Readings {
             return;
         }
         self.failed = true;
-        println!("a reading of the paper fails: {}", question.text());
-        println!("  paper {expected:x?}");
+        println!("a reading fails: {}", question.text());
+        println!("  should be {expected:x?}");
         println!("  library {:x?}", library.result);
         println!("  reference {:x?}", reference.result);
     }
