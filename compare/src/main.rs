@@ -31,9 +31,9 @@ compare SEED CASES [--mutate] [--long] [--only CASE] [--program PATH]
 
 Makes CASES indexes and bodies, always the same for one SEED, asks every
 question of the library and of the reference, and compares the results and the
-whole buffers. Then come the readings (examples with known answers) and a few fixed cases, and a
-table of the refusals that were reached. Exit code 1: a difference, or a
-refusal never reached.
+whole buffers. Then come the readings (examples with known answers) and a few
+fixed cases, and a table of the refusals that were reached. Exit code 1: a
+difference, or a refusal never reached.
 
 --mutate     builds one mistake after another into the reference; each has to
              show as a difference within CASES cases
