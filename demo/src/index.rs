@@ -1,42 +1,67 @@
-//! Words: from a log to an index, and from an answer to its rows.
+//! The question to the library.
 
+use zvonurel::{IndexBuilder, Refusal, Spell};
+
+use crate::colour::Colour;
 use crate::log::Log;
-use zvonurel::{Refusal, ENTRY_WORDS, HEAD_WORDS, INDEX_KIND, MOST_DIRTY, WORD_BITS};
 
-/// The half hours at which a tank had the colour, as plain words.
-fn plain(letters: &[u8], colour: u8) -> Vec<u32> {
-    let mut words = vec![0; letters.len().div_ceil(WORD_BITS)];
-    for (row, _) in letters.iter().enumerate().filter(|(_, letter)| **letter == colour) {
-        words[row / WORD_BITS] |= 1 << (row % WORD_BITS);
-    }
-    words
+/// An index with a bitmap for each tank and colour, and a list of those that are asked. A letter is one colour, so the
+/// bitmaps of a tank never overlap: in a half hour as many of the list are set as tanks have one of the colours.
+pub struct Asked {
+    rows: u32,
+    index: Vec<u32>,
+    list: Vec<u32>,
+    t: u32,
 }
 
-/// An index with a bitmap for each tank: the half hours at which it had the colour.
-pub fn make(log: &Log, colour: u8) -> Result<Vec<u32>, Refusal> {
-    let rows = log.rows() as u32;
-    let mut bodies = Vec::new();
-    for (_, letters) in &log.tanks {
-        let plain = plain(letters, colour);
-        let mut body = vec![0; plain.len() + plain.len() / MOST_DIRTY + 2];
-        let words = zvonurel::compress(rows, &plain, &mut body)?;
-        body.truncate(words);
-        bodies.push(body);
-    }
-    let mut index = vec![INDEX_KIND, rows, bodies.len() as u32];
-    let mut start = HEAD_WORDS + ENTRY_WORDS * bodies.len();
-    for body in &bodies {
-        index.extend([start as u32, body.len() as u32]);
-        start += body.len();
-    }
-    index.extend(bodies.concat());
-    zvonurel::check(&index)?;
-    Ok(index)
+/// A refusal of the library, which no log that was read should bring about.
+pub fn told(refusal: Refusal) -> String {
+    format!("The library refused: {refusal}.")
 }
 
-/// Whether each row of a body is set.
-pub fn rows(body: &[u32], rows: usize) -> Result<Vec<bool>, Refusal> {
-    let mut plain = vec![0; rows.div_ceil(WORD_BITS)];
-    zvonurel::expand(body, rows as u32, &mut plain)?;
-    Ok((0..rows).map(|r| plain[r / WORD_BITS] >> (r % WORD_BITS) & 1 == 1).collect())
+/// The half hours at which at least T tanks had one of the colours, one by one and in spells.
+pub struct Answer {
+    pub rows: Vec<u32>,
+    pub spells: Vec<Spell>,
+}
+
+impl Asked {
+    pub fn new(log: &Log, colours: &[Colour], t: usize) -> Result<Asked, Refusal> {
+        // neither number passes what a log may have
+        let (rows, t) = (log.rows() as u32, t as u32);
+        let mut builder = IndexBuilder::new(rows);
+        let mut list = Vec::new();
+        for (tank, colour) in log.tanks.iter().flat_map(|tank| Colour::ALL.map(|colour| (tank, colour))) {
+            let held = (0..rows).zip(&tank.letters).filter(|(_, letter)| **letter == colour);
+            let bitmap = builder.add_rows(held.map(|(row, _)| row))?;
+            if colours.contains(&colour) {
+                list.push(bitmap);
+            }
+        }
+        Ok(Asked { rows, index: builder.build()?, list, t })
+    }
+
+    pub fn answer(&self) -> Result<Answer, Refusal> {
+        let mut out = vec![0; zvonurel::most_body_words(self.rows)];
+        let answer = zvonurel::threshold(&self.index, &self.list, self.t, &mut out)?;
+        let body = &out[..answer.words];
+        let rows = zvonurel::set_rows(body, self.rows)?.collect();
+        let spells = zvonurel::spells(body, self.rows)?.collect();
+        Ok(Answer { rows, spells })
+    }
+
+    /// The question as the program `threshold` reads it: T and an index of the listed bitmaps alone, since the program
+    /// names every bitmap of its index.
+    pub fn for_program(&self) -> Result<Vec<u32>, Refusal> {
+        let mut builder = IndexBuilder::new(self.rows);
+        for bitmap in &self.list {
+            builder.add_body(zvonurel::bitmap(&self.index, *bitmap)?)?;
+        }
+        Ok([vec![self.t], builder.build()?].concat())
+    }
+
+    /// The lines that the program begins an answer of so many rows with.
+    pub fn program_head(&self, set: usize) -> String {
+        format!("rows {}\nnamed {}\nthreshold {}\nset {set}\n", self.rows, self.list.len(), self.t)
+    }
 }

@@ -1,50 +1,68 @@
-//! When did at least so many tanks have one colour? Reads a station's log, makes the index, asks the library and draws the answer.
+//! When did at least T tanks have one of some colours? Reads a station's log, asks the library, and draws the answer.
+//!
+//! A question is answered whole, on standard output, or refused with a sentence on the error stream.
 
+mod calendar;
+mod colour;
 mod draw;
+mod file;
 mod index;
 mod log;
+mod number;
+mod program;
+mod report;
 
-use log::Log;
-use std::error::Error;
-use std::{env, fs};
+use std::env;
+use std::ffi::OsString;
+use std::io::{self, ErrorKind, Write};
+use std::process::ExitCode;
 
-const USAGE: &str =
-    "tanks LOG COLOUR T [QUESTION]: LOG has a letter for each half hour; COLOUR is green, amber or red; T is a \
-number of tanks. The question, as the program `threshold` reads it, is written to the file QUESTION.";
+const USAGE: &str = "Usage: tanks LOG COLOURS T [--program PROGRAM].";
+const HELP: &str = "
+When did at least T tanks of a log have one of these colours?
 
-/// The question's words, lowest byte first: T, and the index.
-fn question(t: u32, index: &[u32]) -> Vec<u8> {
-    std::iter::once(&t).chain(index).flat_map(|word| word.to_le_bytes()).collect()
-}
+  LOG      a station's log: `tanks N` and `from YYYY-MM-DD HH:MM`, then a line for each tank, its name and a letter
+           for each half hour, g green, a amber, r red
+  COLOURS  green, amber or red, or several joined by +, as amber+red
+  T        a number of tanks, from 1 to as many as the log has
+  PROGRAM  the program `threshold`, which is asked the same and must list the same half hours
+";
 
-fn run(file: &str, colour: &str, t: &str, question_file: Option<&String>) -> Result<(), Box<dyn Error>> {
-    let letter = *colour.as_bytes().first().filter(|_| ["green", "amber", "red"].contains(&colour)).ok_or(USAGE)?;
-    let t = t.parse()?;
-    let log = Log::read(&fs::read_to_string(file)?)?;
-    let index = index::make(&log, letter)?;
-    let list: Vec<u32> = (0..log.tanks.len() as u32).collect();
-    let mut out = vec![0; 2 * index.len()];
-    let answer = zvonurel::threshold(&index, &list, t, &mut out)?;
-    let set = index::rows(&out[..answer.words], log.rows())?;
-    println!("{} tanks, {} half hours from {}", list.len(), log.rows(), log.when(0));
-    println!("index {} words, answer {} words, {} stretches", index.len(), answer.words, answer.stretches);
-    println!("\nat least {t} were {colour} (# all of two hours, + some of them, . none)\n");
-    print!("{}\n{}", draw::timeline(&log, &set), draw::spells(&log, &set));
-    if let Some(path) = question_file {
-        fs::write(path, question(t, &index))?;
-    }
-    Ok(())
-}
-
-fn main() {
-    let arguments: Vec<String> = env::args().skip(1).collect();
-    let told = match arguments.as_slice() {
-        [file, colour, t] => run(file, colour, t, None),
-        [file, colour, t, question] => run(file, colour, t, Some(question)),
-        _ => Err(USAGE.into()),
+fn main() -> ExitCode {
+    let arguments: Vec<OsString> = env::args_os().skip(1).collect();
+    let told = match asked_for(&arguments) {
+        Ok(text) => put(&text),
+        Err(why) => Err(format!("{why} Nothing was answered.")),
     };
-    if let Err(error) = told {
-        eprintln!("{error}");
-        std::process::exit(1);
+    match told {
+        Ok(()) => ExitCode::SUCCESS,
+        Err(why) => {
+            // where this fails too, the status alone tells it
+            writeln!(io::stderr(), "{why}").ok();
+            ExitCode::FAILURE
+        }
+    }
+}
+
+/// What the arguments ask for, or why it is refused.
+fn asked_for(arguments: &[OsString]) -> Result<String, String> {
+    if arguments.iter().any(|argument| argument == "-h" || argument == "--help") {
+        return Ok(format!("{USAGE}\n{HELP}"));
+    }
+    match arguments {
+        [log, colours, t] => report::report(log, colours, t, None),
+        [log, colours, t, option, program] if option == "--program" => report::report(log, colours, t, Some(program)),
+        _ => Err(USAGE.to_string()),
+    }
+}
+
+/// Writes all of a text to standard output. A reader that closed it wants no more, and no message.
+fn put(text: &str) -> Result<(), String> {
+    let mut out = io::stdout().lock();
+    match out.write_all(text.as_bytes()).and_then(|()| out.flush()) {
+        Err(why) if why.kind() != ErrorKind::BrokenPipe => {
+            Err(format!("Standard output can't be written: {why}. What stands there is not the whole answer."))
+        }
+        _ => Ok(()),
     }
 }

@@ -1,0 +1,31 @@
+//! A log's file. Each refusal begins with its name, and the line where there is one.
+
+use std::fs;
+use std::io::ErrorKind;
+use std::path::Path;
+
+use crate::log::{Fault, Log};
+
+pub fn read(path: &Path) -> Result<Log, String> {
+    text(path).and_then(|text| Log::read(&text)).map_err(|Fault { line, what }| {
+        let line = line.map_or(String::new(), |line| format!(", line {line}"));
+        format!("{}{line}: {what}", path.display())
+    })
+}
+
+fn text(path: &Path) -> Result<String, Fault> {
+    let bytes = fs::read(path).map_err(|why| Fault {
+        line: None,
+        what: match why.kind() {
+            _ if !path.exists() => "there is no such file: mend its name or its folder.".to_string(),
+            _ if path.is_dir() => "this is a folder: name a log in it.".to_string(),
+            ErrorKind::PermissionDenied => "you may not read this file: ask its owner to allow it.".to_string(),
+            _ => format!("this can't be read: {why}. Name a file that can."),
+        },
+    })?;
+    String::from_utf8(bytes).map_err(|why| {
+        let sound = &why.as_bytes()[..why.utf8_error().valid_up_to()];
+        let line = sound.iter().filter(|byte| **byte == b'\n').count() + 1;
+        Fault { line: Some(line), what: "this is no text in UTF-8: save the log as such, as plain text.".to_string() }
+    })
+}

@@ -1,0 +1,46 @@
+//! What the demo drew, read back into half hours.
+
+/// Whether each half hour lies in one of the spells that the demo listed. `half_hours` has their dates and times, and
+/// the one behind the last.
+pub fn spells(out: &str, half_hours: &[(String, String)]) -> Vec<bool> {
+    let place = |date: &str, clock: &str| {
+        half_hours.iter().position(|(d, c)| d == date && c == clock).unwrap_or_else(|| panic!("no {date} {clock}"))
+    };
+    let mut set = vec![false; half_hours.len() - 1];
+    let mut behind = 0;
+    for line in out.lines().filter(|line| line.starts_with("  ") && line.contains(" to ")) {
+        let (from, rest) = line.trim().split_once(" to ").expect("a spell");
+        let (to, length) = rest.split_once(", ").expect("its length");
+        let (date, clock) = from.rsplit_once(' ').expect("date and time");
+        let first = place(date, clock);
+        let end = to.rsplit_once(' ').map_or_else(|| place(date, to), |(date, clock)| place(date, clock));
+        assert!(first < end && (first > behind || behind == 0), "{line}: spells stand apart and in order");
+        assert_eq!(half_hours_of(length), end - first, "{line}");
+        set[first..end].fill(true);
+        behind = end;
+    }
+    set
+}
+
+/// `10 h 30 min`, `4 h`, `30 min`.
+fn half_hours_of(length: &str) -> usize {
+    let words: Vec<&str> = length.split(' ').collect();
+    let hours = |text: &str| text.replace(',', "").parse::<usize>().expect("hours");
+    match words.as_slice() {
+        ["30", "min"] => 1,
+        [h, "h"] => 2 * hours(h),
+        [h, "h", "30", "min"] => 2 * hours(h) + 1,
+        _ => panic!("{length}"),
+    }
+}
+
+/// The last sentence: how many half hours, in how many spells.
+pub fn sum(out: &str) -> (usize, usize) {
+    if out.ends_with("\n\nAt no time.\n") {
+        return (0, 0);
+    }
+    let line = out.lines().last().expect("a line");
+    let (length, spells) = line.strip_prefix("In all ").and_then(|rest| rest.split_once(" in ")).expect(line);
+    let spells = spells.strip_suffix(" spell.").or(spells.strip_suffix(" spells.")).expect(line);
+    (half_hours_of(length), spells.replace(',', "").parse().expect(line))
+}

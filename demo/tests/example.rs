@@ -1,0 +1,189 @@
+//! The script `example/run`: what it refuses before anything is built, and what it prints where all was built.
+
+mod common;
+#[path = "common/mock.rs"]
+mod mock;
+
+use std::fs;
+use std::os::unix::fs::symlink;
+use std::path::Path;
+use std::process::Command;
+
+use common::{log_text, repository, run, Folder, Told, TANKS};
+use mock::Mock;
+
+/// The repository's own script, where `rt` and `cargo` fail loudly.
+fn unbuilt(folder: &Folder, arguments: &[&str]) -> Told {
+    for tool in ["rt", "cargo"] {
+        folder.script(&format!("tools/{tool}"), "echo \"$0 WAS RUN\" >&2\nexit 99");
+    }
+    let path = format!("{}:{}", folder.path("tools").display(), std::env::var("PATH").expect("a PATH"));
+    run(Command::new(repository("example/run")).args(arguments).env("PATH", path).current_dir(&folder.0))
+}
+
+/// Both refuse, in the same words.
+#[test]
+fn wrong_arguments_are_refused_in_the_words_of_the_demo() {
+    let folder = Folder::new();
+    folder.write("one.txt", log_text("2026-03-02 00:00", &["gar"]));
+    folder.write("twelve.txt", log_text("2026-03-02 00:00", &["gar"; 12]));
+    folder.write("marked.txt", format!("\u{feff} tanks\t2 \r\n{}", &log_text("2026-03-02 00:00", &["g", "a"])[8..]));
+    for arguments in [
+        ["none.txt", "amber", "5"],
+        ["none/twelve.txt", "amber", "5"],
+        ["twelve.txt/log", "amber", "5"],
+        [".", "amber", "5"],
+        ["", "amber", "5"],
+        ["twelve.txt", "blue", "5"],
+        ["twelve.txt", "Amber", "5"],
+        ["twelve.txt", "amber+blue", "5"],
+        ["twelve.txt", "amber+*", "5"],
+        ["twelve.txt", "amber red", "5"],
+        ["twelve.txt", "amber+amber", "5"],
+        ["twelve.txt", "red+green+red", "5"],
+        ["twelve.txt", "", "5"],
+        ["twelve.txt", "+", "5"],
+        ["twelve.txt", "amber+", "5"],
+        ["twelve.txt", "+red", "5"],
+        ["twelve.txt", "amber++red", "5"],
+        ["twelve.txt", "amber", "13"],
+        ["twelve.txt", "amber+red", "24"],
+        ["twelve.txt", "amber", "0"],
+        ["twelve.txt", "amber", ""],
+        ["twelve.txt", "amber", "five"],
+        ["twelve.txt", "amber", "05"],
+        ["twelve.txt", "amber", "-1"],
+        ["twelve.txt", "amber", "5 "],
+        ["twelve.txt", "amber", "n"],
+        ["twelve.txt", "amber", "18446744073709551621"],
+        ["one.txt", "amber", "2"],
+        ["marked.txt", "amber", "3"],
+    ] {
+        let demo = run(Command::new(TANKS).args(arguments).current_dir(&folder.0));
+        let script = unbuilt(&folder, &arguments);
+        assert!(demo.err.ends_with("Nothing was answered.\n"), "{arguments:?}: {demo:?}");
+        assert_eq!((script.status, script.out.as_str()), (Some(1), ""), "{arguments:?}: {script:?}");
+        assert_eq!(script.err, demo.err, "{arguments:?}");
+    }
+}
+
+#[test]
+fn wrong_arguments_beside_those_of_the_week() {
+    let folder = Folder::new();
+    let week = repository("example/week.txt");
+    let week = week.to_str().expect("text");
+    unbuilt(&folder, &[week, "amber+red", "13"]).refused("There are 12 tanks, so ask for 1 to 12.");
+    unbuilt(&folder, &[week, "amber+red", "5", "more"]).refused("Usage: example/run [LOG [COLOURS [T]]].");
+    unbuilt(&folder, &["none.txt"]).refused("none.txt: there is no such file: mend its name or its folder.");
+    // five is what is asked where no number is named
+    folder.write("one.txt", log_text("2026-03-02 00:00", &["gar"]));
+    unbuilt(&folder, &["one.txt"]).refused("There is 1 tank, so ask for 1.");
+}
+
+#[test]
+fn help_builds_nothing() {
+    let folder = Folder::new();
+    for arguments in [&["-h"][..], &["--help"], &["none.txt", "blue", "0", "more", "-h"]] {
+        let out = unbuilt(&folder, arguments).answered();
+        assert!(out.starts_with("Usage: example/run [LOG [COLOURS [T]]].\n"), "{out}");
+    }
+}
+
+/// Sound arguments go on to build: the stand-ins are reached.
+#[test]
+fn what_is_right_is_built() {
+    let folder = Folder::new();
+    folder.write("log.txt", log_text("2026-03-02 00:00", &["gar"; 2]));
+    for arguments in [&[][..], &["log.txt", "red", "2"], &["log.txt", "red+amber+green", "1"]] {
+        let told = unbuilt(&folder, arguments);
+        assert!(told.status != Some(0) && told.out.is_empty() && told.err.contains("WAS RUN"), "{told:?}");
+    }
+}
+
+/// What the program would list for `example/week.txt`, amber+red and 5.
+fn listing(mock: &Mock) {
+    let week = mock.path("example/week.txt");
+    let text = fs::read_to_string(week).expect("the week");
+    let tanks: Vec<&[u8]> = text
+        .lines()
+        .filter_map(|line| line.strip_prefix("tank ").and_then(|rest| rest.rsplit(' ').next()))
+        .map(str::as_bytes)
+        .collect();
+    let held = |row: &usize| tanks.iter().filter(|letters| b"ar".contains(&letters[*row])).count() >= 5;
+    let rows: Vec<String> = (0..336).filter(held).map(|row| format!("{row}\n")).collect();
+    mock.folder.write("listing", format!("rows 336\nnamed 24\nthreshold 5\nset {}\n{}", rows.len(), rows.concat()));
+}
+
+fn expected() -> String {
+    fs::read_to_string(repository("example/amber-red-5.txt")).expect("the expected answer")
+}
+
+#[test]
+fn the_answer_stands_alone_on_standard_output() {
+    let mock = Mock::new();
+    listing(&mock);
+    let told = run(mock.command(mock.path("example/run")).env("ZVONUREL_LIB", "elsewhere"));
+    assert_eq!((told.status, told.out), (Some(0), expected()));
+    assert!(told.err.contains("rt: one proved (1 s)\n"), "{}", told.err);
+    let calls = mock.calls();
+    let cargo = "cargo build --quiet --release --package tanks --target-dir target/cargo";
+    assert_eq!(calls[..2], ["rt version", "rt check threshold"]);
+    assert_eq!(calls[2..], ["rt staticlib zvonurel_c", cargo, "ZVONUREL_LIB=unset"]);
+    run(&mut mock.command(mock.path("example/run")));
+    assert!(!mock.calls().contains(&"rt staticlib zvonurel_c".to_string()), "it is proved once");
+}
+
+/// A relative log is the caller's, and a relative script too.
+#[test]
+fn it_works_from_any_folder() {
+    let mock = Mock::new();
+    listing(&mock);
+    mock.folder.write("else where/my log.txt", fs::read(mock.path("example/week.txt")).expect("the week"));
+    let link = mock.path("else where/asks");
+    symlink(mock.path("example/run"), &link).expect("a link");
+    let whole = mock.path("example/run");
+    for (folder, script, log) in [
+        ("else where", Path::new("../example/run"), "my log.txt"),
+        ("else where", &whole, "./my log.txt"),
+        ("else where", Path::new("./asks"), "my log.txt"),
+        ("example", Path::new("./run"), "../else where/my log.txt"),
+        ("", Path::new("example/run"), "else where/my log.txt"),
+        ("crates", &whole, "../example/week.txt"),
+    ] {
+        // a relative program is looked for from the folder that it is run in only by a shell
+        let mut command = mock.command("sh");
+        command.args(["-c", "exec \"$0\" \"$@\""]).arg(script).arg(log).current_dir(mock.path(folder));
+        command.env("CDPATH", mock.path(""));
+        let told = run(&mut command);
+        assert_eq!((told.status, told.out), (Some(0), expected()), "{folder} {log}: {}", told.err);
+    }
+    let told = run(mock.command(&whole).arg("my log.txt"));
+    told.refused("my log.txt: there is no such file: mend its name or its folder.");
+}
+
+/// A log that comes down a pipe is read once, by the demo.
+#[test]
+fn a_log_may_come_from_standard_input() {
+    let mock = Mock::new();
+    listing(&mock);
+    let piped = "cat \"$1\" | \"$2\" /dev/stdin";
+    let mut command = mock.command("sh");
+    command.args(["-c", piped, "sh"]).arg(mock.path("example/week.txt")).arg(mock.path("example/run"));
+    let told = run(&mut command);
+    assert_eq!((told.status, told.out), (Some(0), expected()), "{}", told.err);
+}
+
+/// Where one step fails, no later one is taken and nothing is answered.
+#[test]
+fn a_failure_answers_nothing() {
+    let mock = Mock::new();
+    listing(&mock);
+    let told = run(mock.command(mock.path("example/run")).env("FAILING", "1"));
+    assert!(told.status != Some(0) && told.out.is_empty() && told.err.contains("what is wrong"), "{told:?}");
+    assert!(!mock.calls().iter().any(|call| call.starts_with("cargo")));
+    let told = run(mock.command(mock.path("example/run")).env("CARGO_FAILING", "1"));
+    assert!(told.status != Some(0) && told.out.is_empty() && told.err.contains("it does not compile"), "{told:?}");
+    mock.folder.write("listing", "rows 336\nnamed 24\nthreshold 5\nset 0\n");
+    let told = run(&mut mock.command(mock.path("example/run")));
+    assert!(told.status == Some(1) && told.out.is_empty() && told.err.ends_with("Nothing was answered.\n"), "{told:?}");
+}

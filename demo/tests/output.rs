@@ -1,0 +1,60 @@
+//! Help, and standard output that does not take the answer.
+
+mod common;
+
+use std::fs::File;
+use std::os::fd::OwnedFd;
+use std::os::unix::net::UnixStream;
+use std::process::{Command, Stdio};
+
+use common::{repository, run, tanks, TANKS};
+
+fn week() -> Command {
+    let mut command = Command::new(TANKS);
+    command.arg(repository("example/week.txt")).args(["amber+red", "5"]);
+    command
+}
+
+#[test]
+fn help_is_no_fault() {
+    for arguments in [&["-h"][..], &["--help"], &["log", "-h"], &["log", "red", "1", "--help"]] {
+        let out = tanks(arguments).answered();
+        assert!(out.starts_with("Usage: tanks LOG COLOURS T [--program PROGRAM].\n"), "{out}");
+        assert!(["LOG", "COLOURS", "T ", "PROGRAM"].iter().all(|word| out.contains(&format!("\n  {word}"))), "{out}");
+    }
+}
+
+/// The other end was closed before anything was written.
+fn closed() -> Stdio {
+    let (ours, theirs) = UnixStream::pair().expect("two ends");
+    drop(theirs);
+    Stdio::from(OwnedFd::from(ours))
+}
+
+/// `output()` would take a pipe of its own, so the process is waited for.
+fn ended(command: &mut Command, out: Stdio) -> (Option<i32>, String) {
+    let child = command.stdout(out).stderr(Stdio::piped()).spawn().expect("it runs");
+    let told = child.wait_with_output().expect("it ends");
+    (told.status.code(), String::from_utf8(told.stderr).expect("UTF-8"))
+}
+
+#[test]
+fn a_closed_pipe_is_no_fault() {
+    assert_eq!(ended(&mut week(), closed()), (Some(0), String::new()));
+    assert_eq!(ended(Command::new(TANKS).arg("-h"), closed()), (Some(0), String::new()));
+    let piped = format!("'{TANKS}' '{}' amber+red 5 | head -n 1", repository("example/week.txt").display());
+    let out = run(Command::new("sh").args(["-c", &piped])).answered();
+    assert_eq!(out, "Read: 12 tanks, 336 half hours from Mon 2 Mar 2026 00:00 to Mon 9 Mar 2026 00:00.\n");
+}
+
+#[test]
+fn a_full_disk_is_one() {
+    let full = || Stdio::from(File::options().write(true).open("/dev/full").expect("a full device"));
+    let words =
+        "Standard output can't be written: No space left on device (os error 28). What stands there is not the \
+                 whole answer.\n";
+    assert_eq!(ended(&mut week(), full()), (Some(1), words.to_string()));
+    // and with nowhere to say so, the status still tells
+    let status = week().arg("more").stdout(full()).stderr(full()).status();
+    assert_eq!(status.expect("it runs").code(), Some(1));
+}
