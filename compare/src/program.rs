@@ -63,7 +63,7 @@ fn fixed() -> Vec<Vec<u8>> {
     let mut inputs: Vec<Vec<u8>> = (0..=5).map(|n| vec![1; n]).collect();
     inputs.extend((0..=4).map(|t| question(t, &LOOPED)));
     for at in 0..LOOPED.len() {
-        for to in [0, 1, LOOPED[at].wrapping_sub(1), LOOPED[at] + 1, 0x10_0000_00, u32::MAX] {
+        for to in [0, 1, LOOPED[at].wrapping_sub(1), LOOPED[at] + 1, 0x1000_0000, u32::MAX] {
             let mut words = LOOPED;
             words[at] = to;
             inputs.push(question(2, &words));
