@@ -172,6 +172,12 @@ mod tests {
     }
 
     #[test]
+    fn months_have_their_days() {
+        let days: Vec<usize> = (1..=12).map(|month| month_days(2026, month)).collect();
+        assert_eq!(days, [31, 28, 31, 30, 31, 30, 31, 31, 30, 31, 30, 31]);
+    }
+
+    #[test]
     fn other_dates_are_none() {
         for text in [
             "2026-02-29",

@@ -11,7 +11,8 @@
 //! First the number of tanks and the date and time of the first half hour, each once; then a line for each tank: its
 //! name, white space, and a letter for each half hour, g, a or r. White space at a line's ends is passed over, as is a
 //! byte order mark before the first line, and white space within a name counts as one space. Every name is another one,
-//! and none has a word of g, a and r alone: letters that were parted by a space would pass for a part of the name.
+//! capitals or not, and none has a word of g, a and r alone: letters that were parted by a space would pass for a part
+//! of the name.
 
 use zvonurel::{MOST_BITMAPS, MOST_ROWS};
 
@@ -126,7 +127,7 @@ impl Draft {
                  number."
             ));
         }
-        if let Some(Tank { line, .. }) = self.tanks.iter().find(|tank| tank.name == name) {
+        if let Some(Tank { line, .. }) = self.tanks.iter().find(|tank| same_name(&tank.name, &name)) {
             return Err(format!("`{name}` stands on line {line} already: mend the name, or take one of the two out."));
         }
         let letters = colours(&name, letters)?;
@@ -197,6 +198,11 @@ fn whole_name(words: &[&str], last: &str) -> Result<String, String> {
         }
         (false, _) => Ok(printable(&words.join(" "))),
     }
+}
+
+/// A name that differs in capitals alone is the same tank, written otherwise.
+fn same_name(one: &str, other: &str) -> bool {
+    one.to_lowercase() == other.to_lowercase()
 }
 
 /// A tank's letters, no more of them than a bitmap has rows.
@@ -294,6 +300,7 @@ mod tests {
     #[test]
     fn a_name_is_there_and_stands_once() {
         refused(&format!("{HEAD}tank  1 g\ntank 1\tg\n"), Some(4), "`tank 1` stands on line 3 already");
+        refused(&format!("{HEAD}Tank 1 g\ntank 1 g\n"), Some(4), "`tank 1` stands on line 3 already");
         refused(&format!("{HEAD}ggar\n"), Some(3), "this tank has no name");
         refused(&format!("{HEAD}tank1\n"), Some(3), "`tank1` has no letters");
         for line in ["tank 1 ggg aag", "ggg aag", "tank a ggg", "tank 1 g g g"] {

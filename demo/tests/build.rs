@@ -109,16 +109,18 @@ fn a_failure_is_shown_whole_and_leaves_no_stamp() {
 #[test]
 fn progress_is_shown_line_by_line() {
     let mock = Mock::new();
-    // the prover goes on only once its line was seen
-    let rt = "case $1 in check) echo 'fn one: proved'; echo 'rt: one proved (1 s)'\n\
-              while [ ! -f \"$CALLS\" ]; do sleep 0.05; done; exit 1;; esac";
+    // once its line was seen the prover goes on, and else it says so after a while
+    let rt = "[ $1 = check ] || exit 0\necho 'fn one: proved'; echo 'rt: one proved (1 s)'\n\
+              for i in 1 2 3 4 5 6 7 8 9 10; do [ -f \"$CALLS\" ] && exit 1; sleep 0.5; done\n\
+              echo 'rt: nobody saw that'; exit 1";
     mock.folder.script("tools/rt", rt);
     let mut child = mock.command(mock.path("build")).stderr(Stdio::piped()).spawn().expect("it runs");
     let mut lines = BufReader::new(child.stderr.take().expect("its errors")).lines().map(|line| line.expect("text"));
     assert_eq!(lines.next().as_deref(), Some("proving and building; from nothing this takes some minutes"));
     assert_eq!(lines.next().as_deref(), Some("rt: one proved (1 s)"));
     mock.folder.write("calls", "");
-    assert!(lines.any(|line| line == "fn one: proved"));
+    let rest: Vec<String> = lines.collect();
+    assert_eq!(rest, ["fn one: proved", "rt: one proved (1 s)", "FAILED: rt check threshold"]);
     assert_eq!(child.wait().expect("it ends").code(), Some(1));
 }
 
@@ -133,12 +135,13 @@ fn it_takes_no_argument_and_works_from_any_folder() {
     assert!(mock.path(ARCHIVE).is_file() && mock.path(PROGRAM).is_file());
 }
 
-/// Nothing is stamped, and nothing passes for proved, where there is no toolchain.
+/// A toolchain that does not say what it is proves nothing.
 #[test]
-fn no_toolchain_is_a_failure() {
+fn no_version_is_a_failure() {
     let mock = Mock::new();
-    mock.folder.script("tools/rt", "exit 127");
+    mock.folder.script("tools/rt", "echo \"rt $*\" >>\"$CALLS\"\n[ \"$1\" != version ]");
     let told = build(&mock);
     assert_ne!(told.status, Some(0));
+    assert_eq!(mock.calls(), ["rt version"]);
     assert!(!mock.path("target").exists(), "{told:?}");
 }

@@ -167,13 +167,11 @@ fn a_question_of_just_the_most_bytes_is_compared() {
     assert!(told.err.contains("its line 1 is \"compared\\n\""), "{}", told.err);
 }
 
-/// The proved program, where it was built.
+/// The proved program.
 #[test]
 fn the_program_itself_agrees() {
     let program = repository("target/bin/threshold");
-    if !program.is_file() {
-        return;
-    }
+    assert!(program.is_file(), "the program is not there: `./build` builds it");
     let week = repository("example/week.txt");
     let told = asked(&week, "amber+red", "5", &program).answered();
     assert_eq!(told, fs::read_to_string(repository("example/amber-red-5.txt")).expect("the expected answer"));
