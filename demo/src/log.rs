@@ -190,14 +190,15 @@ fn whole_name(words: &[&str], last: &str) -> Result<String, String> {
              a and r alone in its name."
         ));
     }
-    match (words.is_empty(), letters_alone(last)) {
-        (true, true) => Err("this tank has no name: write one before its letters, as `tank 1 gga`.".to_string()),
-        (true, false) => {
-            let name = printable(last);
-            Err(format!("`{name}` has no letters: write one for each half hour behind the name, as `{name} gga`."))
-        }
-        (false, _) => Ok(printable(&words.join(" "))),
+    if words.is_empty() && letters_alone(last) {
+        return Err("this tank has no name: write one before its letters, as `tank 1 gga`.".to_string());
     }
+    // `tank 1` alone is a name too
+    if words.is_empty() || !last.chars().any(char::is_alphabetic) {
+        let name = printable(&[words, &[last]].concat().join(" "));
+        return Err(format!("`{name}` has no letters: write one for each half hour behind the name, as `{name} gga`."));
+    }
+    Ok(printable(&words.join(" ")))
 }
 
 /// A name that differs in capitals alone is the same tank, written otherwise.
@@ -303,6 +304,7 @@ mod tests {
         refused(&format!("{HEAD}Tank 1 g\ntank 1 g\n"), Some(4), "`tank 1` stands on line 3 already");
         refused(&format!("{HEAD}ggar\n"), Some(3), "this tank has no name");
         refused(&format!("{HEAD}tank1\n"), Some(3), "`tank1` has no letters");
+        refused(&format!("{HEAD}tank  1\n"), Some(3), "`tank 1` has no letters: write one for each half hour");
         for line in ["tank 1 ggg aag", "ggg aag", "tank a ggg", "tank 1 g g g"] {
             let word = line.split(' ').find(|word| letters_alone(word)).expect("one");
             refused(&format!("{HEAD}{line}\n"), Some(3), &format!("`{word}` stands apart from the other letters"));

@@ -121,7 +121,8 @@ fn a_letter_of_no_colour() {
             &format!(", line 3: in `tank 1` letter 17 is `{shown}`: write g, a or r for each half hour."),
         );
     }
-    log_refused(format!("{HEAD}tank 1\n"), ", line 3: in `tank` letter 1 is `1`: write g, a or r for each half hour.");
+    let none = "has no letters: write one for each half hour behind the name, as `tank 1 gga`.";
+    log_refused(format!("{HEAD}tank 1\n"), &format!(", line 3: `tank 1` {none}"));
 }
 
 #[test]
