@@ -46,7 +46,7 @@ check nothing.
 
 Instruction counts of one call (build with --release):
   valgrind --tool=callgrind --toggle-collect='*measured_call*' \\
-      target/release/bench --one threshold calm 1000000 12 1
+      target/cargo/release/bench --one threshold calm 1000000 12 1
 Making the input is then left out. Divide by REPEATS and by the rows."
     );
     ExitCode::from(2)

@@ -5,7 +5,7 @@ use std::path::PathBuf;
 
 fn main() {
     println!("cargo:rerun-if-env-changed=ZVONUREL_LIB");
-    let folder = match env::var_os("ZVONUREL_LIB") {
+    let folder = match env::var_os("ZVONUREL_LIB").filter(|folder| !folder.is_empty()) {
         Some(folder) => PathBuf::from(folder),
         None => PathBuf::from(env::var_os("CARGO_MANIFEST_DIR").expect("cargo names the package's folder"))
             .join("../../target/staticlib"),
@@ -14,6 +14,9 @@ fn main() {
     if !folder.is_absolute() {
         let given = folder.display();
         refuse(&format!("ZVONUREL_LIB is the relative path `{given}`: name the folder by its whole path, from / on"));
+    }
+    if folder.to_str().is_none() {
+        refuse(&format!("`{}` is no name in UTF-8, which cargo needs: use another folder", folder.display()));
     }
     let library = folder.join("libzvonurel_c.a");
     println!("cargo:rerun-if-changed={}", library.display());

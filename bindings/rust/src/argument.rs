@@ -18,6 +18,13 @@ pub enum BadArgument {
         /// How many bitmaps there are.
         bitmaps: u32,
     },
+    /// There is no bitmap of the number that was given second.
+    SecondBitmap {
+        /// The number asked for.
+        number: u32,
+        /// How many bitmaps there are.
+        bitmaps: u32,
+    },
     /// There is no row of this number.
     Row {
         /// The row asked for.
@@ -53,7 +60,7 @@ pub enum BadArgument {
         /// How many numbers the list has.
         names: usize,
     },
-    /// The table has not one entry more than the list.
+    /// The table is not exactly one entry longer than the list.
     TableLength {
         /// How many entries it has.
         entries: usize,
@@ -76,14 +83,18 @@ pub enum BadArgument {
     },
 }
 
-use BadArgument::{Bitmap, EmptyList, LongList, Name, PlainWords, Row, SetRow, TableEntry, TableLength, Threshold};
+use BadArgument::{Bitmap, EmptyList, LongList, Name, PlainWords, Row, SecondBitmap, SetRow};
+use BadArgument::{TableEntry, TableLength, Threshold};
 
 impl fmt::Display for BadArgument {
     fn fmt(&self, f: &mut fmt::Formatter<'_>) -> fmt::Result {
         match *self {
             Bitmap { number, bitmaps } => write!(f, "there is no bitmap {number}, of {bitmaps} counted from 0"),
+            SecondBitmap { number, bitmaps } => {
+                write!(f, "there is no bitmap {number}, the second one asked for, of {bitmaps} counted from 0")
+            }
             Row { row, rows } => write!(f, "there is no row {row}, of {rows} counted from 0"),
-            SetRow { n } => write!(f, "there is no set row {n}, counted from 0: so many or fewer are set"),
+            SetRow { n } => write!(f, "set row {n}, counted from 0, was asked for, and at most {n} rows are set"),
             EmptyList => write!(f, "the list has no number"),
             LongList { names } => write!(f, "the list has {names} numbers, and {MOST_NAMED} are the most"),
             Name { place, number, bitmaps } => {
@@ -115,7 +126,8 @@ pub(crate) fn bitmap(index: &[u32], number: u32) -> Option<BadArgument> {
 }
 
 pub(crate) fn two(index: &[u32], j: u32, k: u32) -> Option<BadArgument> {
-    bitmap(index, j).or_else(|| bitmap(index, k))
+    let bitmaps = bitmaps_of(index);
+    bitmap(index, j).or((k >= bitmaps).then_some(SecondBitmap { number: k, bitmaps }))
 }
 
 pub(crate) fn row(index: &[u32], k: u32, row: u32) -> Option<BadArgument> {

@@ -1,6 +1,6 @@
 //! Indexes made of bodies.
 
-use crate::{argument::BadArgument, check, check_body, compress, most_body_words, segments, Refusal};
+use crate::{check, check_body, compress, most_body_words, segments, BadArgument, Refusal};
 use crate::{ENTRY_WORDS, HEAD_WORDS, INDEX_KIND, WORD_BITS};
 
 /// The words of an index of these bodies, in order, with its contents right.
@@ -63,8 +63,9 @@ impl IndexBuilder {
     /// Adds a bitmap by its body, which is kept as it is, and returns its number.
     ///
     /// # Errors
-    /// 3 for too many rows; 5, 6 or 7 for the body's first fault. Then nothing is added.
+    /// 3 for too many rows or bitmaps; 5, 6 or 7 for the body's first fault. Then nothing is added.
     pub fn add_body(&mut self, body: &[u32]) -> Result<u32, Refusal> {
+        self.check_room()?;
         check_body(body, self.rows)?;
         Ok(self.push(body.to_vec()))
     }
@@ -72,10 +73,10 @@ impl IndexBuilder {
     /// Adds a bitmap by its plain words, and returns its number.
     ///
     /// # Errors
-    /// 3 for too many rows; 8 unless there is one word for each [`WORD_BITS`] rows; 7 where the last has a bit behind
-    /// the last row. Then nothing is added.
+    /// 3 for too many rows or bitmaps; 8 unless there is one word for each [`WORD_BITS`] rows; 7 where the last has a
+    /// bit behind the last row. Then nothing is added.
     pub fn add_plain(&mut self, plain: &[u32]) -> Result<u32, Refusal> {
-        self.check_rows()?;
+        self.check_room()?;
         let mut body = vec![0; most_body_words(self.rows)];
         let words = compress(self.rows, plain, &mut body)?;
         body.truncate(words);
@@ -86,9 +87,9 @@ impl IndexBuilder {
     /// Adds a bitmap by its set rows, in any order, and returns its number.
     ///
     /// # Errors
-    /// 3 for too many rows; 8 for a row that is not there. Then nothing is added.
+    /// 3 for too many rows or bitmaps; 8 for a row that is not there. Then nothing is added.
     pub fn add_rows(&mut self, set: impl IntoIterator<Item = u32>) -> Result<u32, Refusal> {
-        self.check_rows()?;
+        self.check_room()?;
         let rows = self.rows;
         let mut plain = vec![0; segments(rows)];
         for row in set {
@@ -101,11 +102,11 @@ impl IndexBuilder {
         self.add_plain(&plain)
     }
 
-    /// The index's words, checked.
+    /// The words of the index so far, checked.
     ///
     /// # Errors
-    /// 3 for too many rows, bitmaps or words.
-    pub fn build(self) -> Result<Vec<u32>, Refusal> {
+    /// 3 for too many rows, or for too many words in all.
+    pub fn build(&self) -> Result<Vec<u32>, Refusal> {
         let index = index_of(self.rows, &self.bodies);
         check(&index)?;
         Ok(index)
@@ -116,8 +117,12 @@ impl IndexBuilder {
         (self.bodies.len() - 1) as u32
     }
 
-    /// Whether an index may have so many rows, asked of one with no bitmap before room for the rows is taken.
-    fn check_rows(&self) -> Result<(), Refusal> {
-        check(&[INDEX_KIND, self.rows, 0])
+    /// Whether an index may have so many rows, and a bitmap more: asked of a head alone, before room for the rows is
+    /// taken. That its contents are missing is told only where both are right.
+    fn check_room(&self) -> Result<(), Refusal> {
+        match check(&[INDEX_KIND, self.rows, self.bodies.len() as u32 + 1]) {
+            Err(refusal) if refusal.number == Refusal::TOO_LARGE => Err(refusal),
+            _ => Ok(()),
+        }
     }
 }

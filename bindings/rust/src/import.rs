@@ -96,7 +96,14 @@ impl fmt::Display for NotImported {
     }
 }
 
-impl Error for NotImported {}
+impl Error for NotImported {
+    fn source(&self) -> Option<&(dyn Error + 'static)> {
+        match self {
+            NotImported::Refused(refusal) => Some(refusal),
+            _ => None,
+        }
+    }
+}
 
 /// Makes a body, in canonical form, of words that another 32-bit EWAH library wrote for a bitmap of so many bits. The
 /// body has `rows` rows, and exactly the rows that the words set; where they can't be had, it says why.

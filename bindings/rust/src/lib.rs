@@ -26,6 +26,11 @@
 //! # Ok::<(), zvonurel::Refusal>(())
 //! ```
 //!
+//! # Linking
+//!
+//! The package links `libzvonurel_c.a`, which `./build` at the repository's root proves and writes to
+//! `target/staticlib`; or the one in the folder that the variable `ZVONUREL_LIB` names, by its whole path.
+//!
 //! # Beside the calls
 //!
 //! Plain Rust over the proved calls, not itself proved; these allocate what they return:
@@ -48,6 +53,9 @@
 #![deny(missing_docs)]
 #![deny(unsafe_op_in_unsafe_fn)]
 #![warn(clippy::undocumented_unsafe_blocks)]
+
+#[cfg(not(all(target_arch = "x86_64", target_os = "linux")))]
+compile_error!("the proved library is built for Linux on x86-64 alone");
 
 mod argument;
 mod builder;
@@ -80,6 +88,7 @@ pub use refusal::Refusal;
 /// A body that answers a question over a list.
 #[derive(Clone, Copy, Debug, PartialEq, Eq, Hash)]
 #[must_use = "the answer is only so many words at the front of the buffer"]
+#[non_exhaustive]
 pub struct Answer {
     /// How many words it has, at the front of the buffer.
     pub words: usize,

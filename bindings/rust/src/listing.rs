@@ -4,6 +4,7 @@
 //! can come up.
 
 use std::iter::FusedIterator;
+use std::ops::Range;
 
 use crate::{check_body, expand, segments, Refusal, WORD_BITS};
 
@@ -48,7 +49,7 @@ pub fn set_rows(body: &[u32], rows: u32) -> Result<SetRows, Refusal> {
     Ok(SetRows { plain, at: 0, left })
 }
 
-/// The spells of a body, first to last: its longest runs of set rows.
+/// The spells of a body, first to last: its unbroken runs of set rows, each as long as it goes.
 ///
 /// # Errors
 /// 3 for too many rows; 5, 6 or 7 for the body's first fault.
@@ -90,18 +91,34 @@ impl Iterator for SetRows {
     fn size_hint(&self) -> (usize, Option<usize>) {
         (self.left, Some(self.left))
     }
+
+    fn count(self) -> usize {
+        self.left
+    }
 }
 
 impl ExactSizeIterator for SetRows {}
 impl FusedIterator for SetRows {}
 
 /// Rows that are set, one behind the other: the row before the first and the row behind the last are not.
-#[derive(Clone, Copy, Debug, PartialEq, Eq, Hash)]
+#[derive(Clone, Copy, Debug, PartialEq, Eq, PartialOrd, Ord, Hash)]
 pub struct Spell {
     /// The first row.
     pub first: u32,
     /// How many rows.
     pub length: u32,
+}
+
+impl Spell {
+    /// The rows themselves.
+    ///
+    /// ```
+    /// assert!(zvonurel::Spell { first: 30, length: 4 }.rows().eq([30, 31, 32, 33]));
+    /// ```
+    #[must_use]
+    pub fn rows(&self) -> Range<u32> {
+        self.first..self.first + self.length
+    }
 }
 
 /// Iterates over the spells of a body: see [`spells`].

@@ -67,7 +67,7 @@ fn listings() {
 fn listing_and_nth() {
     let body = [0x0006_0000, 0x20, 0, 1];
     let mut listed = set_rows(&body, 96).unwrap();
-    assert_eq!(listed.size_hint(), (2, Some(2)));
+    assert_eq!((listed.size_hint(), listed.clone().count()), ((2, Some(2)), 2));
     assert_eq!(listed.next(), body_nth(&body, 96, 0).ok());
     assert_eq!(listed.next(), body_nth(&body, 96, 1).ok());
     assert_eq!((listed.len(), listed.next(), listed.next()), (0, None, None));
@@ -167,7 +167,15 @@ fn builder_limits() {
     for k in 0..MOST_BITMAPS {
         assert_eq!(full.add_body(&[]), Ok(k));
     }
-    assert!(full.clone().build().is_ok());
-    assert_eq!(full.add_body(&[]), Ok(MOST_BITMAPS));
-    assert_eq!(full.build().unwrap_err().numbers(), (Refusal::TOO_LARGE, 0, 2));
+    // one more is refused, and nothing is lost
+    let before = full.build().unwrap();
+    assert_eq!(full.add_body(&[]).unwrap_err().numbers(), (Refusal::TOO_LARGE, 0, 2));
+    assert_eq!(full.add_plain(&[]).unwrap_err().numbers(), (Refusal::TOO_LARGE, 0, 2));
+    assert_eq!(full.add_rows([]).unwrap_err().numbers(), (Refusal::TOO_LARGE, 0, 2));
+    assert_eq!((before[2], full.build()), (MOST_BITMAPS, Ok(before.clone())));
+    // bodies may be wasteful, so that 64 of them pass the words of an index
+    let idle = vec![0; MOST_INDEX_WORDS / 2];
+    let mut long = IndexBuilder::new(0);
+    assert_eq!((long.add_body(&idle), long.add_body(&idle)), (Ok(0), Ok(1)));
+    assert_eq!(long.build().unwrap_err().numbers(), (Refusal::TOO_LARGE, 0, 0));
 }

@@ -187,7 +187,7 @@ fn two_bitmaps() {
 fn lists() {
     let at_least = |t, out: &mut [u32]| threshold(&LOOPED, &ALL, t, out);
     writes(&[0x20000, 0xA], |out| at_least(2, out).map(|a| a.words));
-    assert_eq!(at_least(2, &mut [0; 2]), Ok(Answer { words: 2, stretches: 1 }));
+    assert_eq!(at_least(2, &mut [0; 2]).unwrap().stretches, 1);
     assert_eq!(told(at_least(4, &mut [0; 2])), Err(BAD));
     assert_eq!(told(at_least(2, &mut [0; 1])), no_room(2));
     assert_eq!(told(threshold(&LOOPED, &[], 1, &mut [0; 2])), Err(BAD));
@@ -205,7 +205,8 @@ fn lists() {
 
     // 96 rows: three stretches
     let index = [1, 96, 2, 7, 1, 8, 4, 0x6, 0x20000, 0x20, 0x20002, 0x1];
-    assert_eq!(threshold(&index, &[0, 1], 1, &mut [0; 8]), Ok(Answer { words: 4, stretches: 3 }));
+    let answer = threshold(&index, &[0, 1], 1, &mut [0; 8]).unwrap();
+    assert_eq!((answer.words, answer.stretches), (4, 3));
 }
 
 /// What each refusal says. The numbers at fault are changed words of LOOPED, or the arguments.
@@ -254,7 +255,7 @@ fn said<T: std::fmt::Debug>(result: Result<T, Refusal>) -> String {
 fn bad_arguments() {
     let out = &mut [0; 4][..];
     assert_eq!(said(body_row(&FORTY, 40, 40)), "there is no row 40, of 40 counted from 0");
-    let set = "there is no set row 2, counted from 0: so many or fewer are set";
+    let set = "set row 2, counted from 0, was asked for, and at most 2 rows are set";
     assert_eq!(said(body_nth(&FORTY, 40, 2)), set);
     assert_eq!(said(compress(65, &[1, 2], out)), "there are 2 plain words, and 65 rows need 3");
     let no_bitmap = |k: u32| format!("there is no bitmap {k}, of 3 counted from 0");
@@ -268,7 +269,8 @@ fn bad_arguments() {
     assert_eq!(said(expand_bitmap(&LOOPED, u32::MAX, out)), no_bitmap(u32::MAX));
     for call in [and, or, xor, and_not] {
         assert_eq!(said(call(&LOOPED, 5, 6, out)), no_bitmap(5));
-        assert_eq!(said(call(&LOOPED, 2, 6, out)), no_bitmap(6));
+        let second = "there is no bitmap 6, the second one asked for, of 3 counted from 0";
+        assert_eq!(said(call(&LOOPED, 2, 6, out)), second);
     }
     assert_eq!(said(not(&LOOPED, 3, out)), no_bitmap(3));
     assert_eq!(said(histogram(&LOOPED, &[])), "the list has no number");
