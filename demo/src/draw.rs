@@ -83,7 +83,7 @@ mod tests {
 
     /// One tank, from a date and time on.
     fn log(from: &str, rows: usize) -> Log {
-        let text = format!("tanks 1\nfrom {from}\npond {}\n", "g".repeat(rows));
+        let text = format!("tanks 1\nfrom {from}\npond: {}\n", "g".repeat(rows));
         Log::read(&text).unwrap_or_else(|fault| panic!("{}", fault.what))
     }
 

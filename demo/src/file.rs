@@ -1,10 +1,15 @@
 //! A log's file. Each refusal begins with its name, and the line where there is one.
 
-use std::fs;
-use std::io::ErrorKind;
+use std::fs::File;
+use std::io::{self, ErrorKind, Read};
 use std::path::Path;
 
-use crate::log::{Fault, Log};
+use zvonurel::MOST_ROWS;
+
+use crate::log::{Fault, Log, MOST_TANKS};
+
+/// The letters of the most tanks and half hours, and a mebibyte for names and remarks.
+const MOST_BYTES: u64 = MOST_TANKS as u64 * MOST_ROWS as u64 + (1 << 20);
 
 pub fn read(path: &Path) -> Result<Log, String> {
     text(path).and_then(|text| Log::read(&text)).map_err(|Fault { line, what }| {
@@ -13,12 +18,25 @@ pub fn read(path: &Path) -> Result<Log, String> {
     })
 }
 
+/// All of a file, unless it goes on without end.
+fn bytes(path: &Path) -> io::Result<Vec<u8>> {
+    let mut bytes = Vec::new();
+    let read = File::open(path)?.take(MOST_BYTES + 1).read_to_end(&mut bytes)?;
+    match read as u64 > MOST_BYTES {
+        true => Err(ErrorKind::FileTooLarge.into()),
+        false => Ok(bytes),
+    }
+}
+
 fn text(path: &Path) -> Result<String, Fault> {
-    let bytes = fs::read(path).map_err(|why| Fault {
+    let bytes = bytes(path).map_err(|why| Fault {
         line: None,
         what: match why.kind() {
             _ if !path.exists() => "there is no such file: mend its name or its folder.".to_string(),
             _ if path.is_dir() => "this is a folder: name a log in it.".to_string(),
+            ErrorKind::FileTooLarge => {
+                "this is too long for a log: name another file, or split it by time.".to_string()
+            }
             ErrorKind::PermissionDenied => "you may not read this file: ask its owner to allow it.".to_string(),
             _ => format!("this can't be read: {why}. Name a file that can."),
         },

@@ -4,24 +4,30 @@
 //! # what begins with # is passed over, and so is an empty line
 //! tanks 2
 //! from 2026-03-02 00:00
-//! tank 1  gggaaaarrg
-//! tank 2  ggggggaagg
+//! tank 1: gggaaaarrg
+//! tank 2: ggggggaagg
 //! ```
 //!
 //! First the number of tanks and the date and time of the first half hour, each once; then a line for each tank: its
-//! name, white space, and a letter for each half hour, g, a or r. White space at a line's ends is passed over, as is a
-//! byte order mark before the first line, and white space within a name counts as one space. Every name is another one,
-//! capitals or not, and none has a word of g, a and r alone: letters that were parted by a space would pass for a part
-//! of the name.
+//! name, a colon, and a letter for each half hour, g, a or r, as one word. White space at a line's ends is passed over,
+//! as is a byte order mark before the first line. Every tank has another name, and times are those of a clock that is
+//! never put forward or back.
+
+use std::ops::RangeInclusive;
 
 use zvonurel::{MOST_BITMAPS, MOST_ROWS};
 
 use crate::calendar::{half_hour, Date, Moment};
 use crate::colour::Colour;
+use crate::name::Name;
 use crate::number::{count, from_one_to, grouped};
+use crate::text::printable;
 
 /// An index has room for a bitmap of each colour of so many tanks.
 pub const MOST_TANKS: usize = MOST_BITMAPS as usize / Colour::ALL.len();
+
+/// A year before or behind these was typed wrongly.
+const YEARS: RangeInclusive<usize> = 1900..=2199;
 
 /// When the log begins, and its tanks: one or more, all with as many letters, one or more.
 pub struct Log {
@@ -30,7 +36,7 @@ pub struct Log {
 }
 
 pub struct Tank {
-    name: String,
+    name: Name,
     /// The line of the log that it stands on.
     line: usize,
     pub letters: Vec<Colour>,
@@ -87,7 +93,7 @@ impl Draft {
             [first, ..] if first.starts_with('#') => Ok(()),
             ["tanks", rest @ ..] => self.take_count(line, &rest.join(" ")),
             ["from", rest @ ..] => self.take_from(line, rest),
-            [name @ .., letters] => self.take_tank(line, name, letters),
+            _ => self.take_tank(line, text),
         }
     }
 
@@ -109,6 +115,10 @@ impl Draft {
         once("from", &self.from)?;
         let [date, time] = words else { return Err(format!("`from` takes a date and a time: {FORM}.")) };
         let day = Date::read(date).ok_or_else(|| format!("there is no date `{}`: {FORM}.", printable(date)))?;
+        if !YEARS.contains(&day.year) {
+            let (first, last) = (YEARS.start(), YEARS.end());
+            return Err(format!("the year of `{date}` is not one from {first} to {last}: {FORM}."));
+        }
         let half_hour = half_hour(time).ok_or_else(|| {
             format!("`{}` is none of the times 00:00, 00:30 and so on to 23:30: {FORM}.", printable(time))
         })?;
@@ -117,9 +127,12 @@ impl Draft {
     }
 
     /// No tank is taken before both head lines are there.
-    fn take_tank(&mut self, line: usize, name: &[&str], letters: &str) -> Result<(), String> {
+    fn take_tank(&mut self, line: usize, text: &str) -> Result<(), String> {
         let (count, _) = self.heads()?;
-        let name = whole_name(name, letters)?;
+        let (name, letters) = text
+            .split_once(':')
+            .ok_or("this line has no colon: write a tank's name, a colon and its letters, as `tank 1: gga`.")?;
+        let name = Name::read(name)?;
         if self.tanks.len() == count.said {
             let (extra, Head { line, said }) = (count.said + 1, count);
             return Err(format!(
@@ -127,11 +140,15 @@ impl Draft {
                  number."
             ));
         }
-        if let Some(Tank { line, .. }) = self.tanks.iter().find(|tank| same_name(&tank.name, &name)) {
-            return Err(format!("`{name}` stands on line {line} already: mend the name, or take one of the two out."));
+        if let Some(Tank { name: Name { text, .. }, line, .. }) = self.tanks.iter().find(|tank| tank.name.same(&name)) {
+            let otherwise = if *text == name.text { String::new() } else { format!(", as `{text}`") };
+            return Err(format!(
+                "`{}` stands on line {line} already{otherwise}: mend the name, or take one of the two out.",
+                name.text
+            ));
         }
-        let letters = colours(&name, letters)?;
-        self.same_length(&name, letters.len())?;
+        let letters = colours(&name.text, one_word(&name.text, letters)?)?;
+        self.same_length(&name.text, letters.len())?;
         self.tanks.push(Tank { name, line, letters });
         Ok(())
     }
@@ -142,7 +159,7 @@ impl Draft {
             Some(first) if first.letters.len() != length => Err(format!(
                 "`{name}` has {}, and `{}` on line {} has {}: give each tank a letter for every half hour.",
                 count(length, "letter"),
-                first.name,
+                first.name.text,
                 first.line,
                 grouped(first.letters.len())
             )),
@@ -178,32 +195,16 @@ fn once<T>(word: &str, before: &Option<Head<T>>) -> Result<(), String> {
     }
 }
 
-fn letters_alone(word: &str) -> bool {
-    word.chars().all(|letter| Colour::of_letter(letter).is_some())
-}
-
-/// The name of a tank, of its words and of the last word on its line.
-fn whole_name(words: &[&str], last: &str) -> Result<String, String> {
-    if let Some(word) = words.iter().find(|word| letters_alone(word)) {
-        return Err(format!(
-            "`{word}` stands apart from the other letters: write all letters of a tank as one word, and no word of g, \
-             a and r alone in its name."
-        ));
+/// Letters that were parted are no shorter log.
+fn one_word<'a>(name: &str, letters: &'a str) -> Result<&'a str, String> {
+    let mut words = letters.split_whitespace();
+    match (words.next(), words.count()) {
+        (None, _) => {
+            Err(format!("`{name}` has no letters: write one for each half hour behind the colon, as `{name}: gga`."))
+        }
+        (Some(word), 0) => Ok(word),
+        (_, more) => Err(format!("the letters of `{name}` stand in {} parts: write them as one word.", more + 1)),
     }
-    if words.is_empty() && letters_alone(last) {
-        return Err("this tank has no name: write one before its letters, as `tank 1 gga`.".to_string());
-    }
-    // `tank 1` alone is a name too
-    if words.is_empty() || !last.chars().any(char::is_alphabetic) {
-        let name = printable(&[words, &[last]].concat().join(" "));
-        return Err(format!("`{name}` has no letters: write one for each half hour behind the name, as `{name} gga`."));
-    }
-    Ok(printable(&words.join(" ")))
-}
-
-/// A name that differs in capitals alone is the same tank, written otherwise.
-fn same_name(one: &str, other: &str) -> bool {
-    one.to_lowercase() == other.to_lowercase()
 }
 
 /// A tank's letters, no more of them than a bitmap has rows.
@@ -223,11 +224,6 @@ fn colours(name: &str, letters: &str) -> Result<Vec<Colour>, String> {
         })?);
     }
     Ok(colours)
-}
-
-/// A log's own text in a message: a character that can't be seen, or would steer a terminal, by its number.
-fn printable(text: &str) -> String {
-    text.chars().map(|c| if "\"'\\".contains(c) { c.to_string() } else { c.escape_debug().to_string() }).collect()
 }
 
 #[cfg(test)]
@@ -250,30 +246,30 @@ mod tests {
 
     #[test]
     fn names_letters_and_times_are_read() {
-        let log = log("tank 1 gar\n# a remark\n\n tank\t2 \u{a0} rrg \r\n").expect("a log");
+        let log = log("tank 1: gar\n# a remark\n\n tank\t2\u{a0} : rrg \r\n").expect("a log");
         assert_eq!((log.rows(), log.tanks.len()), (3, 2));
         assert_eq!(log.tanks[0].letters, Colour::ALL);
-        assert_eq!((log.tanks[1].name.as_str(), log.tanks[1].line), ("tank 2", 6));
+        assert_eq!((log.tanks[1].name.text.as_str(), log.tanks[1].line), ("tank 2", 6));
         assert_eq!(log.from.shown(true), "Mon 2 Mar 2026 23:30");
         assert_eq!(log.end().shown(true), "Tue 3 Mar 2026 01:00");
     }
 
     #[test]
     fn head_lines_may_stand_in_either_order_and_behind_a_mark() {
-        let log = Log::read("\u{feff}# remark\r\nfrom 2026-03-02 00:00\r\n  tanks   1\r\npond\tg").expect("a log");
-        assert_eq!((log.rows(), log.tanks[0].name.as_str()), (1, "pond"));
-        refused("tanks 1\n\u{feff}from 2026-03-02 00:00\npond g\n", Some(2), "no line says when");
+        let log = Log::read("\u{feff}# remark\r\nfrom 2026-03-02 00:00\r\n  tanks   1\r\npond:g").expect("a log");
+        assert_eq!((log.rows(), log.tanks[0].name.text.as_str()), (1, "pond"));
+        refused("tanks 1\n\u{feff}from 2026-03-02 00:00\npond: g\n", Some(2), "no line says when");
     }
 
     #[test]
     fn head_lines_are_needed_once() {
         refused("", None, "no line says how many tanks");
         refused("tanks 1\n", None, "no line says when");
-        refused("from 2026-03-02 00:00\npond g\ntanks 1\n", Some(2), "no line says how many tanks");
-        refused("tanks 1\npond g\nfrom 2026-03-02 00:00\n", Some(2), "no line says when");
+        refused("from 2026-03-02 00:00\npond: g\ntanks 1\n", Some(2), "no line says how many tanks");
+        refused("tanks 1\npond: g\nfrom 2026-03-02 00:00\n", Some(2), "no line says when");
         refused("tanks 1\n\ntanks 1\n", Some(3), "`tanks` stands on line 1 already");
         refused(&format!("{HEAD}from 2026-03-02 23:30"), Some(3), "`from` stands on line 2 already");
-        refused(&format!("{HEAD}pond 1 g\npond 2 g\ntanks 2"), Some(5), "`tanks` stands on line 1 already");
+        refused(&format!("{HEAD}pond 1: g\npond 2: g\ntanks 2"), Some(5), "`tanks` stands on line 1 already");
     }
 
     #[test]
@@ -287,6 +283,10 @@ mod tests {
             refused(&format!("from{text}"), Some(1), "`from` takes a date and a time: write it as `from 2026-03-02");
         }
         refused("from 2026-02-30 00:00", Some(1), "there is no date `2026-02-30`");
+        for year in ["0026", "1899", "2200"] {
+            let begins = format!("the year of `{year}-03-02` is not one from 1900 to 2199");
+            refused(&format!("from {year}-03-02 00:00"), Some(1), &begins);
+        }
         refused("from 2026-02-03 00:15", Some(1), "`00:15` is none of the times");
         refused("from 2026-02-03 24:00", Some(1), "`24:00` is none of the times");
     }
@@ -294,45 +294,53 @@ mod tests {
     #[test]
     fn as_many_tanks_as_said_are_taken() {
         refused(HEAD, Some(1), "this says `tanks 2`, and the log has 0 tanks");
-        refused(&format!("{HEAD}t1 g\n"), Some(1), "this says `tanks 2`, and the log has 1 tank:");
-        refused(&format!("{HEAD}t1 g\nt2 g\n\nt3 g\n"), Some(6), "this is tank 3, and line 1 says `tanks 2`");
+        refused(&format!("{HEAD}t1: g\n"), Some(1), "this says `tanks 2`, and the log has 1 tank:");
+        refused(&format!("{HEAD}t1: g\nt2: g\n\nt3: g\n"), Some(6), "this is tank 3, and line 1 says `tanks 2`");
     }
 
     #[test]
     fn a_name_is_there_and_stands_once() {
-        refused(&format!("{HEAD}tank  1 g\ntank 1\tg\n"), Some(4), "`tank 1` stands on line 3 already");
-        refused(&format!("{HEAD}Tank 1 g\ntank 1 g\n"), Some(4), "`tank 1` stands on line 3 already");
-        refused(&format!("{HEAD}ggar\n"), Some(3), "this tank has no name");
-        refused(&format!("{HEAD}tank1\n"), Some(3), "`tank1` has no letters");
-        refused(&format!("{HEAD}tank  1\n"), Some(3), "`tank 1` has no letters: write one for each half hour");
-        for line in ["tank 1 ggg aag", "ggg aag", "tank a ggg", "tank 1 g g g"] {
-            let word = line.split(' ').find(|word| letters_alone(word)).expect("one");
-            refused(&format!("{HEAD}{line}\n"), Some(3), &format!("`{word}` stands apart from the other letters"));
+        refused(&format!("{HEAD}tank  1: g\ntank 1\t: g\n"), Some(4), "`tank 1` stands on line 3 already: mend");
+        refused(&format!("{HEAD}Tank 1: g\ntank01: g\n"), Some(4), "`tank01` stands on line 3 already, as `Tank 1`:");
+        refused(&format!("{HEAD}: ggar\n"), Some(3), "this tank has no name");
+        refused(&format!("{HEAD}tank 1\u{200b}: g\n"), Some(3), "the name has `\\u{200b}`");
+        refused(&format!("{HEAD}tank 1 ggar\n"), Some(3), "this line has no colon: write a tank's name");
+    }
+
+    #[test]
+    fn letters_are_one_word() {
+        for line in ["tank1:", "tank1 : "] {
+            refused(&format!("{HEAD}{line}\n"), Some(3), "`tank1` has no letters: write one");
+        }
+        for (letters, parts) in [("ggg aag", 2), ("ggg, aag", 2), ("ggg? aaa", 2), ("x g\u{a0}g  g", 4), (": g", 2)] {
+            let begins = format!("the letters of `t1` stand in {parts} parts: write them as one word");
+            refused(&format!("{HEAD}t1: {letters}\n"), Some(3), &begins);
         }
     }
 
     #[test]
     fn letters_are_g_a_and_r() {
-        let line = format!("{HEAD}t1 {}", "g".repeat(16));
+        let line = format!("{HEAD}t1: {}", "g".repeat(16));
         refused(&format!("{line}x"), Some(3), "in `t1` letter 17 is `x`: write g, a or r");
         refused(&format!("{line}Gx"), Some(3), "in `t1` letter 17 is `G`");
         refused(&format!("{line}\u{1b}"), Some(3), "in `t1` letter 17 is `\\u{1b}`");
+        refused(&format!("{line}\u{200b}g"), Some(3), "in `t1` letter 17 is `\\u{200b}`");
         refused(&format!("{line}ä"), Some(3), "in `t1` letter 17 is `ä`");
-        refused(&format!("{HEAD}t\u{7} 1 gx"), Some(3), "in `t\\u{7} 1` letter 2 is `x`");
+        refused(&format!("{line}:g"), Some(3), "in `t1` letter 17 is `:`");
     }
 
     #[test]
     fn every_tank_has_as_many_letters() {
         let what = "`t2` has 2 letters, and `t1` on line 3 has 3: give each tank";
-        refused(&format!("{HEAD}t1 ggg\nt2 gg"), Some(4), what);
-        refused(&format!("{HEAD}t1 gg\nt2 g"), Some(4), "`t2` has 1 letter, and `t1` on line 3 has 2");
-        refused(&format!("{HEAD}t1 gg\nt2 ggg"), Some(4), "`t2` has 3 letters, and `t1` on line 3 has 2");
+        refused(&format!("{HEAD}t1: ggg\nt2: gg"), Some(4), what);
+        refused(&format!("{HEAD}t1: gg\nt2: g"), Some(4), "`t2` has 1 letter, and `t1` on line 3 has 2");
+        refused(&format!("{HEAD}t1: gg\nt2: ggg"), Some(4), "`t2` has 3 letters, and `t1` on line 3 has 2");
     }
 
     #[test]
     fn letters_are_no_more_than_a_bitmap_has_rows() {
         let most = "g".repeat(MOST_ROWS as usize);
         assert_eq!(colours("t1", &most).map(|letters| letters.len()), Ok(most.len()));
-        refused(&format!("{HEAD}t1 {most}g"), Some(3), "`t1` has 16,777,217 letters, and 16,777,216 are the most");
+        refused(&format!("{HEAD}t1: {most}g"), Some(3), "`t1` has 16,777,217 letters, and 16,777,216 are the most");
     }
 }

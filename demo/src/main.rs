@@ -8,21 +8,25 @@ mod draw;
 mod file;
 mod index;
 mod log;
+mod name;
 mod number;
 mod program;
 mod report;
+mod text;
 
 use std::env;
 use std::ffi::OsString;
+use std::fs::File;
 use std::io::{self, ErrorKind, Write};
+use std::os::fd::AsFd;
 use std::process::ExitCode;
 
 const USAGE: &str = "Usage: tanks LOG COLOURS T [--program PROGRAM].";
 const HELP: &str = "
 When did at least T tanks of a log have one of these colours?
 
-  LOG      a station's log: `tanks N` and `from YYYY-MM-DD HH:MM`, then a line for each tank, its name and a letter
-           for each half hour, g green, a amber, r red
+  LOG      a station's log: `tanks N` and `from YYYY-MM-DD HH:MM`, then a line for each tank, its name, a colon and a
+           letter for each half hour, g green, a amber, r red; by a clock that is never put forward or back
   COLOURS  green, amber or red, or several joined by +, as amber+red
   T        a number of tanks, from 1 to as many as the log has
   PROGRAM  the program `threshold`, which is asked the same and must list the same half hours
@@ -58,8 +62,9 @@ fn asked_for(arguments: &[OsString]) -> Result<String, String> {
 
 /// Writes all of a text to standard output. A reader that closed it wants no more, and no message.
 fn put(text: &str) -> Result<(), String> {
-    let mut out = io::stdout().lock();
-    match out.write_all(text.as_bytes()).and_then(|()| out.flush()) {
+    // not by `Stdout`, which takes an output that can't be written to for one that was
+    let out = io::stdout().as_fd().try_clone_to_owned().map(File::from);
+    match out.and_then(|mut out| out.write_all(text.as_bytes())) {
         Err(why) if why.kind() != ErrorKind::BrokenPipe => {
             Err(format!("Standard output can't be written: {why}. What stands there is not the whole answer."))
         }

@@ -242,8 +242,8 @@ fn the_worst_hour_is_in_a_spell() {
 fn what_is_passed_over() {
     let folder = Folder::new();
     let plain = folder.write("plain", log_text("2026-03-02 00:00", &["gaar", "grra", "gggr"]));
-    let text = "\u{feff}# a remark\r\n\r\n  tanks \t 3  \r\nfrom  2026-03-02  00:00 \r\n\t\r\n# tank 9 gggg\r\n\
-                tank  1\tgaar \r\n  tank 2    grra\t\r\ntank\t3 gggr";
+    let text = "\u{feff}# a remark\r\n\r\n  tanks \t 3  \r\nfrom  2026-03-02  00:00 \r\n\t\r\n# tank 9: gggg\r\n\
+                tank  1:\tgaar \r\n  tank 2 :   grra\t\r\ntank\t3:gggr";
     let other = folder.write("other", text);
     let asked = |log: &std::path::Path| tanks(&[log.as_os_str(), "amber+red".as_ref(), "2".as_ref()]).answered();
     assert_eq!(asked(&other), asked(&plain));

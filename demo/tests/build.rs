@@ -12,7 +12,7 @@ use common::{run, Told};
 use mock::Mock;
 
 const WARM: [&str; 2] = ["rt version", "rt check threshold"];
-const WHOLE: [&str; 3] = ["rt version", "rt check threshold", "rt staticlib zvonurel_c"];
+const WHOLE: [&str; 4] = ["rt version", "rt check threshold", "rt staticlib zvonurel_c", "rt version"];
 const ARCHIVE: &str = "target/staticlib/libzvonurel_c.a";
 const PROGRAM: &str = "target/bin/threshold";
 
@@ -81,6 +81,37 @@ fn a_file_that_was_moved_or_removed_is_a_change() {
     calls_again(&mock, &WHOLE, "removed");
 }
 
+/// A folder elsewhere that a link leads to is part of the sources.
+#[test]
+fn what_a_link_leads_to_is_a_source() {
+    let mock = Mock::new();
+    mock.folder.write("elsewhere/more.rt", "// more\n");
+    std::os::unix::fs::symlink(mock.path("elsewhere"), mock.path("crates/one/src/linked")).expect("a link");
+    build(&mock);
+    mock.calls();
+    calls_again(&mock, &WARM, "nothing changed");
+    mock.folder.write("elsewhere/more.rt", "// other\n");
+    calls_again(&mock, &WHOLE, "the file behind the link changed");
+}
+
+/// Sources that are changed while they are proved, and changed back, are not those that the archive is of.
+#[test]
+fn a_change_meanwhile_is_no_proof() {
+    let mock = built();
+    let first = mock.path("crates/one/src/lib.rt");
+    let rt = fs::read_to_string(mock.path("tools/rt")).expect("the stand-in");
+    mock.folder.write("crates/one/src/lib.rt", "// two\n");
+    let edit = format!("[ $1 != staticlib ] || echo '// three' >'{}'", first.display());
+    mock.folder.script("tools/rt", &format!("{edit}\n{}", rt.split_once('\n').expect("a first line").1));
+    let told = build(&mock);
+    assert_eq!((told.status, told.out.as_str()), (Some(1), ""));
+    assert!(told.err.ends_with("build: the sources changed meanwhile: build again.\n"), "{}", told.err);
+    mock.calls();
+    mock.folder.script("tools/rt", rt.split_once('\n').expect("a first line").1);
+    mock.folder.write("crates/one/src/lib.rt", "// two\n");
+    calls_again(&mock, &WHOLE, "no stamp was left");
+}
+
 #[test]
 fn another_version_of_the_toolchain_proves_again() {
     let mock = built();
@@ -100,6 +131,8 @@ fn a_failure_is_shown_whole_and_leaves_no_stamp() {
         assert_eq!((told.status, told.out.as_str()), (Some(1), ""));
         let end = "fn one: proved\nrt: one proved (1 s)\nwhat is wrong\nFAILED: rt check threshold\n";
         assert!(told.err.ends_with(end), "{}", told.err);
+        let left = [ARCHIVE, PROGRAM].map(|name| mock.path(name).exists());
+        assert_eq!(left, [false; 2], "nothing is left that could be taken for proved");
         assert_eq!(mock.calls(), WARM);
     }
     mock.folder.write("crates/one/src/lib.rt", "// one\n");

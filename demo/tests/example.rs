@@ -75,6 +75,10 @@ fn wrong_arguments_beside_those_of_the_week() {
     unbuilt(&folder, &[week, "amber+red", "13"]).refused("There are 12 tanks, so ask for 1 to 12.");
     unbuilt(&folder, &[week, "amber+red", "5", "more"]).refused("Usage: example/run [LOG [COLOURS [T]]].");
     unbuilt(&folder, &["none.txt"]).refused("none.txt: there is no such file: mend its name or its folder.");
+    // a log that has not as many tanks as it says is judged by the demo alone
+    let said = fs::read_to_string(repository("example/week.txt")).expect("the week").replace("tanks 12", "tanks 3");
+    folder.write("three.txt", said);
+    assert!(unbuilt(&folder, &["three.txt"]).err.contains("WAS RUN"));
     // five is what is asked where no number is named
     folder.write("one.txt", log_text("2026-03-02 00:00", &["gar"]));
     unbuilt(&folder, &["one.txt"]).refused("There is 1 tank, so ask for 1.");
@@ -126,9 +130,10 @@ fn the_answer_stands_alone_on_standard_output() {
     assert_eq!((told.status, told.out), (Some(0), expected()));
     assert!(told.err.contains("rt: one proved (1 s)\n"), "{}", told.err);
     let calls = mock.calls();
-    let cargo = "cargo build --quiet --release --package tanks --target-dir target/cargo";
-    assert_eq!(calls[..2], ["rt version", "rt check threshold"]);
-    assert_eq!(calls[2..], ["rt staticlib zvonurel_c", cargo, "ZVONUREL_LIB=unset"]);
+    let cargo =
+        "cargo build --quiet --release --package tanks --target x86_64-unknown-linux-gnu --target-dir target/cargo";
+    assert_eq!(calls[..4], ["rt version", "rt check threshold", "rt staticlib zvonurel_c", "rt version"]);
+    assert_eq!(calls[4..], [cargo, "ZVONUREL_LIB=target/staticlib"]);
     run(&mut mock.command(mock.path("example/run")));
     assert!(!mock.calls().contains(&"rt staticlib zvonurel_c".to_string()), "it is proved once");
 }

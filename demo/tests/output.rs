@@ -54,6 +54,9 @@ fn a_full_disk_is_one() {
         "Standard output can't be written: No space left on device (os error 28). What stands there is not the \
                  whole answer.\n";
     assert_eq!(ended(&mut week(), full()), (Some(1), words.to_string()));
+    // an output that is open for reading alone
+    let (status, told) = ended(&mut week(), Stdio::from(File::open("/dev/null").expect("a device")));
+    assert!(status == Some(1) && told.starts_with("Standard output can't be written: Bad file descriptor"), "{told}");
     // and with nowhere to say so, the status still tells
     let status = week().arg("more").stdout(full()).stderr(full()).status();
     assert_eq!(status.expect("it runs").code(), Some(1));

@@ -28,15 +28,15 @@ fn a_head_line_that_is_missing() {
     log_refused("# nothing\n\n", &format!(": {tanks}"));
     log_refused("from 2026-03-02 00:00\n", &format!(": {tanks}"));
     log_refused("tanks 1\n", &format!(": {from}"));
-    log_refused("from 2026-03-02 00:00\ntank 1 gga\n", &format!(", line 2: {tanks}"));
-    log_refused("tanks 1\n# remark\ntank 1 gga\n", &format!(", line 3: {from}"));
-    log_refused("tanks 1\ntank 1 gga\nfrom 2026-03-02 00:00\n", &format!(", line 2: {from}"));
+    log_refused("from 2026-03-02 00:00\ntank 1: gga\n", &format!(", line 2: {tanks}"));
+    log_refused("tanks 1\n# remark\ntank 1: gga\n", &format!(", line 3: {from}"));
+    log_refused("tanks 1\ntank 1: gga\nfrom 2026-03-02 00:00\n", &format!(", line 2: {from}"));
 }
 
 #[test]
 fn a_head_line_that_is_there_twice() {
     log_refused(format!("{HEAD}tanks 2\n"), ", line 3: `tanks` stands on line 1 already: keep one of the two.");
-    let behind = format!("{HEAD}tank 1 g\ntank 2 g\n\nfrom 2026-03-02 00:00\n");
+    let behind = format!("{HEAD}tank 1: g\ntank 2: g\n\nfrom 2026-03-02 00:00\n");
     log_refused(behind, ", line 6: `from` stands on line 2 already: keep one of the two.");
 }
 
@@ -47,7 +47,7 @@ fn a_number_of_tanks_that_can_not_be() {
             ", line 1: `{text}` is no number of tanks from 1 to 21: write it as `tanks 12`, and share more tanks among \
              several logs."
         );
-        log_refused(format!("tanks {text}\nfrom 2026-03-02 00:00\ntank 1 g\n"), &words);
+        log_refused(format!("tanks {text}\nfrom 2026-03-02 00:00\ntank 1: g\n"), &words);
     }
 }
 
@@ -57,6 +57,10 @@ fn a_date_or_a_time_that_there_is_not() {
     for date in ["2026-02-30", "2026-02-29", "2100-02-29", "2026-13-01", "2026-04-31", "0000-01-01", "Mon", "26-03-02"]
     {
         log_refused(format!("tanks 1\nfrom {date} 00:00\n"), &format!(", line 2: there is no date `{date}`: {form}"));
+    }
+    for date in ["0026-03-02", "1899-12-31", "2200-01-01"] {
+        let words = format!(", line 2: the year of `{date}` is not one from 1900 to 2199: {form}");
+        log_refused(format!("tanks 1\nfrom {date} 00:00\n"), &words);
     }
     for time in ["00:15", "24:00", "7:30", "00.30", "23:59", "noon"] {
         let words = format!(", line 2: `{time}` is none of the times 00:00, 00:30 and so on to 23:30: {form}");
@@ -72,44 +76,61 @@ fn too_few_and_too_many_tanks() {
     let few = ", line 1: this says `tanks 2`, and the log has ";
     let mend = "add the lines that are missing, or mend the number.";
     log_refused(HEAD, &format!("{few}0 tanks: {mend}"));
-    log_refused(format!("{HEAD}tank 1 gga\n"), &format!("{few}1 tank: {mend}"));
+    log_refused(format!("{HEAD}tank 1: gga\n"), &format!("{few}1 tank: {mend}"));
     log_refused(
-        format!("{HEAD}tank 1 gga\ntank 2 gga\n# remark\ntank 3 gga\n"),
+        format!("{HEAD}tank 1: gga\ntank 2: gga\n# remark\ntank 3: gga\n"),
         ", line 6: this is tank 3, and line 1 says `tanks 2`: take out what is too many, or mend the number.",
     );
 }
 
 #[test]
 fn a_name_twice() {
-    for name in ["tank 1", "tank  1", "  tank\t1", "tank\u{a0}1"] {
-        log_refused(
-            format!("{HEAD}tank 1 gga\n{name} ggg\n"),
-            ", line 4: `tank 1` stands on line 3 already: mend the name, or take one of the two out.",
-        );
+    let mend = "mend the name, or take one of the two out.";
+    for name in ["tank 1", "tank  1", "  tank\t1", "tank\u{a0}1 "] {
+        let words = format!(", line 4: `tank 1` stands on line 3 already: {mend}");
+        log_refused(format!("{HEAD}tank 1: gga\n{name}: ggg\n"), &words);
+    }
+    for name in ["Tank 1", "tank1", "tank 01", "tank-1"] {
+        let words = format!(", line 4: `{name}` stands on line 3 already, as `tank 1`: {mend}");
+        log_refused(format!("{HEAD}tank 1: gga\n{name}: ggg\n"), &words);
+    }
+}
+
+/// Two names that look alike, and are not the same to a machine.
+#[test]
+fn a_name_that_can_be_mistaken() {
+    for (name, shown) in [("tank 1\u{200b}", "\\u{200b}"), ("\u{feff}tank 1", "\\u{feff}"), ("t\u{430}nk 1", "\u{430}")]
+    {
+        let words =
+            format!(", line 4: the name has `{shown}`: use the letters a to z, digits, blanks and -_./# alone.");
+        log_refused(format!("{HEAD}tank 1: gga\n{name}: gga\n"), &words);
     }
 }
 
 #[test]
-fn a_line_without_a_name_or_without_letters() {
+fn a_line_without_a_name_a_colon_or_letters() {
     log_refused(
-        format!("{HEAD}ggaar\n"),
-        ", line 3: this tank has no name: write one before its letters, as `tank 1 gga`.",
+        format!("{HEAD}: ggaar\n"),
+        ", line 3: this tank has no name: write one before the colon, as `tank 1: gga`.",
     );
     log_refused(
-        format!("{HEAD}tank1   \n"),
-        ", line 3: `tank1` has no letters: write one for each half hour behind the name, as `tank1 gga`.",
+        format!("{HEAD}tank 1 ggaar\n"),
+        ", line 3: this line has no colon: write a tank's name, a colon and its letters, as `tank 1: gga`.",
+    );
+    log_refused(
+        format!("{HEAD}tank 1:   \n"),
+        ", line 3: `tank 1` has no letters: write one for each half hour behind the colon, as `tank 1: gga`.",
     );
 }
 
-/// Letters in two words would make the first of them a part of the name, and the log shorter.
+/// Letters in parts, as a day's each, are not answered from one of them.
 #[test]
 fn letters_that_stand_apart() {
-    let words =
-        "stands apart from the other letters: write all letters of a tank as one word, and no word of g, a and r \
-                 alone in its name.";
-    log_refused(format!("{HEAD}tank 1 ggg aar\ntank 2 ggg aar\n"), &format!(", line 3: `ggg` {words}"));
-    log_refused(format!("{HEAD}ggg aar\nggr aar\n"), &format!(", line 3: `ggg` {words}"));
-    log_refused(format!("{HEAD}tank 1 gga\ntank 2 g g a\n"), &format!(", line 4: `g` {words}"));
+    for (between, parts) in [(" ", 2), (", ", 2), ("| ", 2), ("\u{200b} ", 2), ("? ", 2), ("\t;\t", 3)] {
+        let tanks = [1, 2].map(|n| format!("tank {n}: ggg{between}aar\n")).concat();
+        let words = format!(", line 3: the letters of `tank 1` stand in {parts} parts: write them as one word.");
+        log_refused(format!("{HEAD}{tanks}"), &words);
+    }
 }
 
 #[test]
@@ -117,19 +138,17 @@ fn a_letter_of_no_colour() {
     let sixteen = "g".repeat(16);
     for (letter, shown) in [("x", "x"), ("G", "G"), (".", "."), ("ä", "ä"), ("\u{1b}", "\\u{1b}"), ("\0", "\\0")] {
         log_refused(
-            format!("{HEAD}tank 1 {sixteen}{letter}ax\n"),
+            format!("{HEAD}tank 1: {sixteen}{letter}ax\n"),
             &format!(", line 3: in `tank 1` letter 17 is `{shown}`: write g, a or r for each half hour."),
         );
     }
-    let none = "has no letters: write one for each half hour behind the name, as `tank 1 gga`.";
-    log_refused(format!("{HEAD}tank 1\n"), &format!(", line 3: `tank 1` {none}"));
 }
 
 #[test]
 fn lines_of_unequal_length() {
     for (letters, length) in [("gga", "3 letters"), ("g", "1 letter"), ("ggaar", "5 letters")] {
         log_refused(
-            format!("{HEAD}tank 1 ggaa\ntank 2 {letters}\n"),
+            format!("{HEAD}tank 1: ggaa\ntank 2: {letters}\n"),
             &format!(
                 ", line 4: `tank 2` has {length}, and `tank 1` on line 3 has 4: give each tank a letter for every half \
                  hour."
@@ -150,7 +169,7 @@ fn more_half_hours_than_the_library_takes() {
 #[test]
 fn bytes_that_are_no_text() {
     let words = ": this is no text in UTF-8: save the log as such, as plain text.";
-    log_refused(b"tanks 1\nfrom 2026-03-02 00:00\ntank \xff g\n", &format!(", line 3{words}"));
+    log_refused(b"tanks 1\nfrom 2026-03-02 00:00\ntank \xff: g\n", &format!(", line 3{words}"));
     log_refused(b"\xff\xfet\0a\0n\0k\0s\0", &format!(", line 1{words}"));
 }
 
@@ -186,6 +205,12 @@ fn a_file_that_may_not_be_read() {
     }
     let told = run(command.arg(&log).args(["red", "1"]));
     told.refused(&format!("{}: you may not read this file: ask its owner to allow it.", log.display()));
+}
+
+#[test]
+fn a_file_without_end() {
+    tanks(&["/dev/zero", "red", "1"])
+        .refused("/dev/zero: this is too long for a log: name another file, or split it by time.");
 }
 
 #[test]

@@ -30,9 +30,9 @@ esac"#;
 const CARGO: &str = r#"
 echo "cargo $*" >>"$CALLS"
 [ -z "${CARGO_FAILING:-}" ] || { echo "error: it does not compile" >&2; exit 101; }
-echo "ZVONUREL_LIB=${ZVONUREL_LIB-unset}" >>"$CALLS"
-mkdir -p target/cargo/release
-cp "$TANKS" target/cargo/release/tanks
+echo "ZVONUREL_LIB=${ZVONUREL_LIB#"$PWD"/}" >>"$CALLS"
+mkdir -p target/cargo/x86_64-unknown-linux-gnu/release
+cp "$TANKS" target/cargo/x86_64-unknown-linux-gnu/release/tanks
 echo "noise on standard output""#;
 
 /// Lists what the demo draws for `example/week.txt`.

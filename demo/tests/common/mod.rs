@@ -64,7 +64,7 @@ impl Drop for Folder {
 
 /// A log of tanks `tank 1`, `tank 2` and so on, with these letters.
 pub fn log_text<S: AsRef<str>>(from: &str, letters: &[S]) -> String {
-    let tanks = letters.iter().zip(1..).map(|(letters, n)| format!("tank {n} {}\n", letters.as_ref()));
+    let tanks = letters.iter().zip(1..).map(|(letters, n)| format!("tank {n}: {}\n", letters.as_ref()));
     format!("tanks {}\nfrom {from}\n{}", letters.len(), tanks.collect::<String>())
 }
 
