@@ -1,6 +1,6 @@
 /*
- * Lists the set rows of a body, and its spells, which are the longest runs of set rows. Writes a line for each, or the
- * refusal, with exit status 1.
+ * From plain words to an index, a threshold question on it, and the answer row by row and spell by spell; a spell is an
+ * unbroken run of set rows, as long as it goes. Writes a line for each, or the refusal, with exit status 1.
  *
  *   gcc -std=c99 -Iinclude example/listing.c target/staticlib/libzvonurel_c.a -o target/listing && target/listing
  */
@@ -10,6 +10,9 @@
 #include <stdio.h>
 
 #define ROWS 96u
+#define BITMAPS 3u
+#define CONTENTS_END (ZV_HEAD_WORDS + BITMAPS * ZV_ENTRY_WORDS)
+#define INDEX_ROOM (CONTENTS_END + BITMAPS * ZV_MOST_BODY_WORDS(ROWS))
 
 static int refused(uint32_t number, uint32_t bitmap, uint64_t word)
 {
@@ -18,8 +21,31 @@ static int refused(uint32_t number, uint32_t bitmap, uint64_t word)
     return 1;
 }
 
+/* Writes the head, the contents and the bodies of an index, which has room for INDEX_ROOM words. Returns how many words
+ * it has, or 0 where a bitmap was refused. */
+static size_t make_index(const uint32_t plain[BITMAPS][ZV_SEGMENTS(ROWS)], uint32_t *index)
+{
+    size_t end = CONTENTS_END;
+
+    index[0] = ZV_INDEX_KIND;
+    index[1] = ROWS;
+    index[2] = BITMAPS;
+    for (size_t k = 0; k < BITMAPS; k++) {
+        uint32_t *entry = index + ZV_HEAD_WORDS + k * ZV_ENTRY_WORDS;
+        zv_written told = zv_compress(ROWS, plain[k], ZV_SEGMENTS(ROWS), index + end, INDEX_ROOM - end);
+        if (told.number != ZV_FINE) {
+            refused(told.number, told.bitmap, told.word);
+            return 0;
+        }
+        entry[0] = (uint32_t)end;
+        entry[1] = (uint32_t)told.words;
+        end += (size_t)told.words;
+    }
+    return end;
+}
+
 /* README: begin */
-/* Writes each set row of a body, or the refusal, with 1. `plain` is lent, and needs ZV_SEGMENTS(rows) words. */
+/* Writes each set row of a body and returns 0, or 1 after a refusal. `plain` is lent, ZV_SEGMENTS(rows) words of it. */
 static int list_rows(const uint32_t *body, size_t body_words, uint32_t rows, uint32_t *plain, size_t plain_words)
 {
     zv_written told = zv_expand(body, body_words, rows, plain, plain_words);
@@ -53,15 +79,28 @@ static void list_spells(const uint32_t *plain, uint32_t rows)
 
 int main(void)
 {
-    static const uint32_t given[ZV_SEGMENTS(ROWS)] = {0xC0000020, 0x7, 0x80000000}; /* rows 5, 30 to 34, and 95 */
-    uint32_t body[ZV_MOST_BODY_WORDS(ROWS)], plain[ZV_SEGMENTS(ROWS)];
-    zv_written told = zv_compress(ROWS, given, ZV_SEGMENTS(ROWS), body, ZV_MOST_BODY_WORDS(ROWS));
+    static const uint32_t given[BITMAPS][ZV_SEGMENTS(ROWS)] = {
+        {0xC0000020, 0x7, 0x80000000}, /* rows 5, 30 to 34, and 95 */
+        {0xC0000020, 0x0, 0x80000000}, /* rows 5, 30, 31 and 95 */
+        {0x00000400, 0x7, 0x00000000}, /* rows 10 and 32 to 34 */
+    };
+    static const uint32_t list[BITMAPS] = {0, 1, 2};
+    uint32_t index[INDEX_ROOM], body[ZV_MOST_BODY_WORDS(ROWS)], plain[ZV_SEGMENTS(ROWS)];
+    size_t words = make_index(given, index);
+    zv_answered told;
+
+    if (words == 0) {
+        return 1;
+    }
+    /* the rows that at least two of the three have */
+    told = zv_threshold(index, words, list, BITMAPS, 2, body, ZV_MOST_BODY_WORDS(ROWS));
     if (told.number != ZV_FINE) {
         return refused(told.number, told.bitmap, told.word);
     }
-    if (list_rows(body, told.words, ROWS, plain, ZV_SEGMENTS(ROWS)) != 0) {
+    if (list_rows(body, (size_t)told.words, ROWS, plain, ZV_SEGMENTS(ROWS)) != 0) {
         return 1;
     }
     list_spells(plain, ROWS);
-    return fflush(stdout) == 0 ? 0 : 1; /* a listing that was cut off is not to pass for a whole one */
+    /* a listing that was cut off is not to pass for a whole one */
+    return fflush(stdout) == 0 && !ferror(stdout) ? 0 : 1;
 }

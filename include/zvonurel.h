@@ -1,9 +1,10 @@
 /*
  * Zvonurel for C: EWAH bitmaps of 32-bit words that answer a question rightly or refuse it.
  *
- * Link target/staticlib/libzvonurel_c.a, which `rt staticlib zvonurel_c` writes; `install` puts both where pkg-config
- * finds them. It needs nothing but C's memcpy and memset. crates/zvonurel_c/src/lib.rt has the contract of each call,
- * and every one is proved. What this header itself computes, sizes and texts, is tested and not proved.
+ * Link libzvonurel_c.a, which needs nothing but C's memcpy and memset. In the repository that this header is from,
+ * `./build` proves and writes it and `./install` puts both where pkg-config finds them; there crates/zvonurel_c has the
+ * contract of each call, and every one is proved. What this header itself computes, sizes and texts, is tested and not
+ * proved. Other files that are named here are that repository's too.
  *
  * PLATFORM. x86-64, Linux, the System V calling convention. Words in memory are in the machine's own byte order.
  *
@@ -16,12 +17,18 @@
  * Of the words themselves nothing is owed: what is wrong with them is refused.
  *
  * ROWS. Row r stands in segment r / ZV_WORD_BITS, at bit r % ZV_WORD_BITS, the lowest bit first. R rows have
- * (R + ZV_WORD_BITS - 1) / ZV_WORD_BITS segments; in the last one the bits past row R - 1 are pad bits, and are zero.
- * A body says the segments by markers and dirty words. Plain words are the segments themselves.
+ * ZV_SEGMENTS(R) segments. What the last one has behind row R - 1 are pad bits, of which none may be set. Plain words
+ * are the segments themselves.
+ *
+ * A BODY says the segments by markers, each with its dirty words behind it, which are segments as they are. Bit 0 of a
+ * marker is the value of the clean segments before them, all zeros or all ones; from bit ZV_CLEAN_SHIFT on stands how
+ * many these are, at most ZV_MOST_CLEAN, and from bit ZV_DIRTY_SHIFT on how many dirty words follow, at most
+ * ZV_MOST_DIRTY. docs/FORMAT.md has examples. zv_compress writes a body of plain words.
  *
  * AN INDEX has a head of ZV_HEAD_WORDS words: ZV_INDEX_KIND in word 0, the rows in word 1, the number N of bitmaps in
  * word 2. Then ZV_ENTRY_WORDS words for each bitmap: where its body starts and how many words it has. Then the bodies,
- * one behind the other. The whole of it is checked for every question. Bitmaps are numbered from 0.
+ * one behind the other. The whole of it is checked for every question. Bitmaps are numbered from 0. example/listing.c
+ * makes one.
  *
  * ANSWERS. `number` is 0 where the call was not refused. Else `number`, `bitmap` and `word` say why, every value
  * beside them is 0, and no word of the buffer changes. A call that writes puts its words at the front of the buffer;
@@ -39,8 +46,8 @@
  * and scan the bits, as example/listing.c does: for 20,000 scattered set rows that is some thousand times as fast.
  *
  * STACK. A call needs less than ZV_MOST_STACK bytes of stack, whatever it is given: none recurses, and none has an
- * array whose length depends on the input. tests/c/stack.c measures less than 4 KiB. A program's first memcpy or
- * memset may add some 3 KiB, while the system looks for it.
+ * array whose length depends on the input. tests/c/stack.c measures some 4 KiB. A program's first memcpy or memset may
+ * add some 3 KiB, while the system looks for it.
  */
 #ifndef ZVONUREL_H
 #define ZVONUREL_H
@@ -74,6 +81,9 @@ extern "C" {
 /* The most clean segments, and the most dirty words, that one marker counts. */
 #define ZV_MOST_CLEAN 65535u
 #define ZV_MOST_DIRTY 32767u
+/* The lowest bit of a marker's clean count, above the value, and of its dirty count, which goes up to the highest. */
+#define ZV_CLEAN_SHIFT 1u
+#define ZV_DIRTY_SHIFT 17u
 /* The bits of a word, which are the rows of a segment. */
 #define ZV_WORD_BITS 32u
 /* More bytes of stack than any call needs. */
@@ -118,8 +128,8 @@ extern "C" {
  * that has it. */
 #define ZV_PAD_BIT 7u
 /* A bad argument: no such bitmap; no such row; fewer set rows than asked for; a list of no numbers or more than
- * ZV_MOST_NAMED; a threshold of 0 or above the list's length; a table without one entry more than the list, or with an
- * entry other than 0 and 1; not as many plain words as the rows have segments. bitmap 0, word 0. */
+ * ZV_MOST_NAMED; a threshold of 0 or above the list's length; a table that is not exactly one entry longer than the
+ * list, or has an entry other than 0 and 1; not as many plain words as the rows have segments. bitmap 0, word 0. */
 #define ZV_BAD_ARGUMENT 8u
 /* The answer does not fit into the buffer. bitmap 0; word: the words needed. */
 #define ZV_NO_ROOM 9u

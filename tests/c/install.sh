@@ -66,6 +66,12 @@ refused "no option -x" "$root/install" -x
 refused "PREFIX is empty" "$root/install" ""
 refused "one PREFIX at most" "$root/install" one two
 refused "letters, digits" "$root/install" "a folder"
+refused "letters, digits" "$root/install" @VERSION@
+
+# A folder in a file's place is not filled.
+mkdir -p taken/include/zvonurel.h
+! "$root/install" taken >said 2>error || fail "a folder in the header's place was taken"
+[ -z "$(ls taken/include/zvonurel.h)" ] || fail "the header went into a folder"
 
 # A tree without an archive, and then with one and another version.
 mkdir -p copy/include copy/target/staticlib

@@ -1,7 +1,7 @@
 /*
  * The stack that each call needs. The call runs on a painted stack of its own, and what is used of it is all from the
  * lowest byte without paint: by the call, its caller here, and what starts and ends the two, which the first line has
- * alone. Writes a line for each call, and the most, with exit status 1 if that is above ZV_MOST_STACK, or if a call
+ * alone. Writes a line for each call, and the most, with exit status 1 if that is not below ZV_MOST_STACK, or if a call
  * was refused, since then it may not have gone all its way.
  *
  *   gcc -std=c99 -Wall -Wextra -Werror -pedantic -Iinclude tests/c/stack.c \
@@ -157,6 +157,6 @@ int main(void)
         most = used > most ? used : most;
         printf("%-18s %6zu bytes\n", calls[i].name, used);
     }
-    printf("the most is %zu bytes; the header says at most %u\n", most, ZV_MOST_STACK);
-    return most <= ZV_MOST_STACK ? 0 : 1;
+    printf("the most is %zu bytes; the header says less than %u\n", most, ZV_MOST_STACK);
+    return most < ZV_MOST_STACK ? 0 : 1;
 }

@@ -121,6 +121,8 @@ fn header() {
         ("ENTRY_WORDS", ENTRY_WORDS),
         ("MOST_CLEAN", MOST_CLEAN),
         ("MOST_DIRTY", MOST_DIRTY),
+        ("CLEAN_SHIFT", CLEAN_SHIFT as usize),
+        ("DIRTY_SHIFT", DIRTY_SHIFT as usize),
         ("WORD_BITS", WORD_BITS),
         ("TOO_SHORT", Refusal::TOO_SHORT as usize),
         ("NOT_AN_INDEX", Refusal::NOT_AN_INDEX as usize),
