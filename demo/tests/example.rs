@@ -75,10 +75,12 @@ fn wrong_arguments_beside_those_of_the_week() {
     unbuilt(&folder, &[week, "amber+red", "13"]).refused("There are 12 tanks, so ask for 1 to 12.");
     unbuilt(&folder, &[week, "amber+red", "5", "more"]).refused("Usage: example/run [LOG [COLOURS [T]]].");
     unbuilt(&folder, &["none.txt"]).refused("none.txt: there is no such file: mend its name or its folder.");
-    // a log that has not as many tanks as it says is judged by the demo alone
-    let said = fs::read_to_string(repository("example/week.txt")).expect("the week").replace("tanks 12", "tanks 3");
-    folder.write("three.txt", said);
-    assert!(unbuilt(&folder, &["three.txt"]).err.contains("WAS RUN"));
+    // a log that has not as many tanks as it says, or says it twice, is judged by the demo alone
+    let text = fs::read_to_string(week).expect("the week");
+    for said in ["tanks 3", "tanks 12\ntanks 12"] {
+        folder.write("other.txt", text.replace("tanks 12", said));
+        assert!(unbuilt(&folder, &["other.txt", "amber+red", "13"]).err.contains("WAS RUN"), "{said}");
+    }
     // five is what is asked where no number is named
     folder.write("one.txt", log_text("2026-03-02 00:00", &["gar"]));
     unbuilt(&folder, &["one.txt"]).refused("There is 1 tank, so ask for 1.");
