@@ -1,23 +1,24 @@
 -- The next piece of a body, word by word.
 -- Assumes nothing.
 use Prim.Native.Nat.{ℕ, zero, suc, _+_, _-_, _≤_, _<_}
-use mathlib.Core.Path.{_≡_, refl, sym, ap, _∙_}
+use mathlib.Core.Path.{_≡_, refl, sym, ap, _∙_, subst}
 use mathlib.Core.List.{List, [], _∷_}
 use native.Mathlib.Omega.{arith}
 use native.Mathlib.Numerals.{add-one}
 use lib.ListN.{length, drop, getD, drop-of-length-le}
 use lib.Seq.{drop-cons}
 use Rattle.meaning.specs.Limits.{mostDirty}
-use Rattle.meaning.specs.Ewah.{Piece, dirtyWord, runThen, pieces}
+use Rattle.meaning.specs.Ewah.{Piece, dirtyWord, runThen, pieces, pieceSize}
 use Rattle.ewah.specs.declared.marker.Marker.{Marker}
 use Rattle.ewah.specs.declared.cursor.Cursor.{Cursor}
 use Rattle.ewah.specs.declared.cursor.Piece as code
 use Rattle.ewah.specs.declared.cursor.Piece.the-variants.{Clean, Dirty}
 use Rattle.ewah.specs.Markers.{FieldsOf}
-use Rattle.ewah.specs.Cursors.{Stands, InOrder, leftOf, piecesFrom, pieceThen}
-use Rattle.meaning.specs.Ahead.{advanced, firstSize}
+use Rattle.ewah.specs.Cursors.{Stands, InOrder, leftOf, piecesFrom, pieceThen, spanOf, behind, Passes}
+use Rattle.meaning.specs.Ahead.{Ahead, advanced, firstSize}
+use Rattle.meaning.proofs.Walked.{ahead-on}
 
-cons-at : (b : List ℕ) (at : ℕ) → at < length b → drop at b ≡ getD b at 0 ∷ drop (at + 1) b
+pub cons-at : (b : List ℕ) (at : ℕ) → at < length b → drop at b ≡ getD b at 0 ∷ drop (at + 1) b
 cons-at b at h = drop-cons b at 0 h ∙ ap (λ (n : ℕ). getD b at 0 ∷ drop n b) (sym (add-one at))
 
 run-zero : (v n : ℕ) (ps : List Piece) → n ≡ 0 → runThen v n ps ≡ ps
@@ -25,7 +26,7 @@ unfolding runThen
 run-zero v zero ps e = refl
 run-zero v (suc n) ps e = absurd (omega arith)
 
-pieces-dirty : (due x : ℕ) (ws : List ℕ) → (due ≡ 0 → ⊥) → pieces due (x ∷ ws) ≡ dirtyWord x ∷ pieces (due - 1) ws
+pub pieces-dirty : (due x : ℕ) (ws : List ℕ) → (due ≡ 0 → ⊥) → pieces due (x ∷ ws) ≡ dirtyWord x ∷ pieces (due - 1) ws
 unfolding pieces
 pieces-dirty zero x ws h = absurd (h refl)
 pieces-dirty (suc due) x ws h = let e : suc due - 1 ≡ due = omega arith in rw e
@@ -37,7 +38,7 @@ module _ (b : List ℕ) (at due : ℕ) (ps : List Piece) (inv : pieces due (drop
   at-end h i =
       let none : ps ≡ [] = sym inv ∙ (unfold pieces in rw (drop-of-length-le b h)) in
       record {
-        in-order = record { inside = i; value-low = omega arith; left-low = omega arith; dirty-low = omega arith };
+        in-order = record { inside = i; value-low = omega arith; left-low = omega arith; dirty-low = omega arith; word-is = tt };
         has = rw (drop-of-length-le b h) (unfold pieces in sym none);
         at-end = λ z. none;
       }
@@ -46,7 +47,7 @@ module _ (b : List ℕ) (at due : ℕ) (ps : List Piece) (inv : pieces due (drop
     pub on-dirty : (due ≡ 0 → ⊥) → due ≤ mostDirty → Stands b (record { piece = Dirty (getD b at 0); next = at + 1; dirty = due - 1 }) ps
     unfolding piecesFrom pieceThen
     on-dirty k l = record {
-      in-order = record { inside = omega arith; value-low = tt; left-low = omega arith; dirty-low = omega arith };
+      in-order = record { inside = omega arith; value-low = tt; left-low = omega arith; dirty-low = omega arith; word-is = (omega arith, (let e : at + 1 - 1 ≡ at = omega arith in rw e)) };
       has = sym (pieces-dirty due (getD b at 0) (drop (at + 1) b) k) ∙ ap (pieces due) (sym (cons-at b at h)) ∙ inv;
       at-end = λ z. absurd (omega arith);
     }
@@ -59,7 +60,7 @@ module _ (b : List ℕ) (at due : ℕ) (ps : List Piece) (inv : pieces due (drop
       pub on-run : (m .clean ≡ 0 → ⊥) → Stands b (record { piece = Clean (m .value) (m .clean); next = at + 1; dirty = m .dirty }) ps
       unfolding piecesFrom pieceThen
       on-run k = record {
-        in-order = record { inside = omega arith; value-low = f .in-range .value-low; left-low = f .in-range .clean-low; dirty-low = f .in-range .dirty-low };
+        in-order = record { inside = omega arith; value-low = f .in-range .value-low; left-low = f .in-range .clean-low; dirty-low = f .in-range .dirty-low; word-is = tt };
         has = marked;
         at-end = λ e. absurd (k e);
       }
@@ -88,7 +89,7 @@ module _ (b : List ℕ) (c : Cursor) (n : ℕ) (o : InOrder b c) (g : 1 ≤ n) (
       → Stands b (record { piece = Clean v (k - n); next = c .next; dirty = c .dirty }) (advanced n (piecesFrom b c))
   unfolding piecesFrom pieceThen
   run-shorter v k e l = record {
-    in-order = record { inside = o .inside; value-low = rw e at (o .value-low); left-low = omega (arith, o .left-low, ap leftOf e); dirty-low = o .dirty-low };
+    in-order = record { inside = o .inside; value-low = rw e at (o .value-low); left-low = omega (arith, o .left-low, ap leftOf e); dirty-low = o .dirty-low; word-is = tt };
     has = sym (ap (λ (q : code.Piece). advanced n (pieceThen q others)) e ∙ part k l);
     at-end = λ z. absurd (omega arith);
   }
@@ -109,3 +110,46 @@ module _ (b : List ℕ) (c : Cursor) (n : ℕ) (o : InOrder b c) (g : 1 ≤ n) (
   pub dirty-over : (x : ℕ) (r : Cursor) → c .piece ≡ Dirty x → Stands b r (pieces (c .dirty) (drop (c .next) b)) → Stands b r (advanced n (piecesFrom b c))
   unfolding piecesFrom pieceThen advanced
   dirty-over x r e s = rw e s
+
+-- ---- n segments on, up to the next marker
+
+-- over n of the dirty words that are due
+pub skip-dirty : (b : List ℕ) (o n next d : ℕ) → n ≤ d → next + n ≤ length b → Ahead b o (pieces d (drop next b)) → Ahead b (o + n) (pieces (d - n) (drop (next + n) b))
+unfolding advanced firstSize pieceSize
+skip-dirty b o zero next d h l a =
+    let e : o + 0 ≡ o = omega arith in
+    let f : d - 0 ≡ d = omega arith in
+    let g : next + 0 ≡ next = omega arith in
+    rw (e, f, g) a
+skip-dirty b o (suc n) next d h l a =
+    let w = getD b next 0 in
+    let first : pieces d (drop next b) ≡ dirtyWord w ∷ pieces (d - 1) (drop (next + 1) b) = ap (pieces d) (cons-at b next (omega arith)) ∙ pieces-dirty d w (drop (next + 1) b) (omega arith) in
+    let one : Ahead b (o + 1) (pieces (d - 1) (drop (next + 1) b)) =
+          ahead-on b o 1 (dirtyWord w ∷ pieces (d - 1) (drop (next + 1) b)) (subst (λ (ps : List Piece). Ahead b o ps) first a) (omega arith) (omega arith) in
+    let e : o + 1 + n ≡ o + suc n = omega arith in
+    let f : d - 1 - n ≡ d - suc n = omega arith in
+    let g : next + 1 + n ≡ next + suc n = omega arith in
+    rw (e, f, g) at (skip-dirty b (o + 1) n (next + 1) (d - 1) (omega arith) (omega arith) one)
+
+module _ (b : List ℕ) (c : Cursor) (n : ℕ) (g : 1 ≤ n) where
+  -- within one piece
+  pub passes-one : n ≤ leftOf (c .piece) → (r : Cursor) → Stands b r (advanced n (piecesFrom b c)) → Passes b c n r
+  passes-one h r s = record {
+    in-order = s .in-order;
+    on = λ o a. rw (s .has) (ahead-on b o n (piecesFrom b c) a g (omega (arith, first-left b c (omega arith))));
+    at-end = λ z. s .has ∙ s .at-end z;
+  }
+
+  -- over n dirty words
+  pub passes-dirty : (x : ℕ) → c .piece ≡ Dirty x → n ≤ c .dirty + 1 → c .next + (n - 1) ≤ length b
+      → (r : Cursor) → Stands b r (pieces (c .dirty - (n - 1)) (drop (c .next + (n - 1)) b)) → Passes b c n r
+  unfolding piecesFrom pieceThen advanced firstSize pieceSize
+  passes-dirty x e h l r s = record {
+    in-order = s .in-order;
+    on = λ o a.
+        let f : Ahead b o (dirtyWord x ∷ pieces (c .dirty) (drop (c .next) b)) = subst (λ (q : code.Piece). Ahead b o (pieceThen q (pieces (c .dirty) (drop (c .next) b)))) e a in
+        let one : Ahead b (o + 1) (pieces (c .dirty) (drop (c .next) b)) = ahead-on b o 1 (dirtyWord x ∷ pieces (c .dirty) (drop (c .next) b)) f (omega arith) (omega arith) in
+        let k : o + 1 + (n - 1) ≡ o + n = omega arith in
+        rw (s .has) (rw k at (skip-dirty b (o + 1) (n - 1) (c .next) (c .dirty) (omega arith) l one));
+    at-end = λ z. s .has ∙ s .at-end z;
+  }

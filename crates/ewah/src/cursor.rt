@@ -1,10 +1,10 @@
 // A cursor over the pieces of a body, one after the other; a clean run may be taken in parts.
 ghost use mathlib.Core.Path.{_≡_};
-ghost use Prim.Native.Nat.{_≤_, _<_};
+ghost use Prim.Native.Nat.{_+_, _≤_, _<_};
 ghost use lib.ListN.{length, drop};
 ghost use Rattle.meaning.specs.Limits.{mostDirty};
 ghost use Rattle.meaning.specs.Ewah.{pieces};
-ghost use Rattle.ewah.specs.Cursors.{Stands, InOrder, leftOf, piecesFrom};
+ghost use Rattle.ewah.specs.Cursors.{Stands, InOrder, leftOf, piecesFrom, spanOf, behind, Passes};
 ghost use Rattle.meaning.specs.Ahead.{advanced};
 use crate::marker;
 
@@ -98,5 +98,42 @@ pub fn advance(body: &[u32], c: Cursor, n: u32) -> Cursor
             load(body, next, dirty)
         }
         Piece::Dirty(_) => load(body, next, dirty),
+    }
+}
+
+// How many segments there are up to the next marker: what is left of a run, or the dirty words from the cursor's on.
+pub fn span(c: Cursor) -> u32
+    requires { ⌜ c .dirty ≤ mostDirty ⌝ }
+    ensures { λ r. ⌜ r ≡ spanOf c ⌝ }
+{
+    let piece = c.piece;
+    let dirty = c.dirty;
+    match piece {
+        Piece::Clean(_, n) => n,
+        Piece::Dirty(_) => dirty + 1,
+    }
+}
+
+// n segments on, at most to the next marker.
+pub fn pass(body: &[u32], c: Cursor, n: u32) -> Cursor
+    requires { ⌜ InOrder (now body) c ⌝ }
+    requires { ⌜ (1 ≤ n) × (n ≤ spanOf c) × (c .next + behind (c .piece) n ≤ length (now body)) ⌝ }
+    ensures { λ r. ⌜ Passes (now (body .entry)) c n r ⌝ }
+{
+    let piece = c.piece;
+    let next = c.next;
+    let dirty = c.dirty;
+    match piece {
+        Piece::Clean(value, k) => {
+            if n < k {
+                return Cursor {
+                    piece: Piece::Clean(value, k - n),
+                    next,
+                    dirty,
+                };
+            }
+            load(body, next, dirty)
+        }
+        Piece::Dirty(_) => load(body, next + (n - 1) as usize, dirty - (n - 1)),
     }
 }

@@ -8,6 +8,9 @@ pub mod Canonical
 pub mod Index
 pub mod Question
 pub mod Answer
+pub mod NewIndex
+pub mod Column
+pub mod Columns
 pub mod Demands
 pub mod Paragraph
 pub mod Laws

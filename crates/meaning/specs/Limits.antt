@@ -12,7 +12,7 @@ wordBits = 32
 
 -- Numbers of refusal: the greatest
 abbrev pub mostNumber : ℕ
-mostNumber = 9
+mostNumber = 11
 
 -- The index: the greatest number of rows
 abbrev pub mostRows : ℕ
@@ -47,6 +47,34 @@ placeNumbers = 4
 
 abbrev pub queryNumbers : ℕ
 queryNumbers = placeNumbers * mostNamed
+
+-- Request 1: the fewest numbers that name a column (existence and one slice), the most (existence and 32 slices), and the most
+-- where only a value is asked (existence and the 33 slices that a sum can have)
+abbrev pub leastColumn : ℕ
+leastColumn = 2
+
+abbrev pub mostColumn : ℕ
+mostColumn = 33
+
+abbrev pub mostValueColumn : ℕ
+mostValueColumn = mostColumn + 1
+
+-- the segments that are read and written at a time, as a row of words for each place of a column, and the words of all such rows
+abbrev pub blockSegments : ℕ
+blockSegments = 16
+
+abbrev pub blockWords : ℕ
+blockWords = mostValueColumn * blockSegments
+
+-- the numbers that are kept for each body being written, and for all of them; and where each starts, and the last one's end
+abbrev pub writerNumbers : ℕ
+writerNumbers = 5
+
+abbrev pub writersNumbers : ℕ
+writersNumbers = mostValueColumn * writerNumbers
+
+abbrev pub mostStarts : ℕ
+mostStarts = mostValueColumn + 1
 
 -- the words of the bodies that a list can name: what 32 bits can say of each
 abbrev pub mostNamedWords : ℕ

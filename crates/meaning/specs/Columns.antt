@@ -1,0 +1,116 @@
+-- The outcome of every call on columns of an index. A list of bitmap numbers names a column: existence first, then its slices, the
+-- lowest first; a number may be named twice. Request 1. The order of refusals is the index's own, 8, 11, 9.
+-- Assumes nothing.
+use Prim.Native.Nat.{ℕ, suc, _-_, max}
+use mathlib.Core.Bool.{Bool, false, not, _||_}
+use mathlib.Core.List.{List, [], _∷_}
+use lib.Dec.{leb, ltb}
+use lib.ListN.{length}
+use Rattle.meaning.specs.Limits.{leastColumn, mostColumn, mostValueColumn}
+use Rattle.meaning.specs.Rows.{countBelow, nthBelow}
+use Rattle.meaning.specs.Refusal.{Outcome, answer, Verdict, sound, refuseIf, _then_}
+use Rattle.meaning.specs.Index.{rowCount, rowsAt}
+use Rattle.meaning.specs.Question.{intersection, difference}
+use Rattle.meaning.specs.Answer.{check, anyBad, named}
+use Rattle.meaning.specs.NewIndex.{writeIndex}
+use Rattle.meaning.specs.Column.{valueOf, columnOf, sumValue}
+
+-- how many slices a list names
+unfoldable pub sliceCount : List ℕ → ℕ
+sliceCount list = length list - 1
+
+-- how many the wider of two columns has
+unfoldable pub wider : (first second : List ℕ) → ℕ
+unfolding sliceCount
+wider first second = max (sliceCount first) (sliceCount second)
+
+module _ (index : List ℕ) where
+  -- ---- the column that a list names
+
+  -- the rows that exist
+  unfoldable pub existing : List ℕ → ℕ → Bool
+  unfolding rowsAt
+  existing [] r = false
+  existing (k ∷ ks) r = rowsAt index k r
+
+  -- its slices, the lowest first
+  unfoldable pub slicesOf : List ℕ → List (ℕ → Bool)
+  unfolding named
+  slicesOf [] = []
+  slicesOf (k ∷ ks) = named index ks
+
+  -- the value of row r
+  unfoldable pub valueAt : List ℕ → ℕ → ℕ
+  unfolding valueOf slicesOf
+  valueAt list r = valueOf (slicesOf list) r
+
+  -- ---- refusals
+
+  -- 8: a list of fewer than 2 or more than `most` numbers, or that names a bitmap that is not there
+  unfoldable pub badColumn : (most : ℕ) → List ℕ → Bool
+  unfolding anyBad
+  badColumn most list = ltb (length list) leastColumn || ltb most (length list) || anyBad index list
+
+  -- 8: there is no row r, or it does not exist
+  unfoldable pub badRow : List ℕ → ℕ → Bool
+  unfolding rowCount existing
+  badRow list r = leb (rowCount index) r || not (existing list r)
+
+  -- a slice has a row that does not exist
+  unfoldable pub strayRows : (exists : ℕ → Bool) (k : ℕ) → ℕ → Bool
+  unfolding difference rowsAt
+  strayRows exists k = difference (rowsAt index k) exists
+
+  -- 11: the first such slice's bitmap number, and the lowest such row of it
+  unfoldable pub straysIn : (exists : ℕ → Bool) → List ℕ → Verdict
+  unfolding refuseIf rowCount strayRows countBelow nthBelow
+  straysIn exists [] = sound
+  straysIn exists (k ∷ ks) =
+      refuseIf (ltb 0 (countBelow (rowCount index) (strayRows exists k)))
+      11 k (nthBelow (rowCount index) (strayRows exists k) 0)
+      (straysIn exists ks)
+
+  -- of the column that a list names
+  unfoldable pub strays : List ℕ → Verdict
+  unfolding straysIn existing rowsAt
+  strays [] = sound
+  strays (k ∷ ks) = straysIn (rowsAt index k) ks
+
+  -- ---- a value
+
+  -- what is left once the index is sound: every 8 comes before any 11
+  unfoldable pub askValue : (list : List ℕ) (r : ℕ) → Outcome ℕ
+  unfolding _then_ refuseIf badColumn badRow strays valueAt
+  askValue list r =
+      refuseIf (badColumn mostValueColumn list || badRow list r) 8 0 0
+      (strays list then answer (valueAt list r))
+
+  -- `value`
+  unfoldable pub value : (list : List ℕ) (r : ℕ) → Outcome ℕ
+  unfolding check _then_ askValue
+  value list r = check index then askValue list r
+
+  -- ---- two columns, as a new index: a row exists in it if it does in both
+
+  -- the bitmaps of an answer of n slices, whose value at a row is `op n` of the two columns' values
+  unfoldable pub pairColumn : (op : (n x y : ℕ) → ℕ) (n : ℕ) (first second : List ℕ) → List (ℕ → Bool)
+  unfolding columnOf intersection existing valueAt
+  pairColumn op n first second =
+      columnOf (intersection (existing first) (existing second)) (λ r. op n (valueAt first r) (valueAt second r)) n
+
+  -- what is left once the index is sound
+  unfoldable pub askPair : (op : (n x y : ℕ) → ℕ) (n : ℕ) (first second : List ℕ) (room : ℕ) → Outcome (List ℕ)
+  unfolding _then_ refuseIf badColumn strays writeIndex rowCount pairColumn
+  askPair op n first second room =
+      refuseIf (badColumn mostColumn first || badColumn mostColumn second) 8 0 0
+      (strays first then strays second then writeIndex (rowCount index) (pairColumn op n first second) room)
+
+  -- the sum has one slice more than the wider column
+  unfoldable pub askSum : (first second : List ℕ) (room : ℕ) → Outcome (List ℕ)
+  unfolding askPair sumValue wider
+  askSum first second room = askPair sumValue (suc (wider first second)) first second room
+
+  -- `sum`
+  unfoldable pub sum : (first second : List ℕ) (room : ℕ) → Outcome (List ℕ)
+  unfolding check _then_ askSum
+  sum first second room = check index then askSum first second room
