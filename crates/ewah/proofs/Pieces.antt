@@ -125,7 +125,7 @@ skip-dirty b o (suc n) next d h l a =
     let w = getD b next 0 in
     let first : pieces d (drop next b) ≡ dirtyWord w ∷ pieces (d - 1) (drop (next + 1) b) = ap (pieces d) (cons-at b next (omega arith)) ∙ pieces-dirty d w (drop (next + 1) b) (omega arith) in
     let one : Ahead b (o + 1) (pieces (d - 1) (drop (next + 1) b)) =
-          ahead-on b o 1 (dirtyWord w ∷ pieces (d - 1) (drop (next + 1) b)) (subst (λ (ps : List Piece). Ahead b o ps) first a) (omega arith) (omega arith) in
+    ahead-on b o 1 (dirtyWord w ∷ pieces (d - 1) (drop (next + 1) b)) (subst (λ (ps : List Piece). Ahead b o ps) first a) (omega arith) (omega arith) in
     let e : o + 1 + n ≡ o + suc n = omega arith in
     let f : d - 1 - n ≡ d - suc n = omega arith in
     let g : next + 1 + n ≡ next + suc n = omega arith in

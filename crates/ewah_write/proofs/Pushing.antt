@@ -22,7 +22,7 @@ use Rattle.ewah_write.proofs.Growing.{used-is, free-is, free-open, free
 -- ---- words in a buffer that begins with the words l
 
 -- one of them is changed
-redrawn : (out : List ℕ) (n at m : ℕ) (done : List ℕ) (a : ℕ) (ds : List ℕ) → take n out ≡ done ++ a ∷ ds → at ≡ length done → at < n
+pub redrawn : (out : List ℕ) (n at m : ℕ) (done : List ℕ) (a : ℕ) (ds : List ℕ) → take n out ≡ done ++ a ∷ ds → at ≡ length done → at < n
     → take n (set out at m) ≡ done ++ m ∷ ds
 redrawn out n at m done a ds e f h = take-set-lt n out at m h ∙ ap (λ (l : List ℕ). set l at m) e ∙ set-at done a ds m at (sym f)
 
@@ -36,7 +36,7 @@ added out n m l e h =
 pub room-now : (ss : List Segment) {w : Writer} {n : ℕ} → RoomFor ss w n → w .used ≤ n
 room-now ss r = omega (arith, used-is (r .0) (r .1), puts-grow (r .0) ss)
 
-room-then : (ss : List Segment) {w r : Writer} {n : ℕ} → RoomFor ss w n → Grown w ss r → r .used ≤ n
+pub room-then : (ss : List Segment) {w r : Writer} {n : ℕ} → RoomFor ss w n → Grown w ss r → r .used ≤ n
 room-then ss r g = omega (arith, used-is (foldl put (r .0) ss) (g (r .0) (r .1)))
 
 -- ---- a run in the buffer

@@ -1,15 +1,13 @@
 -- Corner cases of the definitions, read by hand off paper 01: zero rows, empty bodies and indexes, the limits, faults that come together.
 -- Files are proved in the order of their names, so a wrong definition is refused here or in `AllReadings` before a law's proof is.
 -- Assumes nothing.
-use Prim.Native.Nat.{ℕ}
 use mathlib.Core.Bool.{Bool, true, false, not, _&&_}
 use mathlib.Core.Path.{_≡_, refl}
 use mathlib.Core.List.{List, [], _∷_}
-use lib.Dec.{eqb}
 use lib.ListN.{replicate}
 use Rattle.meaning.specs.Refusal.{Outcome, refused, answer}
 use Rattle.meaning.specs.Answer.{checkBody, bodyRow, bodyCount, bodyNth, expand, compress, check, bitmapRefusal, bitmap, partOf, threshold, symmetric}
-use Rattle.meaning.specs.Readings.{isSound, isRefused, isAnswer, same, looped, three, ninetySix}
+use Rattle.meaning.specs.Readings.{isSound, isRefused, isAnswer, isNumber, same, looped, three, ninetySix}
 
 unfoldable pub every : List Bool → Bool
 every [] = true
@@ -22,10 +20,6 @@ isYes (answer t) = t
 unfoldable isNo : Outcome Bool → Bool
 isNo (refused n b w) = false
 isNo (answer t) = not t
-
-unfoldable isNumber : Outcome ℕ → ℕ → Bool
-isNumber (refused n b w) number = false
-isNumber (answer x) number = eqb x number
 
 pub bodies : List Bool
 bodies =

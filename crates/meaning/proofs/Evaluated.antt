@@ -68,7 +68,7 @@ module _ (w : ℕ) (pos : 0 < w) where
 -- ---- the answer's segments
 
 -- a part of a list whose elements are known
-part-is : (l p : List Segment) (o n : ℕ) → length p ≡ n → o + n ≤ length l
+pub part-is : (l p : List Segment) (o n : ℕ) → length p ≡ n → o + n ≤ length l
     → ((i : ℕ) → i < n → getD l (o + i) (clean 0) ≡ getD p i (clean 0)) → take n (drop o l) ≡ p
 part-is l p o n e h g =
     let long : length (take n (drop o l)) ≡ n = length-take-le n (drop o l) (omega (arith, length-drop o l)) in

@@ -13,6 +13,10 @@ pub mod CanonicalBody
 pub mod Lawful
 pub mod Answering
 pub mod IndexSound
+pub mod NewIndexes
+pub mod StraysFound
+pub mod ColumnValues
+pub mod ColumnsHold
 pub mod BitmapPart
 pub mod Walk
 pub mod Stretches
@@ -27,3 +31,4 @@ pub mod Walked
 pub mod Evaluated
 pub mod AllReadings
 pub mod AllCorners
+pub mod AllColumns

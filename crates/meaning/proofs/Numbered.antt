@@ -7,14 +7,17 @@ use lib.Dec.{eqb, leb, ltb}
 use lib.ListN.{length, getD}
 use native.Mathlib.Omega.{arith}
 use Rattle.meaning.specs.Refusal.{Outcome, refused, answer, Verdict, sound, refuseIf, _then_, IsNumber, Numbered}
-use Rattle.meaning.specs.Limits.{mostRows, mostBitmaps, mostIndexWords, indexKind, headWords}
+use Rattle.meaning.specs.Limits.{mostRows, mostBitmaps, mostIndexWords, indexKind, headWords, mostColumn, mostValueColumn}
 use Rattle.meaning.specs.Rows.{countBelow, nthBelow}
 use Rattle.meaning.specs.Segment.{fill, lastRows, overPad, segmentCount, lastLimit, lastOf, hasRow, fromRows}
 use Rattle.meaning.specs.Ewah.{valueOf, cleanOf, dirtyOf, faultFrom, bodyFault, rowsOf}
 use Rattle.meaning.specs.Canonical.{canonical}
 use Rattle.meaning.specs.Index.{bitmapCount, entryPlace, startOf, lengthOf, rowCount, bodyAt, rowsAt, entriesFault, bodiesFault, headFault, indexFault}
 use Rattle.meaning.specs.Question.{intersection, union, symmetricDifference, difference, complement, byTable}
+use Rattle.meaning.specs.NewIndex.{indexOf, writeIndex}
+use Rattle.meaning.specs.Column.{sumValue}
 use Rattle.meaning.specs.Answer as meaning
+use Rattle.meaning.specs.Columns as columns
 
 pub number-of : (A : Type 0) (n b w : ℕ) → Numbered {A = A} (refused n b w) → 1 ≤ n
 unfolding Numbered
@@ -216,3 +219,37 @@ module _ (index : List ℕ) where
     pub histogram : Numbered (meaning.histogram index list)
     unfolding meaning.histogram meaning.askHistogram
     histogram = after (meaning.check index) _ (check index) (refuse (meaning.badList index list) 8 0 0 _ (omega arith) (answered _))
+
+-- ---- of columns
+
+module _ (index : List ℕ) where
+  strays-in : (exists : ℕ → Bool) (ks : List ℕ) → Numbered (columns.straysIn index exists ks)
+  unfolding columns.straysIn
+  strays-in exists [] = answered tt
+  strays-in exists (k ∷ ks) =
+      let rows = columns.strayRows index exists k in
+      refuse (ltb 0 (countBelow (rowCount index) rows)) 11 k (nthBelow (rowCount index) rows 0) _ (omega arith) (strays-in exists ks)
+
+  strays : (list : List ℕ) → Numbered (columns.strays index list)
+  unfolding columns.strays
+  strays [] = answered tt
+  strays (k ∷ ks) = strays-in (rowsAt index k) ks
+
+  pub value : (list : List ℕ) (r : ℕ) → Numbered (columns.value index list r)
+  unfolding columns.value columns.askValue
+  value list r =
+      after (meaning.check index) _ (check index)
+      (refuse (columns.badColumn index mostValueColumn list || columns.badRow index list r) 8 0 0 _ (omega arith)
+      (after (columns.strays index list) _ (strays list) (answered _)))
+
+  pair : (op : (n x y : ℕ) → ℕ) (n : ℕ) (first second : List ℕ) (room : ℕ) → Numbered (columns.askPair index op n first second room)
+  unfolding columns.askPair writeIndex
+  pair op n first second room =
+      refuse (columns.badColumn index mostColumn first || columns.badColumn index mostColumn second) 8 0 0 _ (omega arith)
+      (after (columns.strays index first) _ (strays first)
+      (after (columns.strays index second) _ (strays second)
+      (fits room (indexOf (rowCount index) (columns.pairColumn index op n first second)))))
+
+  pub sum : (first second : List ℕ) (room : ℕ) → Numbered (columns.sum index first second room)
+  unfolding columns.sum columns.askSum
+  sum first second room = after (meaning.check index) _ (check index) (pair sumValue (suc (columns.wider first second)) first second room)

@@ -14,3 +14,8 @@ or-true false b e = e
 -- of three tests that fail the first does
 pub first-false : (a b c : Bool) → a || b || c ≡ false → a ≡ false
 first-false a b c e = or-false a b (or-false (a || b) c e .0) .0
+
+-- what does not hold fails
+pub never-true : (t : Bool) → (t ≡ true → ⊥) → t ≡ false
+never-true true h = absurd (h refl)
+never-true false h = refl

@@ -14,6 +14,8 @@ pub mod Columns
 pub mod Demands
 pub mod Paragraph
 pub mod Laws
+pub mod ColumnLaws
 pub mod Readings
+pub mod ColumnReadings
 -- for contracts between the crates
 pub mod Ahead

@@ -33,6 +33,10 @@ unfolding same
 isAnswer (refused n b w) words = false
 isAnswer (answer ws) words = same ws words
 
+unfoldable pub isNumber : Outcome ℕ → (number : ℕ) → Bool
+isNumber (refused n b w) number = false
+isNumber (answer x) number = eqb x number
+
 -- ---- what a reading can say
 
 pub data Reading : Type 0 where

@@ -76,14 +76,14 @@ no-term (suc m) f e i h = elim (decLe (suc i) m) [
 
 -- ---- one cursor
 
-bit-fill : (v j : ℕ) → v < 2 → j < 32 → bit (isSet (fill 32 32 v) j) ≡ v
+pub bit-fill : (v j : ℕ) → v < 2 → j < 32 → bit (isSet (fill 32 32 v) j) ≡ v
 unfolding fill bit
 bit-fill zero j h l = rw (zero-clear j)
 bit-fill (suc zero) j h l = rw (full-set 32 j l)
 bit-fill (suc (suc v)) j h l = absurd (omega arith)
 
 -- a row of a body is a bit of one of its segments
-row-bit : (b : List ℕ) (i j : ℕ) → j < 32 → rowsOf b (i * 32 + j) ≡ isSet (getD (segments b) i 0) j
+pub row-bit : (b : List ℕ) (i j : ℕ) → j < 32 → rowsOf b (i * 32 + j) ≡ isSet (getD (segments b) i 0) j
 unfolding rowsOf isSet
 row-bit b i j h = has-at 32 (omega arith) (segments b) i j h
 
@@ -97,7 +97,7 @@ module _ (b : List ℕ) (o : ℕ) (c : Cursor) (a : CursorAt b o c) where
 
   module _ (l : o < length (segments b)) where
     -- row j of every segment of a run, and of the segment of a dirty word
-    row-run : dirtyIn (c .piece) ≡ 0 → (i : ℕ) → o ≤ i → i < o + leftOf (c .piece) → (j : ℕ) → j < 32 → bit (rowsOf b (i * 32 + j)) ≡ onesIn (c .piece)
+    pub row-run : dirtyIn (c .piece) ≡ 0 → (i : ℕ) → o ≤ i → i < o + leftOf (c .piece) → (j : ℕ) → j < 32 → bit (rowsOf b (i * 32 + j)) ≡ onesIn (c .piece)
     row-run z i g h j k = rw (row-bit b i j k) (go (c .piece) refl z h)
       where
         go : (q : code.Piece) → c .piece ≡ q → dirtyIn q ≡ 0 → i < o + leftOf q → bit (isSet (getD (segments b) i 0) j) ≡ onesIn q

@@ -39,7 +39,7 @@ pub fn nothing() -> Survey
 }
 
 // The smaller of two numbers.
-fn smaller(a: u32, b: u32) -> u32
+pub fn smaller(a: u32, b: u32) -> u32
     ensures { λ r. ⌜ r ≡ min a b ⌝ }
 {
     if a < b { a } else { b }

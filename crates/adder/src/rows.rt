@@ -1,0 +1,52 @@
+// The rows of blocks: taken out, put in, and the row of what exists in both of two blocks.
+ghost use mathlib.Core.Path.{_≡_};
+ghost use Prim.Native.Nat.{_+_, _≤_};
+ghost use lib.ListN.{length};
+ghost use Rattle.meaning.specs.Limits.{blockSegments, blockWords};
+ghost use Rattle.adder.specs.Blocks.{RowOf, PutBoth, Existing};
+use meaning::BLOCK_SEGMENTS;
+use meaning::BLOCK_WORDS;
+
+// The row that begins at `at`.
+pub fn row(x: &[u32; BLOCK_WORDS], at: usize) -> [u32; BLOCK_SEGMENTS]
+    requires { ⌜ (length (now x) ≡ blockWords) × (at + blockSegments ≤ blockWords) ⌝ }
+    ensures { λ r. ⌜ RowOf (now (x .entry)) at r ⌝ }
+{
+    let mut r: [u32; BLOCK_SEGMENTS] = [0; BLOCK_SEGMENTS];
+    for w in 0..BLOCK_SEGMENTS {
+        r[w] = x[at + w];
+    }
+    r
+}
+
+// The common bits of a and b become the row that begins at `at`.
+pub fn put_both(
+    z: &mut [u32; BLOCK_WORDS],
+    at: usize,
+    a: [u32; BLOCK_SEGMENTS],
+    b: [u32; BLOCK_SEGMENTS],
+)
+    requires { ⌜ (length (now z) ≡ blockWords) × (at + blockSegments ≤ blockWords) ⌝ }
+    ensures { λ _. ⌜ PutBoth a b (now (z .entry)) at (now (z .exit)) ⌝ }
+{
+    for w in 0..BLOCK_SEGMENTS {
+        z[at + w] = a[w] & b[w];
+    }
+}
+
+// The first row becomes what exists in both x and y, of word k - 1 the rows of the mask alone.
+pub fn exist(
+    x: &[u32; BLOCK_WORDS],
+    y: &[u32; BLOCK_WORDS],
+    z: &mut [u32; BLOCK_WORDS],
+    k: usize,
+    mask: u32,
+) -> [u32; BLOCK_SEGMENTS]
+    requires { ⌜ (1 ≤ k) × (k ≤ blockSegments) × (length (now x) ≡ blockWords)
+        × (length (now y) ≡ blockWords) × (length (now z) ≡ blockWords) ⌝ }
+    ensures { λ r. ⌜ Existing (now (x .entry)) (now (y .entry)) k mask (now (z .exit)) r ⌝ }
+{
+    put_both(z, 0, row(x, 0), row(y, 0));
+    z[k - 1] = z[k - 1] & mask;
+    row(z, 0)
+}

@@ -1,0 +1,3 @@
+pub mod Replacing
+pub mod Spans
+pub mod Joining

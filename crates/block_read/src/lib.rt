@@ -1,0 +1,158 @@
+// The next segments of one body, as a row of words.
+// Calls here have a `requires`; the public ones of `zvonurel` test their input first.
+ghost use mathlib.Core.Bool.{true, false};
+ghost use mathlib.Core.Path.{_≡_};
+ghost use mathlib.Core.List.{[]};
+ghost use Prim.Native.Nat.{ℕ, _+_, _≤_};
+ghost use lib.ListN.{length, getD};
+ghost use Rattle.meaning.specs.Limits.{blockSegments, blockWords};
+ghost use Rattle.ewah.specs.declared.cursor.Piece.the-variants.{Clean, Dirty};
+ghost use Rattle.ewah.specs.Cursors.{InOrder, ValueLow, leftOf, piecesFrom, spanOf};
+ghost use Rattle.block_read.specs.Taken.{HasAhead, wordOf, Replaced, SpanTaken, RowTaken};
+use ewah::cursor;
+use ewah::cursor::Cursor;
+use ewah::cursor::Piece;
+use ewah::marker;
+use meaning::BLOCK_WORDS;
+
+// n words of x from `at` on become v.
+fn fill(x: &mut [u32; BLOCK_WORDS], at: usize, n: usize, v: u32)
+    requires { ⌜ (length (now x) ≡ blockWords) × (at + n ≤ blockWords) ⌝ }
+    ensures { λ _. ⌜ Replaced (now (x .entry)) (now (x .exit)) at n (λ i. v) ⌝ }
+{
+    let mut i: usize = 0;
+    while i < n {
+        x[at + i] = v;
+        i += 1;
+    }
+}
+
+// n words of x from `at` on become those of the body from `from` on.
+fn copy(x: &mut [u32; BLOCK_WORDS], at: usize, n: usize, body: &[u32], from: usize)
+    requires { ⌜ (length (now x) ≡ blockWords) × (at + n ≤ blockWords) × (from + n ≤ length (now body)) ⌝ }
+    ensures { λ _. ⌜ Replaced (now (x .entry)) (now (x .exit)) at n (λ i. getD (now (body .entry)) (from + i) 0) ⌝ }
+{
+    let mut i: usize = 0;
+    while i < n {
+        x[at + i] = body[from + i];
+        i += 1;
+    }
+}
+
+// The smaller of two numbers, neither of them 0.
+fn smaller(a: u32, b: u32) -> u32
+    requires { ⌜ (1 ≤ a) × (1 ≤ b) ⌝ }
+    ensures { λ r. ⌜ (1 ≤ r) × (r ≤ a) × (r ≤ b) ⌝ }
+{
+    if a < b { a } else { b }
+}
+
+// The next n segments of a clean run.
+fn take_run(
+    body: &[u32],
+    c: Cursor,
+    value: u32,
+    left: u32,
+    x: &mut [u32; BLOCK_WORDS],
+    at: usize,
+    n: u32,
+) -> Cursor
+    requires { ⌜ InOrder (now body) c ⌝ }
+    requires { ⌜ (c .piece ≡ Clean value left) × (1 ≤ n) × (n ≤ left)
+        × (length (now x) ≡ blockWords) × (at + n ≤ blockWords) ⌝ }
+    ensures { λ r. ⌜ SpanTaken (now (body .entry)) c n (now (x .entry)) at (now (x .exit)) r ⌝ }
+{
+    fill(x, at, n as usize, marker::segment(value));
+    cursor::pass(body, c, n)
+}
+
+// The next n dirty words.
+fn take_dirty(body: &[u32], c: Cursor, x: &mut [u32; BLOCK_WORDS], at: usize, n: u32) -> Cursor
+    requires { ⌜ InOrder (now body) c ⌝ }
+    requires { ⌜ HasAhead (now body) c n ⌝ }
+    requires { ⌜ ((w : ℕ) × (c .piece ≡ Dirty w)) × (1 ≤ n) × (n ≤ c .dirty + 1)
+        × (length (now x) ≡ blockWords) × (at + n ≤ blockWords) ⌝ }
+    ensures { λ r. ⌜ SpanTaken (now (body .entry)) c n (now (x .entry)) at (now (x .exit)) r ⌝ }
+{
+    let from = c.next - 1;
+    copy(x, at, n as usize, body, from);
+    cursor::pass(body, c, n)
+}
+
+// The next n segments, at most up to the next marker.
+fn take_span(body: &[u32], c: Cursor, x: &mut [u32; BLOCK_WORDS], at: usize, n: u32) -> Cursor
+    requires { ⌜ InOrder (now body) c ⌝ }
+    requires { ⌜ HasAhead (now body) c n ⌝ }
+    requires { ⌜ (1 ≤ n) × (n ≤ spanOf c) × (length (now x) ≡ blockWords) × (at + n ≤ blockWords) ⌝ }
+    ensures { λ r. ⌜ SpanTaken (now (body .entry)) c n (now (x .entry)) at (now (x .exit)) r ⌝ }
+{
+    let piece = c.piece;
+    match piece {
+        Piece::Clean(value, left) => take_run(body, c, value, left, x, at, n),
+        Piece::Dirty(_) => take_dirty(body, c, x, at, n),
+    }
+}
+
+// The next n segments, span by span.
+fn take_spans(body: &[u32], from: Cursor, x: &mut [u32; BLOCK_WORDS], at: usize, n: u32) -> Cursor
+    requires { ⌜ InOrder (now body) from ⌝ }
+    requires { ⌜ HasAhead (now body) from n ⌝ }
+    requires { ⌜ (leftOf (from .piece) ≡ 0 → piecesFrom (now body) from ≡ []) ⌝ }
+    requires { ⌜ (length (now x) ≡ blockWords) × (at + n ≤ blockWords) ⌝ }
+    ensures { λ r. ⌜ SpanTaken (now (body .entry)) from n (now (x .entry)) at (now (x .exit)) r ⌝ }
+{
+    let mut c = from;
+    let mut done: u32 = 0;
+    while done < n {
+        let m = smaller(cursor::span(c), n - done);
+        let d = take_span(body, c, x, at + done as usize, m);
+        c = d;
+        done += m;
+    }
+    c
+}
+
+// The word of a piece's segments.
+fn word(piece: Piece) -> u32
+    requires { ⌜ ValueLow piece ⌝ }
+    ensures { λ r. ⌜ r ≡ wordOf piece ⌝ }
+{
+    match piece {
+        Piece::Clean(value, _) => marker::segment(value),
+        Piece::Dirty(x) => x,
+    }
+}
+
+// The next n segments of one piece: their word is kept once.
+fn take_even(body: &[u32], c: Cursor, x: &mut [u32; BLOCK_WORDS], at: usize, n: u32) -> Cursor
+    requires { ⌜ InOrder (now body) c ⌝ }
+    requires { ⌜ (length (now x) ≡ blockWords) × (at + blockSegments ≤ blockWords) × (1 ≤ n)
+        × (n ≤ leftOf (c .piece)) ⌝ }
+    ensures { λ r. ⌜ RowTaken (now (body .entry)) c n true (now (x .entry)) at (now (x .exit)) r ⌝ }
+{
+    let piece = c.piece;
+    x[at] = word(piece);
+    cursor::advance(body, c, n)
+}
+
+// The next n segments as a row: all of them alike, within one piece, or at most a block's.
+pub fn take(
+    body: &[u32],
+    c: Cursor,
+    x: &mut [u32; BLOCK_WORDS],
+    at: usize,
+    n: u32,
+    even: bool,
+) -> Cursor
+    requires { ⌜ InOrder (now body) c ⌝ }
+    requires { ⌜ HasAhead (now body) c n ⌝ }
+    requires { ⌜ (leftOf (c .piece) ≡ 0 → piecesFrom (now body) c ≡ []) ⌝ }
+    requires { ⌜ (length (now x) ≡ blockWords) × (at + blockSegments ≤ blockWords) × (1 ≤ n)
+        × (even ≡ true → n ≤ leftOf (c .piece)) × (even ≡ false → n ≤ blockSegments) ⌝ }
+    ensures { λ r. ⌜ RowTaken (now (body .entry)) c n even (now (x .entry)) at (now (x .exit)) r ⌝ }
+{
+    if even {
+        return take_even(body, c, x, at, n);
+    }
+    take_spans(body, c, x, at, n)
+}

@@ -1,0 +1,92 @@
+-- `gather::gather` meets its contract. The invariant: the first k places are gathered.
+-- Assumes nothing.
+use Prim.Native.Nat.{_-_, _≤_}
+use mathlib.Core.Path.{_≡_}
+use native.Mathlib.Nat.{le-refl}
+use denote.Ref.{now}
+use lib.ListN.{length}
+use Rattle.gather.proofs.Gathering.{Gathering, gathering-none, stands-before, gathering-more, gathering-all}
+use borrow.Author.Needs.{needs}
+use native.Mathlib.Omega.{arith}
+use Rattle.gather.proofs.gather.Statement.{statement}
+use Rattle.gather.proofs.gather.Tie as tie
+
+abbrev Inv-loop : tie.InvT-loop
+Inv-loop index list numbers₀ n even x₀ k₀ numbers x k = (k ≤ length list) × Gathering index list numbers₀ n even x₀ k numbers x
+
+abbrev μ-loop : tie.MeasureT-loop
+μ-loop index list numbers₀ n even x₀ k₀ numbers x k = length list - k
+
+loop-holds : tie.Need-loop-holds Inv-loop μ-loop
+loop-holds c =
+    let s = c .before .before in
+    let a = s .args in
+    let p = s .pre .1 .1 .1 .1 in
+    (omega arith, gathering-none (now (a .index)) (now (a .list)) (now (a .numbers)) (a .n) (a .even) (now (a .x)) (p .0) (p .1))
+
+mul-take-place : tie.Need-mul-take-place Inv-loop μ-loop
+mul-take-place c = search needs
+
+shared-slice-read-take-place : tie.Need-shared-slice-read-take-place Inv-loop μ-loop
+shared-slice-read-take-place c = search needs
+
+take-place-requires : tie.Need-take-place-requires Inv-loop μ-loop
+take-place-requires c κs =
+    let l = c .before .before .before .before .loop in
+    let t = c .before .before .before .loop-test .taken in
+    let s = c .before .before .before .before .before .before .before in
+    let a = s .args in
+    let g = l .inv .1 in
+    let li = s .pre .1 .1 .0 in
+    let p = s .pre .1 .1 .1 .1 in
+    let same = g .later (l .k) (le-refl (l .k)) in (
+      s .pre .0,
+      (
+        s .pre .1 .0,
+        (
+          stands-before (now (a .index)) (now (a .list)) (now (a .numbers)) (a .n) (a .even) (now (a .x)) (l .k) (l .numbers) (l .x) g t
+              (s .pre .1 .1 .1 .0),
+          (li .its (l .k) t, omega (arith, p .2, t), g .long, g .rows-long, p .3, λ e. rw same (p .4 e (l .k) t), p .5),
+        ),
+      ),
+    )
+
+add-k : tie.Need-add-k Inv-loop μ-loop
+add-k c = search needs
+
+loop-less : tie.Need-loop-less Inv-loop μ-loop
+loop-less c = search needs
+
+loop-again : tie.Need-loop-again Inv-loop μ-loop
+loop-again c =
+    let l = c .before .before .before .before .before .loop in
+    let s = c .before .before .before .before .before .before .before .before in
+    let a = s .args in
+    let p = s .pre .1 .1 .1 .1 in
+    let t = c .before .before .before .before .loop-test .taken in (
+      omega (arith, t),
+      gathering-more (now (a .index)) (now (a .list)) (now (a .numbers)) (a .n) (a .even) (now (a .x)) (l .k) (l .numbers) (l .x) (l .inv .1)
+          (p .5) _ _ (c .take-place .ensures),
+    )
+
+returns : tie.Need-returns Inv-loop μ-loop
+returns c =
+    let l = c .before .loop in
+    let a = c .before .before .before .before .args in
+    let e : l .k ≡ length (now (a .list)) = omega (arith, l .inv .0, c .loop-test .left) in
+    gathering-all (now (a .index)) (now (a .list)) (now (a .numbers)) (a .n) (a .even) (now (a .x)) (l .k) (l .numbers) (l .x) (l .inv .1) e
+
+pub gather-spec : {M : Type 1} → statement M
+gather-spec =
+    tie.close
+    (tie.spec
+    Inv-loop
+    μ-loop
+    loop-holds
+    mul-take-place
+    shared-slice-read-take-place
+    take-place-requires
+    add-k
+    loop-less
+    loop-again
+    returns)

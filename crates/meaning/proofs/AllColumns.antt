@@ -1,0 +1,10 @@
+-- The readings of columns hold. Files are proved in the order of their names, so a wrong definition is refused here first.
+-- Assumes nothing.
+use mathlib.Core.Path.{_≡_, refl}
+use mathlib.Core.Bool.{true}
+use Rattle.meaning.specs.ColumnReadings.{allColumnsPass, columnReadings}
+
+-- by computing them
+pub column-readings-hold : allColumnsPass columnReadings ≡ true
+unfolding allColumnsPass columnReadings
+column-readings-hold = refl

@@ -1,0 +1,257 @@
+-- An index that is assembled of bodies is sound if they are, and its bitmaps are they; so a new index is sound, and its
+-- bitmaps are its sets, in canonical form.
+-- Assumes nothing.
+use Prim.Native.Nat.{ℕ, zero, suc, _+_, _-_, _*_, _/_, _≤_, _<_}
+use mathlib.Core.Bool.{Bool}
+use mathlib.Core.Path.{_≡_, refl, sym, ap, ap₂, _∙_, subst}
+use mathlib.Core.List.{List, [], _∷_, _++_, map, append-assoc, append-nil}
+use lib.ListN.{length, getD, take, drop, length-append, length-map, List·getD-append}
+use lib.Seq.{drop-append-add, take-append-seam, take-all}
+use native.Mathlib.Omega.{arith}
+use Rattle.meaning.specs.Limits.{mostRows, mostSegments, mostDirty, mostBitmaps, mostIndexWords, mostValueColumn, headWords, entryWords}
+use Rattle.meaning.specs.Segment.{segmentCount, fromRows, kind, kinds}
+use Rattle.meaning.specs.Ewah.{rowsOf}
+use Rattle.meaning.specs.Canonical.{canonical}
+use Rattle.meaning.specs.Index.{rowCount, bitmapCount, entryPlace, startOf, lengthOf, bodyPlace, bodyAt, rowsAt}
+use Rattle.meaning.specs.Question.{totalWords}
+use Rattle.meaning.specs.NewIndex.{entriesOf, joined, contentsEnd, assembled, indexOf}
+use Rattle.meaning.specs.Laws.{SoundFacts, IndexFacts}
+use Rattle.meaning.specs.ColumnLaws.{none, NewIndex, NewIndexHolds}
+use Rattle.meaning.proofs.Decoded.{sound-iff}
+use Rattle.meaning.proofs.Segments.{kinds-map}
+use Rattle.meaning.proofs.RowWords.{from-length}
+use Rattle.meaning.proofs.Least.{most-words-div}
+use Rattle.meaning.proofs.CanonicalBody.{canonical-sound, canonical-rows}
+use Rattle.meaning.proofs.IndexSound.{index-means}
+
+-- ---- entries and bodies
+
+-- two words for each body
+pub entries-length : (s : ℕ) (bs : List (List ℕ)) → length (entriesOf s bs) ≡ entryWords * length bs
+unfolding entriesOf
+entries-length s [] = refl
+entries-length s (b ∷ bs) = omega (arith, entries-length (s + length b) bs)
+
+-- the first word of entry k: body k starts behind the bodies before it
+pub entries-start : (s : ℕ) (bs : List (List ℕ)) (k : ℕ) → k < length bs
+    → getD (entriesOf s bs) (entryWords * k) 0 ≡ s + totalWords (take k bs)
+unfolding entriesOf totalWords
+entries-start s [] k h = absurd (omega arith)
+entries-start s (b ∷ bs) zero h = omega arith
+entries-start s (b ∷ bs) (suc k) h =
+    let e : 2 * suc k ≡ suc (suc (2 * k)) = omega arith in
+    rw e (entries-start (s + length b) bs k (omega arith) ∙ omega arith)
+
+-- the second word: its length
+pub entries-words : (s : ℕ) (bs : List (List ℕ)) (k : ℕ) → k < length bs
+    → getD (entriesOf s bs) (entryWords * k + 1) 0 ≡ length (getD bs k [])
+unfolding entriesOf
+entries-words s [] k h = absurd (omega arith)
+entries-words s (b ∷ bs) zero h = refl
+entries-words s (b ∷ bs) (suc k) h =
+    let e : 2 * suc k + 1 ≡ suc (suc (2 * k + 1)) = omega arith in
+    rw e (entries-words (s + length b) bs k (omega arith))
+
+-- the bodies one behind the other have the words of all of them
+pub joined-length : (bs : List (List ℕ)) → length (joined bs) ≡ totalWords bs
+unfolding joined totalWords
+joined-length [] = refl
+joined-length (b ∷ bs) = length-append b (joined bs) ∙ ap (λ (n : ℕ). length b + n) (joined-length bs)
+
+-- body k among them
+pub joined-part : (bs : List (List ℕ)) (k : ℕ) → k < length bs
+    → take (length (getD bs k [])) (drop (totalWords (take k bs)) (joined bs)) ≡ getD bs k []
+unfolding joined totalWords
+joined-part [] k h = absurd (omega arith)
+joined-part (b ∷ bs) zero h = take-append-seam b (joined bs)
+joined-part (b ∷ bs) (suc k) h =
+    ap (λ (l : List ℕ). take (length (getD bs k [])) l) (drop-append-add b (joined bs) (totalWords (take k bs)))
+    ∙ joined-part bs k (omega arith)
+
+-- one body more
+pub joined-more : (bs : List (List ℕ)) (k : ℕ) → k < length bs
+    → joined (take (suc k) bs) ≡ joined (take k bs) ++ getD bs k []
+unfolding joined
+joined-more [] k h = absurd (omega arith)
+joined-more (b ∷ bs) zero h = append-nil b
+joined-more (b ∷ bs) (suc k) h =
+    ap (λ (l : List ℕ). b ++ l) (joined-more bs k (omega arith)) ∙ sym (append-assoc b (joined (take k bs)) (getD bs k []))
+
+-- and its words
+pub total-more : (bs : List (List ℕ)) (k : ℕ) → k < length bs
+    → totalWords (take (suc k) bs) ≡ totalWords (take k bs) + length (getD bs k [])
+unfolding totalWords
+total-more [] k h = absurd (omega arith)
+total-more (b ∷ bs) zero h = omega arith
+total-more (b ∷ bs) (suc k) h = omega (arith, total-more bs k (omega arith))
+
+-- the first k have no more words than all
+pub total-le : (bs : List (List ℕ)) (k : ℕ) → totalWords (take k bs) ≤ totalWords bs
+unfolding totalWords
+total-le [] zero = omega arith
+total-le [] (suc k) = omega arith
+total-le (b ∷ bs) zero = omega arith
+total-le (b ∷ bs) (suc k) = omega (arith, total-le bs k)
+
+-- ---- the index of these bodies
+
+module _ (R : ℕ) (bs : List (List ℕ)) where
+  abbrev index : List ℕ
+  index = assembled R bs
+
+  abbrev N : ℕ
+  N = length bs
+
+  abbrev contents : List ℕ
+  contents = entriesOf (contentsEnd N) bs
+
+  -- its rows and the number of its bitmaps, as its head says
+  pub row-count : rowCount index ≡ R
+  unfolding rowCount assembled
+  row-count = refl
+
+  pub bitmap-count : bitmapCount index ≡ N
+  unfolding bitmapCount assembled
+  bitmap-count = refl
+
+  -- behind its head come the contents and the bodies
+  beyond : (i : ℕ) → getD index (headWords + i) 0 ≡ getD (contents ++ joined bs) i 0
+  unfolding assembled
+  beyond i = let e : 3 + i ≡ suc (suc (suc i)) = omega arith in rw e refl
+
+  drop-beyond : (i : ℕ) → drop (headWords + i) index ≡ drop i (contents ++ joined bs)
+  unfolding assembled
+  drop-beyond i = let e : 3 + i ≡ suc (suc (suc i)) = omega arith in rw e refl
+
+  -- its words: the head, the contents and the bodies
+  pub length-is : length index ≡ contentsEnd N + totalWords bs
+  unfolding assembled contentsEnd
+  length-is = omega (arith, length-append contents (joined bs), entries-length (contentsEnd N) bs, joined-length bs)
+
+  -- where body k starts, and its words, as its entry says
+  pub start-is : (k : ℕ) → k < N → startOf index k ≡ contentsEnd N + totalWords (take k bs)
+  unfolding startOf
+  start-is k h =
+      beyond (2 * k)
+      ∙ List·getD-append contents (joined bs) 0 (2 * k) (omega (arith, entries-length (contentsEnd N) bs))
+      ∙ entries-start (contentsEnd N) bs k h
+
+  pub words-are : (k : ℕ) → k < N → lengthOf index k ≡ length (getD bs k [])
+  unfolding lengthOf
+  words-are k h =
+      let e : 3 + 2 * k + 1 ≡ 3 + (2 * k + 1) = omega arith in
+      rw e
+      (beyond (2 * k + 1)
+      ∙ List·getD-append contents (joined bs) 0 (2 * k + 1) (omega (arith, entries-length (contentsEnd N) bs))
+      ∙ entries-words (contentsEnd N) bs k h)
+
+  -- which is where it has to start
+  pub place-is : (k : ℕ) → k ≤ N → bodyPlace index k ≡ contentsEnd N + totalWords (take k bs)
+  unfolding bodyPlace totalWords contentsEnd
+  place-is zero h = rw bitmap-count (omega arith)
+  place-is (suc k) h = omega (arith, place-is k (omega arith), words-are k (omega arith), total-more bs k (omega arith))
+
+  -- bitmap k's body is body k
+  pub body-is : (k : ℕ) → k < N → bodyAt index k ≡ getD bs k []
+  unfolding bodyAt
+  body-is k h =
+      ap₂ (λ (n m : ℕ). take n (drop m index)) (words-are k h) (start-is k h ∙ from)
+      ∙ ap (λ (l : List ℕ). take (length (getD bs k [])) l)
+      (drop-beyond (length contents + totalWords (take k bs)) ∙ drop-append-add contents (joined bs) (totalWords (take k bs)))
+      ∙ joined-part bs k h
+    where
+      from : contentsEnd N + totalWords (take k bs) ≡ headWords + (length contents + totalWords (take k bs))
+      from = unfold contentsEnd in omega (arith, entries-length (contentsEnd N) bs)
+
+  -- it is sound if its bodies are, and it is in the limits
+  pub assembled-facts : R ≤ mostRows → N ≤ mostBitmaps → length index ≤ mostIndexWords
+      → ((k : ℕ) → k < N → SoundFacts R (getD bs k [])) → IndexFacts index
+  unfolding assembled contentsEnd entryPlace rowCount bitmapCount
+  assembled-facts r n l f = record {
+    head = record {
+      few-words = l;
+      head = omega (arith, length-is);
+      kind = refl;
+      few-rows = r;
+      few-bitmaps = n;
+      contents = omega (arith, length-is);
+    };
+    entries = record {
+      starts = λ k h. start-is k h ∙ sym (place-is k (omega arith));
+      ends = λ k h. omega (arith, place-is k h, total-le bs k, length-is);
+      last-end =
+          place-is N (omega arith)
+          ∙ ap (λ (l : List (List ℕ)). contentsEnd N + totalWords l) (take-all N bs (omega arith))
+          ∙ sym length-is;
+    };
+    bodies = λ k h. subst (λ (b : List ℕ). SoundFacts R b) (sym (body-is k h)) (f k h);
+  }
+
+-- ---- the index of these sets
+
+-- the most words of a canonical body: those of as many mixed segments as the most rows have
+abbrev pub mostBodyWords : ℕ
+mostBodyWords = mostSegments + mostSegments / mostDirty + 1
+
+-- whatever the rows are
+pub canonical-words : (R : ℕ) (p : ℕ → Bool) → R ≤ mostRows → length (canonical R p) ≤ mostBodyWords
+unfolding canonical
+canonical-words R p h =
+    let ks = kinds 32 R (fromRows 32 R p) in
+    let n : length ks ≡ segmentCount 32 R =
+    ap length (kinds-map 32 R (fromRows 32 R p))
+    ∙ length-map (fromRows 32 R p) (kind 32 32)
+    ∙ from-length 32 (omega arith) R p in
+    let s : segmentCount 32 R ≤ 524288 = unfold segmentCount in omega arith in
+    omega (arith, most-words-div ks)
+
+-- so many for each of them
+pub total-words : (R : ℕ) (ps : List (ℕ → Bool)) → R ≤ mostRows
+    → totalWords (map (canonical R) ps) ≤ mostBodyWords * length ps
+unfolding totalWords
+total-words R [] h = omega arith
+total-words R (p ∷ ps) h = omega (arith, canonical-words R p h, total-words R ps h)
+
+-- body k is the canonical one of set k
+pub at-map : (R : ℕ) (ps : List (ℕ → Bool)) (k : ℕ) → k < length ps
+    → getD (map (canonical R) ps) k [] ≡ canonical R (getD ps k none)
+at-map R [] k h = absurd (omega arith)
+at-map R (p ∷ ps) zero h = refl
+at-map R (p ∷ ps) (suc k) h = at-map R ps k (omega arith)
+
+canonical-facts : (R : ℕ) (p : ℕ → Bool) → SoundFacts R (canonical R p)
+canonical-facts R p =
+    let f = sound-iff R (canonical R p) .0 (canonical-sound R p) in
+    record { ended = f .ended; count = f .count; pads = f .last }
+
+module _ (R : ℕ) (ps : List (ℕ → Bool)) (h : R ≤ mostRows) (n : length ps ≤ mostValueColumn) where
+  abbrev bs : List (List ℕ)
+  bs = map (canonical R) ps
+
+  as-many : length bs ≡ length ps
+  as-many = length-map ps (canonical R)
+
+  is-body : (k : ℕ) → k < length ps → bodyAt (assembled R bs) k ≡ canonical R (getD ps k none)
+  is-body k g = body-is R bs k (omega (arith, as-many)) ∙ at-map R ps k g
+
+  sound-body : (k : ℕ) → k < length bs → SoundFacts R (getD bs k [])
+  sound-body k g =
+      subst (λ (b : List ℕ). SoundFacts R b) (sym (at-map R ps k (omega (arith, as-many))))
+      (canonical-facts R (getD ps k none))
+
+  few-words : length (assembled R bs) ≤ mostIndexWords
+  few-words = unfold contentsEnd in omega (arith, as-many, length-is R bs, total-words R ps h)
+
+  is-new : NewIndex R ps (indexOf R ps)
+  unfolding indexOf rowsAt
+  is-new = record {
+    is-sound = index-means (assembled R bs) .1 (assembled-facts R bs h (omega (arith, as-many)) few-words sound-body);
+    rows = row-count R bs;
+    count = bitmap-count R bs ∙ as-many;
+    bodies = is-body;
+    sets = λ k r g l. ap (λ (b : List ℕ). rowsOf b r) (is-body k g) ∙ canonical-rows R (getD ps k none) r l;
+  }
+
+-- whatever the sets are
+pub new-index-holds : NewIndexHolds
+new-index-holds = is-new

@@ -1,0 +1,216 @@
+-- Readings of columns and of new indexes, worked out by hand from paper 01's format and request 1, as one table over the
+-- definitions; `proofs/AllColumns` has the one claim.
+-- Assumes nothing.
+use Prim.Native.Nat.{ℕ, suc, _-_}
+use mathlib.Core.Bool.{Bool, true, _&&_}
+use mathlib.Core.List.{List, [], _∷_, _++_}
+use lib.Dec.{eqb}
+use lib.ListN.{length, replicate}
+use Rattle.meaning.specs.Question.{isIn}
+use Rattle.meaning.specs.Answer.{bufferAfter, wordsReported, partOf, check}
+use Rattle.meaning.specs.NewIndex.{indexOf}
+use Rattle.meaning.specs.Columns.{value, sum}
+use Rattle.meaning.specs.ColumnLaws.{none, whole}
+use Rattle.meaning.specs.Readings.{same, isSound, isRefused, isAnswer, isNumber}
+
+-- ---- what a reading can say
+
+-- of a new index, of a value, of a sum
+pub data ColumnReading : Type 0 where
+  -- the new index of these sets
+  makes : (R : ℕ) (sets : List (ℕ → Bool)) (words : List ℕ) → ColumnReading
+  -- the value at a row, or the refusal
+  gives : (index list : List ℕ) (r v : ℕ) → ColumnReading
+  denies : (index list : List ℕ) (r number bitmap word : ℕ) → ColumnReading
+  -- the sum: a sound index of exactly these words, with as much room or more, where what lies behind them stays; and 9 with
+  -- one word less
+  adds : (index first second words : List ℕ) → ColumnReading
+  -- a sum that is refused
+  declines : (index first second : List ℕ) (room number bitmap word : ℕ) → ColumnReading
+  -- a sum's value at a row, asked by this list
+  addsTo : (index first second : List ℕ) (room : ℕ) (list : List ℕ) (r v : ℕ) → ColumnReading
+
+-- the reading holds of the definitions
+unfoldable pub columnPasses : ColumnReading → Bool
+unfolding same isSound isRefused isAnswer isNumber partOf check indexOf value sum bufferAfter wordsReported
+columnPasses (makes R sets words) = same (indexOf R sets) words && isSound (check words)
+columnPasses (gives index list r v) = isNumber (value index list r) v
+columnPasses (denies index list r number bitmap word) = isRefused (value index list r) number bitmap word
+columnPasses (adds index first second words) =
+    let n = length words in
+    let o = sum index first second (suc n) in
+    isSound (check words)
+    && isAnswer (sum index first second n) words
+    && same (bufferAfter o (replicate (suc n) 7)) (words ++ 7 ∷ [])
+    && eqb (wordsReported o) n
+    && isRefused (sum index first second (n - 1)) 9 0 n
+columnPasses (declines index first second room number bitmap word) =
+    let o = sum index first second room in
+    isRefused o number bitmap word && same (bufferAfter o (replicate room 7)) (replicate room 7) && eqb (wordsReported o) 0
+columnPasses (addsTo index first second room list r v) = isNumber (value (partOf (sum index first second room)) list r) v
+
+-- every reading of a table does
+unfoldable pub allColumnsPass : List ColumnReading → Bool
+unfolding columnPasses
+allColumnsPass [] = true
+allColumnsPass (c ∷ cs) = columnPasses c && allColumnsPass cs
+
+-- ---- indexes
+
+-- 3 rows. Bitmap 0 has all of them, 1 rows 0 and 2, 2 rows 1 and 2, 3 and 4 rows 0 and 2, 5 none. As columns: 0, 1, 2 has the
+-- values 1, 2, 3; 3, 4 has 1 at rows 0 and 2, and row 1 does not exist
+abbrev pub threeRows : List ℕ
+threeRows =
+    1 ∷ 3 ∷ 6 ∷ 15 ∷ 2 ∷ 17 ∷ 2 ∷ 19 ∷ 2 ∷ 21 ∷ 2 ∷ 23 ∷ 2 ∷ 25 ∷ 1
+    ∷ 0x00020000 ∷ 0x7 ∷ 0x00020000 ∷ 0x5 ∷ 0x00020000 ∷ 0x6 ∷ 0x00020000 ∷ 0x5 ∷ 0x00020000 ∷ 0x5 ∷ 0x00000002 ∷ []
+
+-- their sum: rows 0 and 2 exist, with the values 2 and 4. Slice 0 is empty, and the carry is in the top slice
+abbrev pub threeSum : List ℕ
+threeSum =
+    1 ∷ 3 ∷ 4 ∷ 11 ∷ 2 ∷ 13 ∷ 1 ∷ 14 ∷ 2 ∷ 16 ∷ 2
+    ∷ 0x00020000 ∷ 0x5 ∷ 0x00000002 ∷ 0x00020000 ∷ 0x1 ∷ 0x00020000 ∷ 0x4 ∷ []
+
+-- 40 rows. Bitmap 0 has all of them, 1 rows 0 and 39, 2 rows 0 to 31, 3 none
+abbrev pub fortyRows : List ℕ
+fortyRows =
+    1 ∷ 40 ∷ 4 ∷ 11 ∷ 2 ∷ 13 ∷ 3 ∷ 16 ∷ 2 ∷ 18 ∷ 1
+    ∷ 0x00020003 ∷ 0x000000FF ∷ 0x00040000 ∷ 0x00000001 ∷ 0x00000080 ∷ 0x00000003 ∷ 0x00000002 ∷ 0x00000004 ∷ []
+
+-- 3 rows, bitmap 0 has all, behind an idle marker, and 1 has row 1
+abbrev pub idleRows : List ℕ
+idleRows = 1 ∷ 3 ∷ 2 ∷ 7 ∷ 3 ∷ 10 ∷ 2 ∷ 0 ∷ 0x00020000 ∷ 0x7 ∷ 0x00020000 ∷ 0x2 ∷ []
+
+-- no rows, two bitmaps with no words
+abbrev pub noRows : List ℕ
+noRows = 1 ∷ 0 ∷ 2 ∷ 7 ∷ 0 ∷ 7 ∷ 0 ∷ []
+
+-- lists of two and three numbers
+abbrev pub two : (a b : ℕ) → List ℕ
+two a b = a ∷ b ∷ []
+
+abbrev pub triple : (a b c : ℕ) → List ℕ
+triple a b c = a ∷ b ∷ c ∷ []
+
+-- ---- the table
+
+-- new indexes: of no sets, of an empty one, of 40 rows with a run, and of no rows
+unfoldable pub newReadings : List ColumnReading
+unfolding isIn
+newReadings =
+    makes 3 [] (1 ∷ 3 ∷ 0 ∷ [])
+    ∷ makes 3 (isIn (two 0 2) ∷ none ∷ []) (1 ∷ 3 ∷ 2 ∷ 7 ∷ 2 ∷ 9 ∷ 1 ∷ 0x00020000 ∷ 0x5 ∷ 0x00000002 ∷ [])
+    ∷ makes 40 ((λ r. true) ∷ isIn (two 0 39) ∷ [])
+    (1 ∷ 40 ∷ 2 ∷ 7 ∷ 2 ∷ 9 ∷ 3 ∷ 0x00020003 ∷ 0x000000FF ∷ 0x00040000 ∷ 0x00000001 ∷ 0x00000080 ∷ [])
+    ∷ makes 0 ((λ r. true) ∷ none ∷ []) noRows
+    ∷ []
+
+-- values
+unfoldable pub valueReadings : List ColumnReading
+valueReadings =
+    -- each row's value; the lowest slice comes first; a number named twice, and the whole of 33 slices
+    gives threeRows (triple 0 1 2) 0 1
+    ∷ gives threeRows (triple 0 1 2) 1 2
+    ∷ gives threeRows (triple 0 1 2) 2 3
+    ∷ gives threeRows (triple 0 2 1) 0 2
+    ∷ gives threeRows (triple 0 0 0) 1 3
+    ∷ gives threeRows (two 3 4) 2 1
+    ∷ gives threeRows (two 0 5) 1 0
+    ∷ gives threeRows (replicate 34 0) 1 8589934591
+    ∷ gives fortyRows (triple 0 1 2) 39 1
+    ∷ gives fortyRows (triple 0 1 2) 31 2
+    ∷ gives fortyRows (triple 0 1 2) 32 0
+    -- 8: the list is too short, too long, or names a bitmap that is not there
+    ∷ denies threeRows [] 0 8 0 0
+    ∷ denies threeRows (0 ∷ []) 0 8 0 0
+    ∷ denies threeRows (replicate 35 0) 0 8 0 0
+    ∷ denies threeRows (two 0 6) 0 8 0 0
+    ∷ denies threeRows (two 6 0) 0 8 0 0
+    -- 8: there is no such row, or it does not exist
+    ∷ denies threeRows (triple 0 1 2) 3 8 0 0
+    ∷ denies threeRows (two 3 4) 1 8 0 0
+    ∷ denies fortyRows (two 2 2) 32 8 0 0
+    ∷ denies noRows (two 0 1) 0 8 0 0
+    -- 11: the bitmap's number, not its place; the first in the list's order; the lowest row; at whichever row is asked
+    ∷ denies threeRows (two 3 2) 0 11 2 1
+    ∷ denies threeRows (triple 3 4 2) 2 11 2 1
+    ∷ denies threeRows (triple 3 2 0) 0 11 2 1
+    ∷ denies threeRows (triple 3 0 2) 0 11 0 1
+    ∷ denies fortyRows (two 2 1) 5 11 1 39
+    ∷ denies fortyRows (two 2 0) 31 11 0 32
+    ∷ denies fortyRows (two 1 2) 39 11 2 1
+    -- 8 before 11: no such row, a row that does not exist, a bad list
+    ∷ denies threeRows (two 3 2) 3 8 0 0
+    ∷ denies threeRows (two 3 2) 1 8 0 0
+    ∷ denies threeRows (two 5 1) 0 8 0 0
+    ∷ denies threeRows (triple 3 2 6) 0 8 0 0
+    -- the index's own faults before 8
+    ∷ denies (2 ∷ 3 ∷ 0 ∷ []) [] 9 2 0 0
+    ∷ []
+
+-- sums
+unfoldable pub sumReadings : List ColumnReading
+sumReadings =
+    -- of 2 slices and of 1, and of 1 and of 2
+    adds threeRows (triple 0 1 2) (two 3 4) threeSum
+    ∷ adds threeRows (two 3 4) (triple 0 1 2) threeSum
+    -- 7 and 1: a carry out of every slice
+    ∷ adds threeRows (0 ∷ triple 0 0 0) (two 0 0)
+    (1 ∷ 3 ∷ 5 ∷ 13 ∷ 2 ∷ 15 ∷ 1 ∷ 16 ∷ 1 ∷ 17 ∷ 1 ∷ 18 ∷ 2
+    ∷ 0x00020000 ∷ 0x7 ∷ 0x00000002 ∷ 0x00000002 ∷ 0x00000002 ∷ 0x00020000 ∷ 0x7 ∷ [])
+    -- values 1, 0, 1 and zeros: the top slice is empty, and its body is there
+    ∷ adds threeRows (two 0 1) (two 0 5)
+    (1 ∷ 3 ∷ 3 ∷ 9 ∷ 2 ∷ 11 ∷ 2 ∷ 13 ∷ 1 ∷ 0x00020000 ∷ 0x7 ∷ 0x00020000 ∷ 0x5 ∷ 0x00000002 ∷ [])
+    -- a column twice
+    ∷ adds threeRows (two 0 1) (two 0 1)
+    (1 ∷ 3 ∷ 3 ∷ 9 ∷ 2 ∷ 11 ∷ 1 ∷ 12 ∷ 2 ∷ 0x00020000 ∷ 0x7 ∷ 0x00000002 ∷ 0x00020000 ∷ 0x5 ∷ [])
+    -- no row exists in both: three empty bitmaps, no value
+    ∷ adds threeRows (two 5 5) (two 0 1) (1 ∷ 3 ∷ 3 ∷ 9 ∷ 1 ∷ 10 ∷ 1 ∷ 11 ∷ 1 ∷ 0x00000002 ∷ 0x00000002 ∷ 0x00000002 ∷ [])
+    -- an idle marker read, and none written
+    ∷ adds idleRows (two 0 1) (two 0 1)
+    (1 ∷ 3 ∷ 3 ∷ 9 ∷ 2 ∷ 11 ∷ 1 ∷ 12 ∷ 2 ∷ 0x00020000 ∷ 0x7 ∷ 0x00000002 ∷ 0x00020000 ∷ 0x2 ∷ [])
+    -- 40 rows: row 0 has 3 + 1, rows 1 to 31 have 2 + 0, row 39 has 1 + 1
+    ∷ adds fortyRows (triple 0 1 2) (two 0 1)
+    (1 ∷ 40 ∷ 4 ∷ 11 ∷ 2 ∷ 13 ∷ 1 ∷ 14 ∷ 3 ∷ 17 ∷ 3
+    ∷ 0x00020003 ∷ 0x000000FF ∷ 0x00000004 ∷ 0x00040000 ∷ 0xFFFFFFFE ∷ 0x00000080 ∷ 0x00020000 ∷ 0x00000001 ∷ 0x00000002 ∷ [])
+    -- rows 0 to 31 of the first, with 1 each: row 39 of the second is not in the sum
+    ∷ adds fortyRows (two 2 2) (two 0 1)
+    (1 ∷ 40 ∷ 3 ∷ 9 ∷ 2 ∷ 11 ∷ 3 ∷ 14 ∷ 3
+    ∷ 0x00000003 ∷ 0x00000002 ∷ 0x00020000 ∷ 0xFFFFFFFE ∷ 0x00000002 ∷ 0x00020000 ∷ 0x00000001 ∷ 0x00000002 ∷ [])
+    -- 64 rows, all of them with 1 + 1: clean runs alone
+    ∷ adds (1 ∷ 64 ∷ 1 ∷ 5 ∷ 1 ∷ 0x00000005 ∷ []) (two 0 0) (two 0 0)
+    (1 ∷ 64 ∷ 3 ∷ 9 ∷ 1 ∷ 10 ∷ 1 ∷ 11 ∷ 1 ∷ 0x00000005 ∷ 0x00000004 ∷ 0x00000005 ∷ [])
+    -- no rows: the bodies have no words
+    ∷ adds noRows (two 0 1) (two 1 0) (1 ∷ 0 ∷ 3 ∷ 9 ∷ 0 ∷ 9 ∷ 0 ∷ 9 ∷ 0 ∷ [])
+    -- 32 slices each, all digits set: twice 4,294,967,295, with 33 slices, in 3 + 68 + 2 + 1 + 32 * 2 words
+    ∷ addsTo threeRows (replicate 33 0) (replicate 33 0) 138 (whole 33) 2 8589934590
+    ∷ declines threeRows (replicate 33 0) (replicate 33 0) 137 9 0 138
+    -- 8: either list is too short, too long for a sum, or names a bitmap that is not there
+    ∷ declines threeRows (0 ∷ []) (two 0 1) 99 8 0 0
+    ∷ declines threeRows (two 0 1) [] 99 8 0 0
+    ∷ declines threeRows (replicate 34 0) (two 0 1) 99 8 0 0
+    ∷ declines threeRows (two 0 1) (replicate 34 0) 99 8 0 0
+    ∷ declines threeRows (two 0 6) (two 0 1) 99 8 0 0
+    ∷ declines threeRows (two 0 1) (two 6 1) 99 8 0 0
+    ∷ declines (1 ∷ 3 ∷ 0 ∷ []) (two 0 1) (two 0 1) 99 8 0 0
+    -- 11: in the second column, against that column's own existence; the first column first
+    ∷ declines threeRows (triple 0 1 2) (triple 3 4 2) 99 11 2 1
+    ∷ declines threeRows (two 3 2) (two 3 0) 99 11 2 1
+    ∷ declines threeRows (two 3 0) (two 3 2) 99 11 0 1
+    ∷ declines fortyRows (triple 0 1 2) (triple 2 2 1) 99 11 1 39
+    -- a slice's rows may lie outside the other column's existence
+    ∷ adds threeRows (two 0 2) (two 3 4)
+    (1 ∷ 3 ∷ 3 ∷ 9 ∷ 2 ∷ 11 ∷ 2 ∷ 13 ∷ 2 ∷ 0x00020000 ∷ 0x5 ∷ 0x00020000 ∷ 0x1 ∷ 0x00020000 ∷ 0x4 ∷ [])
+    -- 8 of either before 11 of either
+    ∷ declines threeRows (two 3 2) (two 3 6) 99 8 0 0
+    ∷ declines threeRows (0 ∷ []) (two 3 2) 99 8 0 0
+    -- 11 before 9; 9 with the words needed
+    ∷ declines threeRows (two 0 1) (two 3 2) 0 11 2 1
+    ∷ declines threeRows (triple 0 1 2) (two 3 4) 0 9 0 18
+    -- the index's own faults before 8
+    ∷ declines (2 ∷ 3 ∷ 0 ∷ []) [] [] 0 2 0 0
+    ∷ []
+
+-- all of them
+unfoldable pub columnReadings : List ColumnReading
+unfolding newReadings valueReadings sumReadings
+columnReadings = newReadings ++ valueReadings ++ sumReadings

@@ -1,0 +1,4 @@
+pub mod Numbers
+pub mod Regions
+pub mod RowParts
+pub mod LaidOut

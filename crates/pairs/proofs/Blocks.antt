@@ -1,0 +1,155 @@
+-- A block of two columns: what the words of the places say of its rows, and so which segments the answer's bodies have there.
+-- Assumes nothing.
+use Prim.Native.Nat.{ℕ, zero, suc, _+_, _*_, _^_, _≤_, _<_}
+use mathlib.Core.Bool.{Bool, true, false, _&&_}
+use mathlib.Core.Path.{_≡_, refl, sym, ap, ap₂, _∙_}
+use mathlib.Core.List.{List, [], _∷_, map}
+use lib.Dec.{ltb}
+use lib.ListN.{length, getD, length-map, List·getD-map}
+use native.Mathlib.Nat.{pow-suc, zero-mul}
+use native.Mathlib.Omega.{arith}
+use Rattle.meaning.specs.Rows.{bit, sumBelow}
+use Rattle.meaning.specs.Segment.{Segment, clean, kind, bitAt, isSet, segmentCount, allSet, fromRows}
+use Rattle.meaning.specs.Ewah.{segments, rowsOf}
+use Rattle.meaning.specs.Index.{rowCount, rowsAt}
+use Rattle.meaning.specs.Question.{intersection}
+use Rattle.meaning.specs.Answer.{named}
+use Rattle.meaning.specs.Column.{valueOf, slice, columnOf, sumValue}
+use Rattle.meaning.specs.ColumnLaws.{none}
+use Rattle.meaning.specs.Columns.{existing, slicesOf, valueAt, pairColumn}
+use Rattle.meaning.proofs.RowWords.{word-by-bits, from-bit, from-below, from-length}
+use Rattle.meaning.proofs.Sums.{sum-zero, sum-first}
+use Rattle.meaning.proofs.Counting.{zero-clear}
+use Rattle.meaning.proofs.ColumnValues.{slices-at}
+use Rattle.words.proofs.BitLaws.{bit-set}
+use Rattle.walk.specs.Queries.{placeBody}
+use Rattle.merge.proofs.Stretched.{row-bit}
+
+-- ---- a value's digits
+
+scale : (n : ℕ) (f : ℕ → ℕ) → sumBelow n (λ i. f i * 2 ^ suc i) ≡ 2 * sumBelow n (λ i. f i * 2 ^ i)
+unfolding sumBelow
+scale zero f = refl
+scale (suc n) f = let p : f n * 2 ^ suc n ≡ 2 * (f n * 2 ^ n) = rw (pow-suc 2 n) (omega arith) in omega (arith, scale n f, p)
+
+-- the value of a row by its digits f, of which those past the slices are 0
+value-digits : (ps : List (ℕ → Bool)) (r n : ℕ) (f : ℕ → ℕ) → length ps ≤ n → ((i : ℕ) → i < length ps → bit (getD ps i none r) ≡ f i)
+    → ((i : ℕ) → length ps ≤ i → f i ≡ 0) → valueOf ps r ≡ sumBelow n (λ i. f i * 2 ^ i)
+unfolding valueOf
+value-digits [] r n f h g z = sym (sum-zero n (λ i. f i * 2 ^ i) (λ i l. ap (λ (k : ℕ). k * 2 ^ i) (z i (omega arith)) ∙ zero-mul (2 ^ i)))
+value-digits (p ∷ ps) r zero f h g z = absurd (omega arith)
+value-digits (p ∷ ps) r (suc n) f h g z =
+    let rest = value-digits ps r n (λ i. f (suc i)) (omega arith) (λ i l. g (suc i) (omega arith)) (λ i l. z (suc i) (omega arith)) in
+    omega (arith, rest, g 0 (omega arith), sum-first n (λ i. f i * 2 ^ i), scale n (λ i. f (suc i)))
+
+named-at : (index ks : List ℕ) (i : ℕ) → i < length ks → getD (named index ks) i none ≡ rowsAt index (getD ks i 0)
+unfolding named
+named-at index [] i h = absurd (omega arith)
+named-at index (k ∷ ks) zero h = refl
+named-at index (k ∷ ks) (suc i) h = named-at index ks i (omega arith)
+
+-- ---- one column
+
+-- the number that the words behind the first have at bit j
+abbrev pub numberOf : (ws : ℕ → ℕ) (n j : ℕ) → ℕ
+numberOf ws n j = sumBelow n (λ i. bitAt (ws (i + 1)) j * 2 ^ i)
+
+-- ws k is the word of place k of a list at segment s, and 0 past the list
+pub record WordsAt (index list : List ℕ) (s : ℕ) (ws : ℕ → ℕ) : Type 0 where
+  pub has : (k : ℕ) → k < length list → ws k ≡ getD (segments (placeBody index list k)) s 0
+  pub rest : (k : ℕ) → length list ≤ k → ws k ≡ 0
+
+module _ (index : List ℕ) (s j : ℕ) (low : j < 32) where
+  abbrev r : ℕ
+  r = s * 32 + j
+
+  place-bit : (list : List ℕ) (ws : ℕ → ℕ) (w : WordsAt index list s ws) (k : ℕ) → k < length list → rowsAt index (getD list k 0) r ≡ isSet (ws k) j
+  unfolding rowsAt
+  place-bit list ws w k h = row-bit (placeBody index list k) s j low ∙ ap (λ (x : ℕ). isSet x j) (sym (w .has k h))
+
+  pub exists-bit : (list : List ℕ) (ws : ℕ → ℕ) → WordsAt index list s ws → 1 ≤ length list → existing index list r ≡ isSet (ws 0) j
+  unfolding existing
+  exists-bit [] ws w h = absurd (omega arith)
+  exists-bit (k ∷ ks) ws w h = place-bit (k ∷ ks) ws w 0 (omega arith)
+
+  pub value-number : (list : List ℕ) (ws : ℕ → ℕ) (n : ℕ) → WordsAt index list s ws → 1 ≤ length list → length list ≤ n + 1 → valueAt index list r ≡ numberOf ws n j
+  unfolding valueAt slicesOf
+  value-number [] ws n w h l = absurd (omega arith)
+  value-number (k ∷ ks) ws n w h l =
+      let many : length (named index ks) ≡ length ks = unfold named in length-map ks (rowsAt index) in
+      value-digits (named index ks) r n (λ i. bitAt (ws (i + 1)) j) (omega arith)
+      (λ i g. ap (λ (p : ℕ → Bool). bit (p r)) (named-at index ks i (omega arith)) ∙ ap bit (has i (omega arith)) ∙ sym (bit-set (ws (i + 1)) j))
+      (λ i g. bit-set (ws (i + 1)) j ∙ ap bit (ap (λ (x : ℕ). isSet x j) (w .rest (i + 1) (omega arith)) ∙ zero-clear j))
+    where
+      has : (i : ℕ) → i < length ks → rowsAt index (getD ks i 0) r ≡ isSet (ws (i + 1)) j
+      has i g = let e : i + 1 ≡ suc i = omega arith in rw e (place-bit (k ∷ ks) ws w (suc i) (omega arith))
+
+-- ---- the segments of a set of rows
+
+abbrev pub segs : (R : ℕ) → (ℕ → Bool) → List Segment
+segs R p = map (kind 32 32) (fromRows 32 R p)
+
+pub segs-length : (R : ℕ) (p : ℕ → Bool) → length (segs R p) ≡ segmentCount 32 R
+segs-length R p = length-map (fromRows 32 R p) (kind 32 32) ∙ from-length 32 (omega arith) R p
+
+-- the segment of a word whose bits are right
+segment-is : (R : ℕ) (p : ℕ → Bool) (i y : ℕ) → i < segmentCount 32 R → y < 2 ^ 32
+    → ((j : ℕ) → j < 32 → isSet y j ≡ ltb (i * 32 + j) R && p (i * 32 + j)) → getD (segs R p) i (clean 0) ≡ kind 32 32 y
+unfolding kind allSet
+segment-is R p i y h l g =
+    List·getD-map (kind 32 32) (fromRows 32 R p) i 0
+    ∙ ap (kind 32 32) (word-by-bits 32 (getD (fromRows 32 R p) i 0) y (from-below 32 (omega arith) R p i) l
+    (λ j k. from-bit 32 (omega arith) R p i j h k ∙ sym (g j k)))
+
+-- ---- the answer's segment
+
+-- z b is the word of body b of the sum, made of the words x and y of two columns: of its bits those that are rows below R
+pub record SumWords (R s n : ℕ) (x y z : ℕ → ℕ) : Type 0 where
+  pub low : (b : ℕ) → b ≤ n → z b < 2 ^ 32
+  pub exists : (j : ℕ) → j < 32 → isSet (z 0) j ≡ ltb (s * 32 + j) R && (isSet (x 0) j && isSet (y 0) j)
+  pub digits : (b j : ℕ) → b < n → j < 32 → isSet (z (suc b)) j ≡ isSet (z 0) j && isSet (sumValue n (numberOf x n j) (numberOf y n j)) b
+
+and-assoc : (a b c : Bool) → (a && b) && c ≡ a && (b && c)
+and-assoc true b c = refl
+and-assoc false b c = refl
+
+-- the rows of body b
+abbrev pub sets : (index first second : List ℕ) (n b : ℕ) → ℕ → Bool
+sets index first second n b = getD (pairColumn index sumValue n first second) b none
+
+module _ (index first second : List ℕ) (n : ℕ) (f1 : 1 ≤ length first) (f2 : 1 ≤ length second) (l1 : length first ≤ n + 1) (l2 : length second ≤ n + 1) where
+  abbrev R : ℕ
+  R = rowCount index
+
+  abbrev both : ℕ → Bool
+  both = intersection (existing index first) (existing index second)
+
+  abbrev v : ℕ → ℕ
+  v r = sumValue n (valueAt index first r) (valueAt index second r)
+
+  set-later : (b : ℕ) → b < n → sets index first second n (suc b) ≡ slice both v b
+  unfolding pairColumn columnOf
+  set-later b h = slices-at both v 0 n b h ∙ ap (slice both v) (omega arith)
+
+  module _ (s : ℕ) (x y z : ℕ → ℕ) (wx : WordsAt index first s x) (wy : WordsAt index second s y) (p : SumWords R s n x y z) where
+    both-is : (j : ℕ) → j < 32 → both (s * 32 + j) ≡ isSet (x 0) j && isSet (y 0) j
+    unfolding intersection
+    both-is j k = ap₂ (λ (a b : Bool). a && b) (exists-bit index s j k first x wx f1) (exists-bit index s j k second y wy f2)
+
+    v-is : (j : ℕ) → j < 32 → v (s * 32 + j) ≡ sumValue n (numberOf x n j) (numberOf y n j)
+    v-is j k = ap₂ (sumValue n) (value-number index s j k first x n wx f1 l1) (value-number index s j k second y n wy f2 l2)
+
+    rows : (b : ℕ) → b ≤ n → (j : ℕ) → j < 32 → isSet (z b) j ≡ ltb (s * 32 + j) R && sets index first second n b (s * 32 + j)
+    unfolding pairColumn columnOf
+    rows zero l j k = p .exists j k ∙ ap (λ (t : Bool). ltb (s * 32 + j) R && t) (sym (both-is j k))
+    rows (suc b) l j k =
+        p .digits b j (omega arith) k
+        ∙ ap₂ (λ (a t : Bool). a && t) (p .exists j k) refl
+        ∙ and-assoc (ltb (s * 32 + j) R) (isSet (x 0) j && isSet (y 0) j) (isSet (sumValue n (numberOf x n j) (numberOf y n j)) b)
+        ∙ ap (λ (t : Bool). ltb (s * 32 + j) R && t)
+        (sym (ap (λ (q : ℕ → Bool). q (s * 32 + j)) (set-later b (omega arith))
+        ∙ unfold slice in ap₂ (λ (a : Bool) (t : ℕ). a && isSet t b) (both-is j k) (v-is j k)))
+
+    -- the word of body b is its segment
+    pub block-segment : (b : ℕ) → b ≤ n → s < segmentCount 32 R → getD (segs R (sets index first second n b)) s (clean 0) ≡ kind 32 32 (z b)
+    block-segment b l h = segment-is R (sets index first second n b) s (z b) h (p .low b l) (rows b l)

@@ -1,0 +1,113 @@
+-- A stretch within clean runs of all places: the words of the sum are clean there too.
+-- Assumes nothing.
+use Prim.Native.Nat.{ℕ, zero, suc, _+_, _-_, _*_, _^_, _≤_, _<_}
+use mathlib.Core.Bool.{Bool, true, false, _&&_}
+use mathlib.Core.Path.{_≡_, refl, sym, ap, ap₂, _∙_}
+use mathlib.Core.List.{List}
+use lib.Dec.{eqb}
+use lib.ListN.{length, getD}
+use native.Mathlib.Decide.{decLe}
+use native.Mathlib.Omega.{arith}
+use borrow.Author.Tests.{lt-ltb}
+use Rattle.meaning.specs.Limits.{blockSegments}
+use Rattle.meaning.specs.Rows.{bit}
+use Rattle.meaning.specs.Segment.{bitAt, isSet}
+use Rattle.meaning.specs.Ewah.{segments, rowsOf}
+use Rattle.meaning.specs.Index.{rowCount}
+use Rattle.meaning.specs.Column.{sumValue}
+use Rattle.meaning.proofs.RowWords.{word-by-bits, eqb-bit}
+use Rattle.meaning.proofs.Sums.{sum-ext}
+use Rattle.meaning.proofs.Counting.{zero-clear, full-set}
+use Rattle.words.proofs.BitLaws.{bit-set}
+use Rattle.ewah.specs.declared.cursor.Cursor.{Cursor}
+use Rattle.ewah.specs.declared.cursor.Piece as code
+use Rattle.ewah.specs.declared.cursor.Piece.the-variants.{Clean, Dirty}
+use Rattle.ewah.specs.Cursors.{leftOf}
+use Rattle.adder.specs.Digits.{numberAt, Paired}
+use Rattle.block_read.specs.Taken.{wordAt}
+use Rattle.walk.specs.Queries.{cursorOf, CursorAt, Standing, placeBody}
+use Rattle.walk.specs.Surveys.{onesIn, dirtyIn}
+use Rattle.merge.specs.Parts.{MaskOf}
+use Rattle.merge.proofs.Stretched.{row-bit, row-run}
+use Rattle.block_write.specs.Rowed.{CleanWord}
+use Rattle.pairs.specs.Passes.{Chosen}
+use Rattle.pairs.proofs.Rows.{BlockOf}
+
+-- ---- one cursor
+
+bit-only : (a b : Bool) → bit a ≡ bit b → a ≡ b
+bit-only a b e = sym (eqb-bit a) ∙ ap (λ (k : ℕ). eqb k 1) e ∙ eqb-bit b
+
+-- a piece of several segments is no dirty word
+several-clean : (q : code.Piece) → 2 ≤ leftOf q → dirtyIn q ≡ 0
+several-clean (Clean v n) h = refl
+several-clean (Dirty x) h = absurd (omega arith)
+
+-- all bits of a run's segment are alike
+run-bits : (b : List ℕ) (o : ℕ) (c : Cursor) → CursorAt b o c → o < length (segments b) → 2 ≤ leftOf (c .piece)
+    → (j : ℕ) → j < 32 → isSet (getD (segments b) o 0) j ≡ isSet (getD (segments b) o 0) 0
+run-bits b o c a l h j k = sym (row-bit b o j k) ∙ bit-only _ _ (at j k ∙ sym (at 0 (omega arith))) ∙ row-bit b o 0 (omega arith)
+  where
+    at : (j : ℕ) → j < 32 → bit (rowsOf b (o * 32 + j)) ≡ onesIn (c .piece)
+    at j k = row-run b o c a l (several-clean (c .piece) h) o (omega arith) (omega arith) j k
+
+-- a word whose bits are all alike is clean
+uniform : (z : ℕ) → z < 2 ^ 32 → ((j : ℕ) → j < 32 → isSet z j ≡ isSet z 0) → CleanWord z
+uniform z h g n = go (isSet z 0) refl
+  where
+    go : (t : Bool) → isSet z 0 ≡ t → z ≡ 4294967295
+    go true e = word-by-bits 32 z 4294967295 h (omega arith) (λ j k. g j k ∙ e ∙ sym (full-set 32 j k))
+    go false e = absurd (n (word-by-bits 32 z 0 h (omega arith) (λ j k. g j k ∙ e ∙ sym (zero-clear j))))
+
+-- ---- the words of a list
+
+-- of each row's first word all bits are alike
+abbrev pub AllAlike : List ℕ → Type 0
+AllAlike x = (k j : ℕ) → j < 32 → isSet (getD x (k * blockSegments + 0) 0) j ≡ isSet (getD x (k * blockSegments + 0) 0) 0
+
+pub alike : (index list ns x : List ℕ) (o n : ℕ) → 1 ≤ n → BlockOf index list o n true x → Standing index list ns (length list) o
+    → ((k : ℕ) → k < length list → o < length (segments (placeBody index list k))) → ((k : ℕ) → k < length list → 2 ≤ leftOf (cursorOf ns k .piece)) → AllAlike x
+unfolding wordAt
+alike index list ns x o n some b st inside left k j l = elim (decLe (suc k) (length list)) [
+  | yes h ↦ rw (word h) (run-bits (placeBody index list k) o (cursorOf ns k) (st k h) (inside k h) (left k h) j l)
+  | no h ↦ rw (b .rest (k * blockSegments + 0) (omega arith)) (zero-clear j ∙ sym (zero-clear 0))
+]
+  where
+    word : k < length list → getD x (k * blockSegments + 0) 0 ≡ getD (segments (placeBody index list k)) o 0
+    word h = b .has k 0 h (omega arith) ∙ ap (λ (i : ℕ). getD (segments (placeBody index list k)) i 0) (omega arith)
+
+number-alike : (x : List ℕ) (n j : ℕ) → j < 32 → AllAlike x → numberAt x n 0 j ≡ numberAt x n 0 0
+unfolding numberAt
+number-alike x n j l h =
+    sum-ext n (λ i. bitAt (getD x ((i + 1) * blockSegments + 0) 0) j * 2 ^ i) (λ i. bitAt (getD x ((i + 1) * blockSegments + 0) 0) 0 * 2 ^ i)
+    (λ i g. ap (λ (b : ℕ). b * 2 ^ i) (bit-set (getD x ((i + 1) * blockSegments + 0) 0) j ∙ ap bit (h (i + 1) j l) ∙ sym (bit-set (getD x ((i + 1) * blockSegments + 0) 0) 0)))
+
+-- ---- their sum
+
+module _ (R near N o n : ℕ) (x y z : List ℕ) (mask : ℕ) (ch : Chosen near R o n true) (ax : AllAlike x) (ay : AllAlike y)
+    (p : Paired sumValue x y N 1 mask z) (m : MaskOf R (o + n) mask) where
+  masked : (j : ℕ) → j < 32 → isSet mask j ≡ true
+  masked j k = m .rows j k ∙ lt-ltb ((o + n - 1) * 32 + j) R (omega (arith, ch .in-rows refl, ch .some))
+
+  first-word : (v : List ℕ) → AllAlike v → (j : ℕ) → j < 32 → isSet (getD v 0 0) j ≡ isSet (getD v 0 0) 0
+  first-word v a j k = a 0 j k
+
+  exists-alike : (j : ℕ) → j < 32 → isSet (getD z 0 0) j ≡ isSet (getD z 0 0) 0
+  exists-alike j k =
+      p .exists-last 0 j refl
+      ∙ ap₂ (λ (a b : Bool). a && b) (ap₂ (λ (a b : Bool). a && b) (first-word x ax j k) (first-word y ay j k)) (masked j k ∙ sym (masked 0 (omega arith)))
+      ∙ sym (p .exists-last 0 0 refl)
+
+  alike-at : (b : ℕ) → b ≤ N → (j : ℕ) → j < 32 → isSet (getD z (b * blockSegments + 0) 0) j ≡ isSet (getD z (b * blockSegments + 0) 0) 0
+  alike-at zero l j k = exists-alike j k
+  alike-at (suc b) l j k =
+      let s : suc b ≡ b + 1 = omega arith in
+      rw s
+      (p .digits b 0 j (omega arith) (omega arith)
+      ∙ ap₂ (λ (a : Bool) (t : ℕ). a && isSet t b) (exists-alike j k) (ap₂ (sumValue N) (number-alike x N j k ax) (number-alike y N j k ay))
+      ∙ sym (p .digits b 0 0 (omega arith) (omega arith)))
+
+  pub clean-words : (b : ℕ) → b ≤ N → CleanWord (getD z (b * blockSegments) 0)
+  clean-words b l =
+      let s : b * blockSegments + 0 ≡ b * blockSegments = omega arith in
+      rw s at (uniform (getD z (b * blockSegments + 0) 0) (p .low b 0 l (omega arith)) (alike-at b l))

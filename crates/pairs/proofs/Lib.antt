@@ -1,0 +1,6 @@
+pub mod Choosing
+pub mod Blocks
+pub mod Rows
+pub mod Evenly
+pub mod Passing
+pub mod Summing

@@ -1,0 +1,188 @@
+-- `pairs::sum::sum` meets its contract: measured, laid out, and written where it fits.
+-- Assumes nothing.
+use Prim.Native.Nat.{ℕ, _+_, _*_, _≤_, _<_}
+use mathlib.Core.Bool.{true, true≢false}
+use mathlib.Core.Path.{_≡_, sym, ap, _∙_, subst}
+use mathlib.Core.List.{List}
+use lib.ListN.{length, getD, replicate}
+use denote.Ref.{now}
+use native.Mathlib.Omega.{arith}
+use borrow.Author.Needs.{needs}
+use Rattle.meaning.specs.Limits.{mostStarts, headWords, entryWords}
+use Rattle.meaning.specs.Index.{rowCount}
+use Rattle.new_index.specs.Layouts.{StartsOf, Headed}
+use Rattle.new_index.specs.Writers.{writerOf, Laid}
+use Rattle.pairs.specs.Passes.{Columns, bodyOf}
+use Rattle.pairs.specs.Sums.{sumIndex}
+use Rattle.pairs.proofs.Rows.{zeros}
+use Rattle.pairs.proofs.Summing.{nowhere-laid, nothing-kept, body-low, need-is, laid, contents-fit, small, exact, written}
+use Rattle.pairs.proofs.sum.sum.Statement.{statement}
+use Rattle.pairs.proofs.sum.sum.Tie as tie
+
+-- ---- where the bodies are measured and laid out
+module _ (s : tie.After-starts) where
+  abbrev call : tie.Start
+  call = s .before .before .before .before .before .before .before .before .before .before .before .before
+
+  abbrev index : List ℕ
+  index = now (call .args .index)
+
+  abbrev first : List ℕ
+  first = now (call .args .first)
+
+  abbrev second : List ℕ
+  second = now (call .args .second)
+
+  abbrev n : ℕ
+  n = call .args .n
+
+  abbrev old : List ℕ
+  old = now (call .args .out)
+
+  abbrev ws : List ℕ
+  ws = s .before .before .before .before .before .pass .result .numbers
+
+  abbrev starts : List ℕ
+  starts = s .starts .result
+
+  cs : Columns index first second n
+  cs = call .pre
+
+  used : (i : ℕ) → i ≤ n → writerOf ws i .used ≡ length (bodyOf index first second n i)
+  used = s .before .before .before .before .before .pass .ensures .used
+
+  st : StartsOf ws (n + 1) (headWords + entryWords * (n + 1)) starts
+  st = s .starts .ensures
+
+  -- measuring stored nothing
+  same : s .before .before .before .before .before .pass .last .1 .1 .1 .1 .0 ≡ old
+  same = nothing-kept (replicate mostStarts 0) old _ (n + 1) (zeros mostStarts) (s .before .before .before .before .before .pass .ensures .back)
+
+  need : getD starts (n + 1) 0 ≡ length (sumIndex index first second n)
+  need = need-is index first second n cs ws starts used st
+
+  in-order : (room : ℕ) → getD starts (n + 1) 0 ≤ room → Laid starts (n + 1) room
+  in-order = laid index first second n cs ws starts used st
+
+add-count : tie.Need-add-count
+add-count c = search needs
+
+slice-aggregate-pass : tie.Need-slice-aggregate-pass
+slice-aggregate-pass c = search needs
+
+pass-requires : tie.Need-pass-requires
+pass-requires c κs =
+    let a = c .before .before .before .before .before .before in
+    (
+      a .pre,
+      (
+        nowhere-laid (replicate mostStarts 0) (a .args .n + 1) _ (omega (arith, a .pre .few)) (zeros mostStarts),
+        λ e. absurd (true≢false (sym e)),
+      ),
+    )
+
+mul-starts : tie.Need-mul-starts
+mul-starts c = search needs
+
+add-starts : tie.Need-add-starts
+add-starts c = search needs
+
+starts-requires : tie.Need-starts-requires
+starts-requires c κs =
+    let a = c .before .before .before .before .before .before .before .before .before .before .before in
+    let p = c .before .before .before .before .pass .ensures in
+    (
+      omega (arith, a .pre .few),
+      p .numbers-long,
+      omega (arith, a .pre .few),
+      λ i h. omega (arith, p .used i (omega arith), body-low (now (a .args .index)) (now (a .args .first)) (now (a .args .second)) (a .args .n) (a .pre) i),
+    )
+
+mul-need : tie.Need-mul-need
+mul-need c = search needs
+
+array-read-need : tie.Need-array-read-need
+array-read-need c = search needs
+
+same-length : tie.Need-same-length
+same-length c = search needs
+
+returns : tie.Need-returns
+returns c =
+    let s = c .before in
+    record { need-is = need s; fits = λ h. absurd (omega (arith, c .if1 .taken, ap length (same s))); lacks = λ h. same s }
+
+rows-requires : tie.Need-rows-requires
+rows-requires c κs = search needs
+
+slice-aggregate-write-contents : tie.Need-slice-aggregate-write-contents
+slice-aggregate-write-contents c = search needs
+
+write-contents-requires : tie.Need-write-contents-requires
+write-contents-requires c κs =
+    let s = c .before .before .before .before in
+    let fits = c .before .before .before .if1 .left in
+    let l = in-order s _ fits in
+    (
+      (
+        omega (arith, cs s .few),
+        l .many,
+        omega (arith, contents-fit (index s) (first s) (second s) (n s) (cs s) (ws s) (starts s) (used s) (st s), fits),
+      ),
+      λ i h. (
+        l .rising i (i + 1) (omega arith) (omega arith),
+        omega (arith, small (index s) (first s) (second s) (n s) (cs s) (ws s) (starts s) (used s) (st s) (i + 1) (omega arith), cs s .few),
+      ),
+    )
+
+slice-aggregate-pass-2 : tie.Need-slice-aggregate-pass-2
+slice-aggregate-pass-2 c = search needs
+
+pass-requires-2 : tie.Need-pass-requires-2
+pass-requires-2 c κs =
+    let s = c .before .before .before .before .before .before .before .before .before in
+    let hd = c .before .before .before .before .write-contents .ensures in
+    let room = c .before .before .before .before .before .before .before .before .if1 .left in
+    (
+      cs s,
+      (
+        in-order s _ (omega (arith, hd .long, room)),
+        λ e i h. omega (arith, exact (index s) (first s) (second s) (n s) (cs s) (ws s) (starts s) (used s) (st s) (c .before .before .before .before .write-contents .last .0) i (omega (arith, hd .long, room)) h),
+      ),
+    )
+
+same-length-2 : tie.Need-same-length-2
+same-length-2 c = search needs
+
+returns-2 : tie.Need-returns-2
+returns-2 c =
+    let s = c .before .before .before .before .before .before .before .before .before .before .before .before in
+    let room = c .before .before .before .before .before .before .before .before .before .before .before .if1 .left in
+    let out₁ = c .before .before .before .before .before .before .before .write-contents .last .0 in
+    let hd : Headed (s .before .before .before .before .before .pass .last .1 .1 .1 .1 .0) (rowCount (index s)) (starts s) (n s + 1) out₁ (n s + 1) =
+        subst (λ (r : ℕ). Headed (s .before .before .before .before .before .pass .last .1 .1 .1 .1 .0) r (starts s) (n s + 1) out₁ (n s + 1)) (c .before .before .before .before .before .before .before .before .before .before .rows .ensures) (c .before .before .before .before .before .before .before .write-contents .ensures) in
+    let out = written (index s) (first s) (second s) (n s) (cs s) (ws s) (starts s) (used s) (st s) (old s) out₁ _ _ (omega (arith, room, ap length (same s)))
+        (subst (λ (l : List ℕ). Headed l (rowCount (index s)) (starts s) (n s + 1) out₁ (n s + 1)) (same s) hd) (c .before .before .pass2 .ensures) in
+    record { need-is = need s; fits = λ h. out; lacks = λ h. absurd (omega (arith, room, ap length (same s))) }
+
+pub sum-spec : {M : Type 1} → statement M
+sum-spec =
+    tie.close
+    (tie.spec
+    add-count
+    slice-aggregate-pass
+    pass-requires
+    mul-starts
+    add-starts
+    starts-requires
+    mul-need
+    array-read-need
+    same-length
+    returns
+    rows-requires
+    slice-aggregate-write-contents
+    write-contents-requires
+    slice-aggregate-pass-2
+    pass-requires-2
+    same-length-2
+    returns-2)

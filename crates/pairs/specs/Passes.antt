@@ -1,0 +1,53 @@
+-- What one pass over two columns gives: the bodies of their sum, measured or written.
+-- Assumes nothing.
+use Prim.Native.Nat.{ℕ, _+_, _*_, _≤_, _<_}
+use mathlib.Core.Bool.{Bool, true, false}
+use mathlib.Core.Path.{_≡_}
+use mathlib.Core.List.{List, _++_}
+use lib.ListN.{length, getD, take, drop}
+use Rattle.meaning.specs.Limits.{leastColumn, mostValueColumn, blockSegments, writersNumbers}
+use Rattle.meaning.specs.Segment.{segmentCount}
+use Rattle.meaning.specs.Canonical.{canonical}
+use Rattle.meaning.specs.Index.{rowCount}
+use Rattle.meaning.specs.Laws.{IndexFacts}
+use Rattle.meaning.specs.Column.{sumValue}
+use Rattle.meaning.specs.Columns.{pairColumn}
+use Rattle.meaning.specs.ColumnLaws.{none}
+use Rattle.walk.specs.Queries.{Listed}
+use Rattle.new_index.specs.Writers.{writerOf, region}
+
+-- two columns of a sound index, neither of more than n slices
+pub record Columns (index first second : List ℕ) (n : ℕ) : Type 0 where
+  pub facts : IndexFacts index
+  pub first-listed : Listed index first
+  pub second-listed : Listed index second
+  pub first-some : leastColumn ≤ length first
+  pub second-some : leastColumn ≤ length second
+  pub first-fits : length first ≤ n + 1
+  pub second-fits : length second ≤ n + 1
+  pub few : n < mostValueColumn
+
+-- the next n segments of R rows from segment o on, where no piece ends before `near`: all within the pieces, and with no pad bit;
+-- or at most a block's
+pub record Chosen (near R o n : ℕ) (even : Bool) : Type 0 where
+  pub some : 1 ≤ n
+  pub within : o + n ≤ segmentCount 32 R
+  pub in-pieces : even ≡ true → n ≤ near
+  pub in-runs : even ≡ true → 2 ≤ near
+  pub in-rows : even ≡ true → (o + n) * 32 ≤ R
+  pub in-block : even ≡ false → n ≤ blockSegments
+
+-- body i of the answer
+abbrev pub bodyOf : (index first second : List ℕ) (n i : ℕ) → List ℕ
+bodyOf index first second n i = canonical (rowCount index) (getD (pairColumn index sumValue n first second) i none)
+
+-- the words of each body are counted, and stand in their part of the buffer where they are stored; what lies before the first part
+-- and behind the last is as it was
+pub record PassedTo (index first second : List ℕ) (n : ℕ) (starts old out ws : List ℕ) (store : Bool) : Type 0 where
+  pub long : length out ≡ length old
+  pub numbers-long : length ws ≡ writersNumbers
+  pub used : (i : ℕ) → i ≤ n → writerOf ws i .used ≡ length (bodyOf index first second n i)
+  pub stored : store ≡ true → (i : ℕ) → i ≤ n
+      → region starts out i ≡ bodyOf index first second n i ++ drop (length (bodyOf index first second n i)) (region starts old i)
+  pub front : take (getD starts 0 0) out ≡ take (getD starts 0 0) old
+  pub back : drop (getD starts (n + 1) 0) out ≡ drop (getD starts (n + 1) 0) old

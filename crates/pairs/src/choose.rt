@@ -1,0 +1,35 @@
+// How many segments come next, and whether as a run: where no piece ends for a block or longer, all segments up to that end are alike,
+// and one word for each place says them all.
+ghost use mathlib.Core.Path.{_≡_};
+ghost use Prim.Native.Nat.{_≤_, _<_};
+ghost use Rattle.meaning.specs.Limits.{mostRows};
+ghost use Rattle.meaning.specs.Segment.{segmentCount};
+ghost use Rattle.pairs.specs.Passes.{Chosen};
+use meaning::BLOCK_SEGMENTS;
+use walk::survey;
+
+// So many segments, and whether all of them are alike in every place.
+pub struct Stretch {
+    pub n: u32,
+    pub even: bool,
+}
+
+// The next segments from segment o on, where no piece ends before `near`. A segment with pad bits is never part of a run.
+pub fn choose(near: u32, o: u32, rows: u32, segments: u32) -> Stretch
+    requires { ⌜ (segments ≡ segmentCount 32 rows) × (o < segments) × (rows ≤ mostRows) ⌝ }
+    ensures { λ r. ⌜ Chosen near rows o (r .n) (r .even) ⌝ }
+{
+    let full = rows >> 5;
+    if BLOCK_SEGMENTS <= contents::wide(near) {
+        if o < full {
+            return Stretch {
+                n: survey::smaller(near, full - o),
+                even: true,
+            };
+        }
+    }
+    Stretch {
+        n: survey::smaller(BLOCK_SEGMENTS as u32, segments - o),
+        even: false,
+    }
+}

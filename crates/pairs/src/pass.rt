@@ -1,0 +1,56 @@
+// One pass over two columns, block by block: the bodies of their sum, measured or written.
+ghost use mathlib.Core.Path.{_≡_};
+ghost use mathlib.Core.Bool.{true};
+ghost use Prim.Native.Nat.{ℕ, _+_, _≤_};
+ghost use lib.ListN.{length};
+ghost use Rattle.new_index.specs.Writers.{Laid, region};
+ghost use Rattle.pairs.specs.Passes.{Columns, bodyOf, PassedTo};
+use crate::choose;
+use meaning::BLOCK_WORDS;
+use merge::evaluate;
+use new_index::writers;
+use new_index::writers::Writers;
+use walk::survey;
+use words::rows;
+
+// The sum's n slices and the rows that exist, each to its own part of `out` where `store` says so, and else only measured.
+pub fn pass(
+    index: &[u32],
+    first: &[u32],
+    second: &[u32],
+    n: usize,
+    out: &mut [u32],
+    starts: &[usize],
+    store: bool,
+) -> Writers
+    requires { ⌜ Columns (now index) (now first) (now second) n ⌝ }
+    requires { ⌜ Laid (now starts) (n + 1) (length (now out)) ⌝ }
+    requires { ⌜ (store ≡ true → (i : ℕ) → i ≤ n
+        → length (bodyOf (now index) (now first) (now second) n i) ≤ length (region (now starts) (now out) i)) ⌝ }
+    ensures { λ r. ⌜ PassedTo (now (index .entry)) (now (first .entry)) (now (second .entry)) n
+        (now (starts .entry)) (now (out .entry)) (now (out .exit)) (r .numbers) store ⌝ }
+{
+    let rows = contents::rows(index);
+    let segments = rows::segment_count(rows);
+    let mut p = survey::open(index, first);
+    let mut q = survey::open(index, second);
+    let mut ws = writers::start();
+    let mut z: [u32; BLOCK_WORDS] = [0; BLOCK_WORDS];
+    let mut o: u32 = 0;
+    while o < segments {
+        let near = gather::nearest(&p.numbers, first.len());
+        let close = gather::nearest(&q.numbers, second.len());
+        let s = choose::choose(survey::smaller(near, close), o, rows, segments);
+        let m = s.n;
+        let even = s.even;
+        let mask = evaluate::mask_before(rows, segments, o + m);
+        let mut x: [u32; BLOCK_WORDS] = [0; BLOCK_WORDS];
+        let mut y: [u32; BLOCK_WORDS] = [0; BLOCK_WORDS];
+        gather::gather(index, first, &mut p.numbers, m, even, &mut x);
+        gather::gather(index, second, &mut q.numbers, m, even, &mut y);
+        adder::sum(&x, &y, &mut z, n, writers::row_length(m, even), mask);
+        writers::emit_all(out, starts, &mut ws.numbers, &z, n + 1, m, even, store);
+        o += m;
+    }
+    ws
+}

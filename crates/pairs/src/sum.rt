@@ -1,0 +1,29 @@
+// The sum of two columns of a sound index, as a new index.
+ghost use Rattle.pairs.specs.Passes.{Columns};
+ghost use Rattle.pairs.specs.Sums.{SumWritten};
+use crate::pass;
+use meaning::ENTRY_WORDS;
+use meaning::HEAD_WORDS;
+use meaning::MOST_STARTS;
+use new_index::layout;
+
+// The words that the index of n slices takes; it is written where they fit, and else nothing is. Bodies are measured first, since
+// each lies behind those before it.
+pub fn sum(index: &[u32], first: &[u32], second: &[u32], n: usize, out: &mut [u32]) -> usize
+    requires { ⌜ Columns (now index) (now first) (now second) n ⌝ }
+    ensures { λ r. ⌜ SumWritten (now (index .entry)) (now (first .entry)) (now (second .entry)) n
+        (now (out .entry)) (now (out .exit)) r ⌝ }
+{
+    let count = n + 1;
+    let nowhere: [usize; MOST_STARTS] = [0; MOST_STARTS];
+    let measured = pass::pass(index, first, second, n, out, &nowhere, false);
+    let starts = layout::starts(&measured.numbers, count, HEAD_WORDS + ENTRY_WORDS * count);
+    let need = starts[count];
+    if out.len() < need {
+        return need;
+    }
+    let rows = contents::rows(index);
+    layout::write_contents(out, rows, &starts, count);
+    pass::pass(index, first, second, n, out, &starts, true);
+    need
+}
