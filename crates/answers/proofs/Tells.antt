@@ -6,12 +6,16 @@ use mathlib.Core.List.{List, _++_}
 use native.Mathlib.Omega.{arith}
 use lib.ListN.{length, drop}
 use lib.Seq.{take-at}
-use Rattle.meaning.specs.Refusal.{Outcome, refused, answer}
+use Rattle.meaning.specs.Refusal.{Outcome, Verdict, refused, answer, _then_}
 use Rattle.meaning.specs.Answer.{fits, bufferAfter, wordsReported}
-use Rattle.meaning.proofs.Outcomes.{fits-yes, fits-no}
+use Rattle.meaning.proofs.Outcomes.{fits-yes, fits-no, then-sound}
 use Rattle.answers.specs.declared.refusal.Refusal.{Refusal}
-use Rattle.answers.specs.Told.{refusedBy, refusal, writtenOf, wordsOf, Wrote}
+use Rattle.answers.specs.declared.refusal.Checked.{Checked}
+use Rattle.answers.specs.declared.refusal.Checked.the-variants as checked
+use Rattle.answers.specs.Told.{refusedBy, refusal, verdictOf, writtenOf, wordsOf, Wrote}
+use Rattle.answers.specs.declared.answer.Written.{Written}
 use Rattle.answers.specs.declared.answer.Written.the-variants as written
+use Rattle.answers.proofs.Checks.{sound-is}
 
 -- ---- a buffer
 
@@ -30,3 +34,7 @@ module _ (out : List ℕ) where
     wrote-words out′ h e =
         rw (fits-yes (length out) ws (omega arith), e)
         (record { told = ap answer (take-at ws (drop (length ws) out) n (sym is)); words = is; left = refl })
+
+-- a call behind a check that finds nothing tells what the question behind it tells
+pub wrote-then : (k : Checked) (v : Verdict) (o : Outcome (List ℕ)) (r : Written) (out out′ : List ℕ) → verdictOf k ≡ v → k ≡ checked.Sound → Wrote o r out out′ → Wrote (v then o) r out out′
+wrote-then k v o r out out′ e h w = rw (then-sound v o (sound-is k v e h)) w

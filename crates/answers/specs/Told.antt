@@ -15,6 +15,8 @@ use Rattle.answers.specs.declared.answer.Flag.{Flag}
 use Rattle.answers.specs.declared.answer.Flag.the-variants as flag
 use Rattle.answers.specs.declared.answer.Number.{Number}
 use Rattle.answers.specs.declared.answer.Number.the-variants as number
+use Rattle.answers.specs.declared.answer.Value.{Value}
+use Rattle.answers.specs.declared.answer.Value.the-variants as value
 use Rattle.answers.specs.declared.answer.Answered.{Answered}
 use Rattle.answers.specs.declared.answer.Answered.the-variants as answered
 use Rattle.answers.specs.declared.answer.Written.{Written}
@@ -32,6 +34,10 @@ verdictOf (checked.Refused r) = refusedBy r
 abbrev pub refusal : (number word : ℕ) → Refusal
 refusal n w = record { number = n; bitmap = 0; word = w }
 
+-- the refusal of a row that a slice, that bitmap, has and that does not exist
+abbrev pub strayRefusal : (bitmap row : ℕ) → Refusal
+strayRefusal b r = record { number = 11; bitmap = b; word = r }
+
 unfoldable pub flagOf : Flag → Outcome Bool
 flagOf (flag.Is b) = answer b
 flagOf (flag.Refused r) = refusedBy r
@@ -39,6 +45,11 @@ flagOf (flag.Refused r) = refusedBy r
 unfoldable pub numberOf : Number → Outcome ℕ
 numberOf (number.Is n) = answer n
 numberOf (number.Refused r) = refusedBy r
+
+-- named apart from `valueOf`, a column's value itself
+unfoldable pub valueTold : Value → Outcome ℕ
+valueTold (value.Is n) = answer n
+valueTold (value.Refused r) = refusedBy r
 
 -- of a call that wrote: its words are those that the buffer begins with
 unfoldable pub writtenOf : Written → (buffer′ : List ℕ) → Outcome (List ℕ)

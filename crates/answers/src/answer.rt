@@ -1,6 +1,6 @@
-// What calls answer, and the refusals that name no bitmap.
+// What calls answer, and the refusals that no check of an index or a body gives.
 ghost use mathlib.Core.Path.{_≡_};
-ghost use Rattle.answers.specs.Told.{refusal, Counted, refusedBy};
+ghost use Rattle.answers.specs.Told.{refusal, strayRefusal, Counted, refusedBy};
 use crate::refusal::Checked;
 use crate::refusal::Refusal;
 use meaning::HISTOGRAM_COUNTS;
@@ -14,6 +14,12 @@ pub enum Flag {
 // A count, or a row number.
 pub enum Number {
     Is(u32),
+    Refused(Refusal),
+}
+
+// A value of a column.
+pub enum Value {
+    Is(u64),
     Refused(Refusal),
 }
 
@@ -86,5 +92,16 @@ pub fn no_room(need: u64) -> Refusal
         number: 9,
         bitmap: 0,
         word: need,
+    }
+}
+
+// 11, with the slice's bitmap number and the row.
+pub fn stray(bitmap: u32, row: u64) -> Refusal
+    ensures { λ r. ⌜ r ≡ strayRefusal bitmap row ⌝ }
+{
+    Refusal {
+        number: 11,
+        bitmap,
+        word: row,
     }
 }

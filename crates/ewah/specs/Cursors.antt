@@ -5,6 +5,7 @@ use mathlib.Core.Path.{_≡_}
 use mathlib.Core.List.{List, [], _∷_}
 use lib.ListN.{length, drop, getD}
 use Rattle.meaning.specs.Limits.{mostClean, mostDirty}
+use Rattle.meaning.specs.Segment.{fill}
 use Rattle.meaning.specs.Ewah.{Piece, dirtyWord, runThen, pieces}
 use Rattle.meaning.specs.Ahead.{Ahead}
 use Rattle.ewah.specs.declared.cursor.Piece as code
@@ -20,6 +21,11 @@ leftOf (Dirty x) = 1
 abbrev pub ValueLow : code.Piece → Type 0
 ValueLow (Clean v n) = v < 2
 ValueLow (Dirty x) = Unit {0}
+
+-- the word that every segment of a piece is
+abbrev pub wordOf : code.Piece → ℕ
+wordOf (Clean v n) = fill 32 32 v
+wordOf (Dirty x) = x
 
 -- what is left of the piece, and then the others
 unfoldable pub pieceThen : code.Piece → List Piece → List Piece

@@ -4,7 +4,7 @@ ghost use Prim.Native.Nat.{_+_, _≤_, _<_};
 ghost use lib.ListN.{length, drop};
 ghost use Rattle.meaning.specs.Limits.{mostDirty};
 ghost use Rattle.meaning.specs.Ewah.{pieces};
-ghost use Rattle.ewah.specs.Cursors.{Stands, InOrder, leftOf, piecesFrom, spanOf, behind, Passes};
+ghost use Rattle.ewah.specs.Cursors.{Stands, InOrder, ValueLow, leftOf, wordOf, piecesFrom, spanOf, behind, Passes};
 ghost use Rattle.meaning.specs.Ahead.{advanced};
 use crate::marker;
 
@@ -73,6 +73,17 @@ pub fn left(c: Cursor) -> u32
     match piece {
         Piece::Clean(_, n) => n,
         Piece::Dirty(_) => 1,
+    }
+}
+
+// The word of a piece's segments.
+pub fn word(piece: Piece) -> u32
+    requires { ⌜ ValueLow piece ⌝ }
+    ensures { λ r. ⌜ r ≡ wordOf piece ⌝ }
+{
+    match piece {
+        Piece::Clean(value, _) => marker::segment(value),
+        Piece::Dirty(x) => x,
     }
 }
 

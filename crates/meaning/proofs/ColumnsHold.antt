@@ -38,18 +38,18 @@ all-good index [] h = refl
 all-good index (k ∷ ks) h =
     rw (lt-leb (bitmapCount index) k (h 0 (omega arith))) (all-good index ks (λ i g. h (suc i) (omega arith)))
 
-named-length : (index ks : List ℕ) → length (named index ks) ≡ length ks
+pub named-length : (index ks : List ℕ) → length (named index ks) ≡ length ks
 unfolding named
 named-length index ks = length-map ks (rowsAt index)
 
-named-at : (index ks : List ℕ) (i : ℕ) → i < length ks → getD (named index ks) i none ≡ rowsAt index (getD ks i 0)
+pub named-at : (index ks : List ℕ) (i : ℕ) → i < length ks → getD (named index ks) i none ≡ rowsAt index (getD ks i 0)
 unfolding named
 named-at index [] i h = absurd (omega arith)
 named-at index (k ∷ ks) zero h = refl
 named-at index (k ∷ ks) (suc i) h = named-at index ks i (omega arith)
 
 -- a list that is good has 2 to `most` numbers
-column-length : (index : List ℕ) (most : ℕ) (list : List ℕ) → badColumn index most list ≡ false
+pub column-length : (index : List ℕ) (most : ℕ) (list : List ℕ) → badColumn index most list ≡ false
     → (2 ≤ length list) × (length list ≤ most)
 unfolding badColumn
 column-length index most list e =

@@ -21,6 +21,7 @@ use Rattle.meaning.proofs.RowWords.{word-by-bits, from-bit, from-below, from-le
 use Rattle.meaning.proofs.Sums.{sum-zero, sum-first}
 use Rattle.meaning.proofs.Counting.{zero-clear}
 use Rattle.meaning.proofs.ColumnValues.{slices-at}
+use Rattle.meaning.proofs.ColumnsHold.{named-at, named-length}
 use Rattle.words.proofs.BitLaws.{bit-set}
 use Rattle.walk.specs.Queries.{placeBody}
 use Rattle.merge.proofs.Stretched.{row-bit}
@@ -41,12 +42,6 @@ value-digits (p ∷ ps) r zero f h g z = absurd (omega arith)
 value-digits (p ∷ ps) r (suc n) f h g z =
     let rest = value-digits ps r n (λ i. f (suc i)) (omega arith) (λ i l. g (suc i) (omega arith)) (λ i l. z (suc i) (omega arith)) in
     omega (arith, rest, g 0 (omega arith), sum-first n (λ i. f i * 2 ^ i), scale n (λ i. f (suc i)))
-
-named-at : (index ks : List ℕ) (i : ℕ) → i < length ks → getD (named index ks) i none ≡ rowsAt index (getD ks i 0)
-unfolding named
-named-at index [] i h = absurd (omega arith)
-named-at index (k ∷ ks) zero h = refl
-named-at index (k ∷ ks) (suc i) h = named-at index ks i (omega arith)
 
 -- ---- one column
 
@@ -76,7 +71,7 @@ module _ (index : List ℕ) (s j : ℕ) (low : j < 32) where
   unfolding valueAt slicesOf
   value-number [] ws n w h l = absurd (omega arith)
   value-number (k ∷ ks) ws n w h l =
-      let many : length (named index ks) ≡ length ks = unfold named in length-map ks (rowsAt index) in
+      let many : length (named index ks) ≡ length ks = named-length index ks in
       value-digits (named index ks) r n (λ i. bitAt (ws (i + 1)) j) (omega arith)
       (λ i g. ap (λ (p : ℕ → Bool). bit (p r)) (named-at index ks i (omega arith)) ∙ ap bit (has i (omega arith)) ∙ sym (bit-set (ws (i + 1)) j))
       (λ i g. bit-set (ws (i + 1)) j ∙ ap bit (ap (λ (x : ℕ). isSet x j) (w .rest (i + 1) (omega arith)) ∙ zero-clear j))

@@ -23,10 +23,11 @@ use Rattle.answers.specs.declared.answer.Histogram.{Histogram}
 use Rattle.replies.specs.declared.reply.ZvChecked.{ZvChecked}
 use Rattle.replies.specs.declared.reply.ZvFlag.{ZvFlag}
 use Rattle.replies.specs.declared.reply.ZvNumber.{ZvNumber}
+use Rattle.replies.specs.declared.reply.ZvValue.{ZvValue}
 use Rattle.replies.specs.declared.reply.ZvWritten.{ZvWritten}
 use Rattle.replies.specs.declared.reply.ZvAnswered.{ZvAnswered}
 use Rattle.replies.specs.declared.reply.ZvHistogram.{ZvHistogram}
-use Rattle.replies.specs.Exported.{numberIn, bitmapIn, wordIn, flagIn, valueIn, checkedCode, flagCode, numberCode, writtenCode, answeredCode, writtenReply, answeredReply, told, verdictTold, flagTold, numberTold, writtenTold, answeredTold, Checks, Flags, Numbers, Writes, Reports, Counts, histogramReply, histogramCode, countsTold}
+use Rattle.replies.specs.Exported.{numberIn, bitmapIn, wordIn, flagIn, valueIn, checkedCode, flagCode, numberCode, valueCode, writtenCode, answeredCode, writtenReply, answeredReply, told, verdictTold, flagTold, numberTold, valueRead, writtenTold, answeredTold, Checks, Flags, Numbers, Values, Writes, Reports, Counts, histogramReply, histogramCode, countsTold}
 use Rattle.meaning.proofs.Numbered.{number-of}
 
 -- ---- reading an outcome
@@ -56,9 +57,16 @@ flag-is o x e = rw e (flag-back x)
 pub flags : (o : Outcome Bool) (r : ZvFlag) → Numbered o → r ≡ flagCode o → Flags o r
 flags o r n e = record { code = e; tells = ap flagTold e ∙ told-is o (eqb (flagIn o) 1) n (flag-is o) }
 
-pub numbers : (o : Outcome ℕ) (r : ZvNumber) → Numbered o → r ≡ numberCode o → Numbers o r
+-- of a number and of a value, which differ in their width alone
+value-is : (o : Outcome ℕ) → Numbered o → told (numberIn o) (bitmapIn o) (wordIn o) (valueIn o) ≡ o
 unfolding valueIn
-numbers o r n e = record { code = e; tells = ap numberTold e ∙ told-is o (valueIn o) n (λ x p. ap valueIn p) }
+value-is o n = told-is o (valueIn o) n (λ x p. ap valueIn p)
+
+pub numbers : (o : Outcome ℕ) (r : ZvNumber) → Numbered o → r ≡ numberCode o → Numbers o r
+numbers o r n e = record { code = e; tells = ap numberTold e ∙ value-is o n }
+
+pub values : (o : Outcome ℕ) (r : ZvValue) → Numbered o → r ≡ valueCode o → Values o r
+values o r n e = record { code = e; tells = ap valueRead e ∙ value-is o n }
 
 -- ---- a call that writes
 

@@ -18,6 +18,7 @@ use Rattle.answers.specs.declared.answer.Answered.the-variants as answered
 use Rattle.replies.specs.declared.reply.ZvChecked.{ZvChecked}
 use Rattle.replies.specs.declared.reply.ZvFlag.{ZvFlag}
 use Rattle.replies.specs.declared.reply.ZvNumber.{ZvNumber}
+use Rattle.replies.specs.declared.reply.ZvValue.{ZvValue}
 use Rattle.replies.specs.declared.reply.ZvWritten.{ZvWritten}
 use Rattle.replies.specs.declared.reply.ZvAnswered.{ZvAnswered}
 use Rattle.replies.specs.declared.reply.ZvPart.{ZvPart}
@@ -60,6 +61,9 @@ flagCode o = record { number = numberIn o; bitmap = bitmapIn o; word = wordIn o;
 
 abbrev pub numberCode : Outcome ℕ → ZvNumber
 numberCode o = record { number = numberIn o; bitmap = bitmapIn o; word = wordIn o; value = valueIn o }
+
+abbrev pub valueCode : Outcome ℕ → ZvValue
+valueCode o = record { number = numberIn o; bitmap = bitmapIn o; word = wordIn o; value = valueIn o }
 
 abbrev pub writtenCode : Outcome (List ℕ) → ZvWritten
 writtenCode o = record { number = numberIn o; bitmap = bitmapIn o; word = wordIn o; words = wordsReported o }
@@ -113,6 +117,10 @@ flagTold r = told (r .number) (r .bitmap) (r .word) (eqb (r .value) 1)
 abbrev pub numberTold : ZvNumber → Outcome ℕ
 numberTold r = told (r .number) (r .bitmap) (r .word) (r .value)
 
+-- named apart from `valueTold`, which is of the public call's answer
+abbrev pub valueRead : ZvValue → Outcome ℕ
+valueRead r = told (r .number) (r .bitmap) (r .word) (r .value)
+
 -- of a call that wrote: its words are those that the buffer begins with
 abbrev pub writtenTold : ZvWritten → (buffer′ : List ℕ) → Outcome (List ℕ)
 writtenTold r buffer′ = told (r .number) (r .bitmap) (r .word) (take (r .words) buffer′)
@@ -139,6 +147,10 @@ pub record Flags (o : Outcome Bool) (r : ZvFlag) : Type 0 where
 pub record Numbers (o : Outcome ℕ) (r : ZvNumber) : Type 0 where
   pub code : r ≡ numberCode o
   pub tells : numberTold r ≡ o
+
+pub record Values (o : Outcome ℕ) (r : ZvValue) : Type 0 where
+  pub code : r ≡ valueCode o
+  pub tells : valueRead r ≡ o
 
 pub record Writes (o : Outcome (List ℕ)) (r : ZvWritten) (buffer buffer′ : List ℕ) : Type 0 where
   pub code : r ≡ writtenCode o

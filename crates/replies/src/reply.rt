@@ -1,12 +1,13 @@
 // What an exported call returns: the three numbers of a refusal, all 0 where there is none, and the values, 0 on a refusal.
 // A struct of numbers, since C has no enum that holds values.
 ghost use mathlib.Core.Path.{_≡_};
-ghost use Rattle.answers.specs.Told.{verdictOf, flagOf, numberOf};
-ghost use Rattle.replies.specs.Exported.{checkedCode, flagCode, numberCode, writtenReply, answeredReply, partReply, histogramReply};
+ghost use Rattle.answers.specs.Told.{verdictOf, flagOf, numberOf, valueTold};
+ghost use Rattle.replies.specs.Exported.{checkedCode, flagCode, numberCode, valueCode, writtenReply, answeredReply, partReply, histogramReply};
 use answers::answer::Answered;
 use answers::answer::Flag;
 use answers::answer::Histogram;
 use answers::answer::Number;
+use answers::answer::Value;
 use answers::answer::Written;
 use answers::refusal::Checked;
 use answers::refusal::Refusal;
@@ -34,6 +35,14 @@ pub struct ZvNumber {
     pub bitmap: u32,
     pub word: u64,
     pub value: u32,
+}
+
+#[repr(C)]
+pub struct ZvValue {
+    pub number: u32,
+    pub bitmap: u32,
+    pub word: u64,
+    pub value: u64,
 }
 
 #[repr(C)]
@@ -123,6 +132,25 @@ pub fn number(told: Number) -> ZvNumber
             bitmap: 0,
             word: 0,
             value: value,
+        },
+    }
+}
+
+pub fn value(told: Value) -> ZvValue
+    ensures { λ r. ⌜ r ≡ valueCode (valueTold told) ⌝ }
+{
+    match told {
+        Value::Refused(refusal) => ZvValue {
+            number: refusal.number,
+            bitmap: refusal.bitmap,
+            word: refusal.word,
+            value: 0,
+        },
+        Value::Is(n) => ZvValue {
+            number: 0,
+            bitmap: 0,
+            word: 0,
+            value: n,
         },
     }
 }

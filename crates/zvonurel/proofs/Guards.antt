@@ -13,11 +13,10 @@ use Rattle.meaning.proofs.IndexSound.{index-means}
 use Rattle.meaning.proofs.Outcomes.{then-sound}
 use Rattle.answers.specs.declared.refusal.Checked.{Checked}
 use Rattle.answers.specs.declared.refusal.Checked.the-variants as checked
-use Rattle.answers.specs.Told.{verdictOf, answeredOf, Reported, Counted, Wrote}
+use Rattle.answers.specs.Told.{verdictOf, answeredOf, Reported, Counted}
 use Rattle.answers.proofs.Checks.{sound-is}
 use Rattle.answers.specs.declared.answer.Histogram.{Histogram}
 use Rattle.answers.specs.declared.answer.Answered.{Answered}
-use Rattle.answers.specs.declared.answer.Written.{Written}
 
 pub checked-index : (k : Checked) (index : List ℕ) → verdictOf k ≡ check index → k ≡ checked.Sound → IndexFacts index
 unfolding check
@@ -28,9 +27,6 @@ reported-then index list k v o r out out′ e h w = rw (then-sound v o (sound-is
 
 pub counted-then : (k : Checked) (v : Verdict) (o : Outcome (List ℕ)) (r : Histogram) → verdictOf k ≡ v → k ≡ checked.Sound → Counted o r → Counted (v then o) r
 counted-then k v o r e h w = rw (then-sound v o (sound-is k v e h)) w
-
-pub wrote-then : (k : Checked) (v : Verdict) (o : Outcome (List ℕ)) (r : Written) (out out′ : List ℕ) → verdictOf k ≡ v → k ≡ checked.Sound → Wrote o r out out′ → Wrote (v then o) r out out′
-wrote-then k v o r out out′ e h w = rw (then-sound v o (sound-is k v e h)) w
 
 -- what is reported of a threshold question meets demand 3
 pub demand-met : (index list : List ℕ) (t : ℕ) (r : Answered) (out out′ : List ℕ) → Reported index list (threshold index list t (length out)) r out out′

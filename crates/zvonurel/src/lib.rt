@@ -2,7 +2,7 @@
 //
 // A call asks nothing of its input: what is wrong with it is refused, with paper 01's three numbers. Each `ensures` settles
 // what is returned, and every word of a lent buffer afterwards, for every input. The outcomes that they name are defined in
-// `meaning`'s `specs/Answer.antt`; `answers`' `specs/Told.antt` says which outcome an answer tells.
+// `meaning`'s `specs/Answer.antt` and `specs/Columns.antt`; `answers`' `specs/Told.antt` says which outcome an answer tells.
 ghost use mathlib.Core.Path.{_≡_};
 ghost use Prim.Native.Nat.{_+_, _*_};
 ghost use lib.ListN.{length};
@@ -10,13 +10,15 @@ ghost use Rattle.meaning.specs.Limits.{wordBytes};
 ghost use Rattle.meaning.specs.Refusal.{sound};
 ghost use Rattle.meaning.specs.Index.{startOf};
 ghost use Rattle.meaning.specs.Answer as meaning;
+ghost use Rattle.meaning.specs.Columns as columns;
 ghost use Rattle.meaning.specs.Demands.{Asked, ThresholdDemand};
-ghost use Rattle.answers.specs.Told.{verdictOf, flagOf, numberOf, answeredOf, Wrote, Reported, Counted};
+ghost use Rattle.answers.specs.Told.{verdictOf, flagOf, numberOf, valueTold, answeredOf, Wrote, Reported, Counted};
 use answers::answer;
 pub use answers::answer::Answered;
 pub use answers::answer::Flag;
 pub use answers::answer::Histogram;
 pub use answers::answer::Number;
+pub use answers::answer::Value;
 pub use answers::answer::Written;
 pub use answers::refusal::Checked;
 pub use answers::refusal::Refusal;
@@ -272,5 +274,30 @@ pub fn histogram(index: &[u32], list: &[u32]) -> Histogram
     match checked {
         Checked::Refused(refusal) => answer::no_histogram(refusal),
         Checked::Sound => lists::ask::histogram(index, list),
+    }
+}
+
+// ---- columns: a list names existence first, then the slices of the values, the lowest digit first; a number may be named twice
+
+// The value at a row of the column that a list of `LEAST_COLUMN` to `MOST_VALUE_COLUMN` numbers names.
+pub fn value(index: &[u32], column: &[u32], row: u32) -> Value
+    ensures { λ r. ⌜ valueTold r ≡ columns.value (now (index .entry)) (now (column .entry)) row ⌝ }
+{
+    let checked = check(index);
+    match checked {
+        Checked::Refused(refusal) => Value::Refused(refusal),
+        Checked::Sound => columns::ask::value(index, column, row),
+    }
+}
+
+// The sum of two columns of up to `MOST_COLUMN` numbers each, as a new index: the rows that exist in both, then one slice more than the wider has.
+pub fn sum(index: &[u32], first: &[u32], second: &[u32], out: &mut [u32]) -> Written
+    ensures { λ r. ⌜ Wrote (columns.sum (now (index .entry)) (now (first .entry)) (now (second .entry))
+        (length (now (out .entry)))) r (now (out .entry)) (now (out .exit)) ⌝ }
+{
+    let checked = check(index);
+    match checked {
+        Checked::Refused(refusal) => Written::Refused(refusal),
+        Checked::Sound => columns::ask::sum(index, first, second, out),
     }
 }

@@ -4,8 +4,9 @@
 // of what is returned and every word of a lent buffer; `specs/Exported.antt` says how an outcome is told in numbers.
 ghost use lib.ListN.{length};
 ghost use Rattle.meaning.specs.Answer as meaning;
+ghost use Rattle.meaning.specs.Columns as columns;
 ghost use Rattle.meaning.specs.Demands.{Asked, ThresholdDemand};
-ghost use Rattle.replies.specs.Exported.{Checks, Flags, Numbers, Writes, Reports, Lends, Counts, answeredTold};
+ghost use Rattle.replies.specs.Exported.{Checks, Flags, Numbers, Values, Writes, Reports, Lends, Counts, answeredTold};
 use replies::reply;
 pub use replies::reply::ZvAnswered;
 pub use replies::reply::ZvChecked;
@@ -13,6 +14,7 @@ pub use replies::reply::ZvFlag;
 pub use replies::reply::ZvHistogram;
 pub use replies::reply::ZvNumber;
 pub use replies::reply::ZvPart;
+pub use replies::reply::ZvValue;
 pub use replies::reply::ZvWritten;
 use zvonurel::Checked;
 
@@ -194,4 +196,21 @@ pub extern "C" fn zv_histogram(index: &[u32], list: &[u32]) -> ZvHistogram
     ensures { λ r. ⌜ Counts (meaning.histogram (now (index .entry)) (now (list .entry))) r ⌝ }
 {
     reply::histogram(zvonurel::histogram(index, list))
+}
+
+// ---- columns of an index, each named by a list: existence, then the slices, the lowest first
+
+#[no_mangle]
+pub extern "C" fn zv_value(index: &[u32], column: &[u32], row: u32) -> ZvValue
+    ensures { λ r. ⌜ Values (columns.value (now (index .entry)) (now (column .entry)) row) r ⌝ }
+{
+    reply::value(zvonurel::value(index, column, row))
+}
+
+#[no_mangle]
+pub extern "C" fn zv_sum(index: &[u32], first: &[u32], second: &[u32], out: &mut [u32]) -> ZvWritten
+    ensures { λ r. ⌜ Writes (columns.sum (now (index .entry)) (now (first .entry)) (now (second .entry)) (length (now (out .entry))))
+        r (now (out .entry)) (now (out .exit)) ⌝ }
+{
+    reply::written(zvonurel::sum(index, first, second, out))
 }

@@ -5,8 +5,8 @@ use borrow.Author.Needs.{needs}
 use Rattle.meaning.specs.Answer.{check, askLogical, logical, andNot}
 use Rattle.meaning.specs.Question.{difference}
 use Rattle.answers.proofs.Checks.{refuses}
-use Rattle.answers.proofs.Tells.{wrote-refused}
-use Rattle.zvonurel.proofs.Guards.{checked-index, wrote-then}
+use Rattle.answers.proofs.Tells.{wrote-refused, wrote-then}
+use Rattle.zvonurel.proofs.Guards.{checked-index}
 use Rattle.zvonurel.proofs.and_not.Statement.{statement}
 use Rattle.zvonurel.proofs.and_not.Tie as tie
 

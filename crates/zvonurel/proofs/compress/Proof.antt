@@ -5,8 +5,7 @@ use lib.ListN.{length}
 use Rattle.meaning.specs.Segment.{hasRow}
 use Rattle.meaning.specs.Answer.{plainFault, write, compress}
 use Rattle.answers.proofs.Checks.{sound-is, refuses}
-use Rattle.answers.proofs.Tells.{wrote-refused}
-use Rattle.zvonurel.proofs.Guards.{wrote-then}
+use Rattle.answers.proofs.Tells.{wrote-refused, wrote-then}
 use Rattle.single.proofs.PlainWords.{plain-rows}
 use Rattle.zvonurel.proofs.compress.Statement.{statement}
 use Rattle.zvonurel.proofs.compress.Tie as tie

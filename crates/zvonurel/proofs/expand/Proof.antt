@@ -7,8 +7,7 @@ use Rattle.meaning.specs.Ewah.{rowsOf}
 use lib.ListN.{length}
 use Rattle.meaning.specs.Answer.{checkBody, askPlain, expand}
 use Rattle.answers.proofs.Checks.{sound-is, refuses}
-use Rattle.answers.proofs.Tells.{wrote-refused}
-use Rattle.zvonurel.proofs.Guards.{wrote-then}
+use Rattle.answers.proofs.Tells.{wrote-refused, wrote-then}
 use Rattle.zvonurel.proofs.Alone.{few-rows, facts}
 use Rattle.zvonurel.proofs.expand.Statement.{statement}
 use Rattle.zvonurel.proofs.expand.Tie as tie

@@ -10,8 +10,7 @@ use mathlib.Core.List.{List}
 use lib.ListN.{length}
 use mathlib.Core.Path.{subst₂}
 use Rattle.answers.specs.Told.{Wrote}
-use Rattle.answers.proofs.Tells.{wrote-refused}
-use Rattle.zvonurel.proofs.Guards.{wrote-then}
+use Rattle.answers.proofs.Tells.{wrote-refused, wrote-then}
 use Rattle.single.proofs.Numbers.{facts-as, rows-as}
 use borrow.Author.Needs.{needs}
 use Rattle.zvonurel.proofs.expand_bitmap.Statement.{statement}

@@ -4,8 +4,8 @@ use lib.ListN.{length}
 use borrow.Author.Needs.{needs}
 use Rattle.meaning.specs.Answer.{check, askNot, notOf}
 use Rattle.answers.proofs.Checks.{refuses}
-use Rattle.answers.proofs.Tells.{wrote-refused}
-use Rattle.zvonurel.proofs.Guards.{checked-index, wrote-then}
+use Rattle.answers.proofs.Tells.{wrote-refused, wrote-then}
+use Rattle.zvonurel.proofs.Guards.{checked-index}
 use Rattle.zvonurel.proofs.not.Statement.{statement}
 use Rattle.zvonurel.proofs.not.Tie as tie
 

@@ -1,0 +1,4 @@
+pub mod Lowering
+pub mod Looking
+pub mod Going
+pub mod Columns

@@ -1,0 +1,88 @@
+// One column of a sound index: rows that a slice has and that do not exist, and the value at a row.
+// Calls here have a `requires`; the public ones of `zvonurel` test their input first.
+ghost use mathlib.Core.Path.{_≡_};
+ghost use Prim.Native.Nat.{ℕ, _≤_, _<_};
+ghost use lib.ListN.{length, getD};
+ghost use Rattle.meaning.specs.Rows.{bit};
+ghost use Rattle.meaning.specs.Index.{rowCount, bitmapCount, rowsAt};
+ghost use Rattle.meaning.specs.Laws.{IndexFacts};
+ghost use Rattle.meaning.specs.Limits.{leastColumn, mostValueColumn};
+ghost use Rattle.meaning.specs.Columns as meaning;
+ghost use Rattle.answers.specs.Told.{verdictOf};
+use crate::outside::Found;
+use answers::answer;
+use answers::refusal::Checked;
+use ewah_read::row;
+use words::rows;
+
+mod outside;
+
+// The first slice with a row that does not exist, and the lowest such row of it: 11.
+pub fn strays(index: &[u32], list: &[u32]) -> Checked
+    requires { ⌜ IndexFacts (now index) ⌝ }
+    requires { ⌜ (leastColumn ≤ length (now list)) × (length (now list) ≤ mostValueColumn)
+        × ((i : ℕ) → i < length (now list) → getD (now list) i 0 < bitmapCount (now index)) ⌝ }
+    ensures { λ r. ⌜ verdictOf r ≡ meaning.strays (now (index .entry)) (now (list .entry)) ⌝ }
+{
+    let segments = rows::segment_count(contents::rows(index));
+    let exists = contents::body(index, list[0]);
+    let mut i: usize = 1;
+    while i < list.len() {
+        let k = list[i];
+        let found = outside::first(contents::body(index, k), exists, segments);
+        match found {
+            Found::Row(row) => return Checked::Refused(answer::stray(k, row as u64)),
+            Found::Nothing => i += 1,
+        }
+    }
+    Checked::Sound
+}
+
+// Whether bitmap k has a row.
+fn has(index: &[u32], k: u32, row: u32) -> bool
+    requires { ⌜ IndexFacts (now index) ⌝ }
+    requires { ⌜ (k < bitmapCount (now index)) × (row < rowCount (now index)) ⌝ }
+    ensures { λ r. ⌜ r ≡ rowsAt (now (index .entry)) k row ⌝ }
+{
+    row::row(contents::body(index, k), row)
+}
+
+// The same as a binary digit.
+fn digit(index: &[u32], k: u32, row: u32) -> u64
+    requires { ⌜ IndexFacts (now index) ⌝ }
+    requires { ⌜ (k < bitmapCount (now index)) × (row < rowCount (now index)) ⌝ }
+    ensures { λ r. ⌜ r ≡ bit (rowsAt (now (index .entry)) k row) ⌝ }
+{
+    if has(index, k, row) {
+        return 1;
+    }
+    0
+}
+
+// The value at a row, its highest digit first.
+pub fn value(index: &[u32], list: &[u32], row: u32) -> u64
+    requires { ⌜ IndexFacts (now index) ⌝ }
+    requires { ⌜ (leastColumn ≤ length (now list)) × (length (now list) ≤ mostValueColumn)
+        × ((i : ℕ) → i < length (now list) → getD (now list) i 0 < bitmapCount (now index))
+        × (row < rowCount (now index)) ⌝ }
+    ensures { λ r. ⌜ r ≡ meaning.valueAt (now (index .entry)) (now (list .entry)) row ⌝ }
+{
+    let mut v: u64 = 0;
+    let mut i = list.len();
+    while 1 < i {
+        i -= 1;
+        v = 2 * v + digit(index, list[i], row);
+    }
+    v
+}
+
+// Whether a row exists.
+pub fn exists(index: &[u32], list: &[u32], row: u32) -> bool
+    requires { ⌜ IndexFacts (now index) ⌝ }
+    requires { ⌜ (leastColumn ≤ length (now list)) × (length (now list) ≤ mostValueColumn)
+        × ((i : ℕ) → i < length (now list) → getD (now list) i 0 < bitmapCount (now index))
+        × (row < rowCount (now index)) ⌝ }
+    ensures { λ r. ⌜ r ≡ meaning.existing (now (index .entry)) (now (list .entry)) row ⌝ }
+{
+    has(index, list[0], row)
+}

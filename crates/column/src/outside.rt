@@ -1,0 +1,149 @@
+// The lowest row that one body has and another has not, for a slice and its column's existence. The two are gone through together,
+// at most to the next marker of either at a time: where a run says that nothing strays all its segments are passed at once.
+ghost use mathlib.Core.Bool.{Bool, true};
+ghost use mathlib.Core.Path.{_≡_};
+ghost use Prim.Native.Nat.{ℕ, _+_, _*_, _≤_, _<_};
+ghost use lib.ListN.{length, getD};
+ghost use Rattle.meaning.specs.Limits.{mostSegments, mostDirty};
+ghost use Rattle.meaning.specs.Ewah.{segments};
+ghost use Rattle.meaning.specs.Ahead.{Ahead};
+ghost use Rattle.ewah.specs.declared.cursor.Piece.the-variants.{Clean, Dirty};
+ghost use Rattle.ewah.specs.Cursors.{InOrder, piecesFrom, spanOf, behind};
+ghost use Rattle.column.specs.Outside.{OverBits, Spells, SeenIn, FoundIn, outside};
+use ewah::cursor;
+use ewah::cursor::Cursor;
+use ewah::cursor::Piece;
+use words::bits;
+
+// The lowest row, or that there is none.
+pub enum Found {
+    Row(u32),
+    Nothing,
+}
+
+// What the next segments have: the lowest row, counted from the first of them, or so many segments that have none.
+pub enum Seen {
+    Row(u32),
+    Clear(u32),
+}
+
+// The bits of a word that another has not.
+fn over(x: u32, e: u32) -> u32
+    ensures { λ r. ⌜ OverBits x e r ⌝ }
+{
+    x & !e
+}
+
+// n segments that are words of each body, from `at` and from `from` on: one by one.
+fn find(slice: &[u32], at: usize, exists: &[u32], from: usize, n: u32) -> Seen
+    requires { ⌜ (1 ≤ n) × (n ≤ mostSegments) × (at + n ≤ length (now slice)) × (from + n ≤ length (now exists)) ⌝ }
+    ensures { λ r. ⌜ ((p : ℕ → Bool) → Spells p (λ i. getD (now (slice .entry)) (at + i) 0)
+        (λ i. getD (now (exists .entry)) (from + i) 0) n → SeenIn n p r) ⌝ }
+{
+    let count = n as usize;
+    let mut i: usize = 0;
+    while i < count {
+        let w = over(slice[at + i], exists[from + i]);
+        if w != 0 {
+            return Seen::Row(i as u32 * 32 + bits::nth(w, 0));
+        }
+        i += 1;
+    }
+    Seen::Clear(n)
+}
+
+// Whether a piece is a run of that value.
+fn is_run(piece: Piece, value: u32) -> bool
+    ensures { λ r. ⌜ (r ≡ true → (n : ℕ) × (piece ≡ Clean value n)) ⌝ }
+{
+    match piece {
+        Piece::Clean(v, _) => v == value,
+        Piece::Dirty(_) => false,
+    }
+}
+
+// Whether it is a dirty word.
+fn is_dirty(piece: Piece) -> bool
+    ensures { λ r. ⌜ (r ≡ true → (x : ℕ) × (piece ≡ Dirty x)) ⌝ }
+{
+    match piece {
+        Piece::Clean(_, _) => false,
+        Piece::Dirty(_) => true,
+    }
+}
+
+// The next n segments of both, at most to the next marker of either. A run against dirty words is looked at segment by segment:
+// in canonical bodies its first segment has a stray row.
+fn look(slice: &[u32], c: Cursor, exists: &[u32], e: Cursor, n: u32) -> Seen
+    requires { ⌜ InOrder (now slice) c ⌝ }
+    requires { ⌜ InOrder (now exists) e ⌝ }
+    requires { ⌜ (1 ≤ n) × (n ≤ mostSegments) × (n ≤ spanOf c) × (n ≤ spanOf e)
+        × (c .next + behind (c .piece) n ≤ length (now slice)) × (e .next + behind (e .piece) n ≤ length (now exists)) ⌝ }
+    ensures { λ r. ⌜ ((o : ℕ) → Ahead (now (slice .entry)) o (piecesFrom (now (slice .entry)) c)
+        → Ahead (now (exists .entry)) o (piecesFrom (now (exists .entry)) e)
+        → SeenIn n (λ k. outside (now (slice .entry)) (now (exists .entry)) (o * 32 + k)) r) ⌝ }
+{
+    let held = c.piece;
+    let there = e.piece;
+    if is_run(held, 0) {
+        return Seen::Clear(n);
+    }
+    if is_run(there, 1) {
+        return Seen::Clear(n);
+    }
+    if is_dirty(held) {
+        if is_dirty(there) {
+            return find(slice, c.next - 1, exists, e.next - 1, n);
+        }
+    }
+    let w = over(cursor::word(held), cursor::word(there));
+    if w != 0 {
+        return Seen::Row(bits::nth(w, 0));
+    }
+    Seen::Clear(1)
+}
+
+// How many segments there are up to the next marker of either, of so many that are left.
+fn common(c: Cursor, e: Cursor, left: u32) -> u32
+    requires { ⌜ (c .dirty ≤ mostDirty) × (e .dirty ≤ mostDirty) × (1 ≤ spanOf c) × (1 ≤ spanOf e) × (1 ≤ left) ⌝ }
+    ensures { λ r. ⌜ (1 ≤ r) × (r ≤ spanOf c) × (r ≤ spanOf e) × (r ≤ left) ⌝ }
+{
+    let a = cursor::span(c);
+    let b = cursor::span(e);
+    if a < b {
+        if a < left {
+            return a;
+        }
+        return left;
+    }
+    if b < left {
+        return b;
+    }
+    left
+}
+
+// The lowest row of a slice of that many segments that does not exist.
+pub fn first(slice: &[u32], exists: &[u32], count: u32) -> Found
+    requires { ⌜ (count ≤ mostSegments) × (length (segments (now slice)) ≡ count)
+        × (length (segments (now exists)) ≡ count) ⌝ }
+    ensures { λ r. ⌜ FoundIn (count * 32) (outside (now (slice .entry)) (now (exists .entry))) r ⌝ }
+{
+    let mut c = cursor::open(slice);
+    let mut e = cursor::open(exists);
+    let mut o: u32 = 0;
+    while o < count {
+        let n = common(c, e, count - o);
+        let seen = look(slice, c, exists, e, n);
+        match seen {
+            Seen::Row(r) => return Found::Row(o * 32 + r),
+            Seen::Clear(m) => {
+                let d = cursor::pass(slice, c, m);
+                let f = cursor::pass(exists, e, m);
+                c = d;
+                e = f;
+                o += m;
+            }
+        }
+    }
+    Found::Nothing
+}
