@@ -30,24 +30,33 @@
  * one behind the other. The whole of it is checked for every question. Bitmaps are numbered from 0. example/listing.c
  * makes one.
  *
+ * A COLUMN gives each row that exists a value. A list of bitmap numbers names it: the existence bitmap, whose rows
+ * exist, and then the slices, the lowest first. Slice i, counted from 0, has the rows whose value has the binary
+ * digit of weight 2^i set, and may have no row that does not exist. A list has ZV_LEAST_COLUMN to ZV_MOST_COLUMN
+ * numbers, which is 1 to 32 slices, and up to ZV_MOST_VALUE_COLUMN where only a value is asked, since a sum has one
+ * slice more. A number may stand in it more than once.
+ *
  * ANSWERS. `number` is 0 where the call was not refused. Else `number`, `bitmap` and `word` say why, every value
  * beside them is 0, and no word of the buffer changes. A call that writes puts its words at the front of the buffer;
  * the words behind them keep their values. Compare answers field by field: a struct may have unused bytes at its end.
  *
- * ROOM. A buffer of ZV_SEGMENTS(rows) words is always long enough for plain words, and one of
- * ZV_MOST_BODY_WORDS(rows) for a body. A call with a buffer of length 0 measures: it is refused with ZV_NO_ROOM, and
- * `word` is the words needed, unless none are, as with no rows. The pointer must still not be NULL.
+ * ROOM. A buffer of ZV_SEGMENTS(rows) words is always long enough for plain words, one of ZV_MOST_BODY_WORDS(rows)
+ * for a body, and one of ZV_MOST_SUM_WORDS(rows, slices) for a sum of columns. A call with a buffer of length 0
+ * measures: it is refused with ZV_NO_ROOM, and `word` is the words needed, unless none are, as with plain words or a
+ * body of no rows. The pointer must still not be NULL.
  *
  * COST. A call on an index checks the whole of it first, so it costs at least that check: the head, every entry, and
  * every body's markers and last word, but not its other dirty words. For many questions on one bitmap, ask zv_bitmap
  * once where its body lies, and then the body calls, with the index's word 1 as the rows: they check that body alone.
+ * zv_value looks through all slices for rows that do not exist, each time. For many values of one column, expand its
+ * bitmaps once and put the values together from the bits.
  *
  * LISTING. zv_nth and zv_body_nth check and walk from the front each time. To list all set rows, expand the body once
  * and scan the bits, as example/listing.c does: for 20,000 scattered set rows that is some thousand times as fast.
  *
  * STACK. A call needs less than ZV_MOST_STACK bytes of stack, whatever it is given: none recurses, and none has an
- * array whose length depends on the input. tests/c/stack.c measures some 4 KiB. A program's first memcpy or memset may
- * add some 3 KiB, while the system looks for it.
+ * array whose length depends on the input. tests/c/stack.c measures some 16 KiB for zv_sum, and 4 KiB for any other. A
+ * program's first memcpy or memset may add some 3 KiB, while the system looks for it.
  */
 #ifndef ZVONUREL_H
 #define ZVONUREL_H
@@ -74,6 +83,10 @@ extern "C" {
 #define ZV_MOST_NAMED 64u
 /* How many numbers a histogram has: one for each c from 0 to ZV_MOST_NAMED. */
 #define ZV_HISTOGRAM_COUNTS (ZV_MOST_NAMED + 1u)
+/* The fewest numbers that name a column, the most, and the most where only a value is asked. */
+#define ZV_LEAST_COLUMN 2u
+#define ZV_MOST_COLUMN 33u
+#define ZV_MOST_VALUE_COLUMN 34u
 /* An index: what word 0 says, the words before the contents, and the words of an entry of the contents. */
 #define ZV_INDEX_KIND 1u
 #define ZV_HEAD_WORDS 3u
@@ -87,11 +100,12 @@ extern "C" {
 /* The bits of a word, which are the rows of a segment. */
 #define ZV_WORD_BITS 32u
 /* More bytes of stack than any call needs. */
-#define ZV_MOST_STACK 16384u
+#define ZV_MOST_STACK 32768u
 
 /*
- * Sizes that follow from a number of rows, any unsigned 32-bit one. They are computed in uint64_t, so that nothing
- * wraps, and are constant where `rows` is. ZV_MOST_BODY_WORDS evaluates `rows` twice.
+ * Sizes that follow from a number of rows, and for a sum from one of slices, each any unsigned 32-bit one. They are
+ * computed in uint64_t, so that nothing wraps, and are constant where these numbers are. The last two evaluate `rows`
+ * twice.
  */
 
 /* The segments of that many rows, which are also their plain words. */
@@ -99,12 +113,18 @@ extern "C" {
 /* No body of that many rows that a call writes has more words, since the canonical form has at most a word for each
  * segment and one more for each ZV_MOST_DIRTY of them begun. It is never 0, so it can be the length of an array. */
 #define ZV_MOST_BODY_WORDS(rows) (ZV_SEGMENTS(rows) + ZV_SEGMENTS(rows) / ZV_MOST_DIRTY + 1u)
+/* No sum of two columns of that many rows, of which the wider has at most that many slices, has more words: a buffer
+ * of so many is never refused with ZV_NO_ROOM. The sum is an index of the existence bitmap and one slice more than
+ * these. A list of n numbers names n - 1 slices. */
+#define ZV_MOST_SUM_WORDS(rows, slices) \
+    (ZV_HEAD_WORDS + ((uint64_t)(slices) + 2u) * (ZV_ENTRY_WORDS + ZV_MOST_BODY_WORDS(rows)))
 
 /*
  * Numbers of refusal, with what `bitmap` and `word` are beside each. The first fault in this order is told: the index's
  * length (3), its head (1), word 0 (2), rows and N (3), room for the contents (1), the contents (4), the bodies in
- * order, each front to back (5, 6, 7), the arguments (8), the buffer (9). A body alone is bitmap 0 with places counted
- * in the body, and its rows are tested first (3). Plain words: 3, then 8, 7 and 9.
+ * order, each front to back (5, 6, 7), the arguments (8), the slices of columns (11), the buffer (9). A body alone is
+ * bitmap 0 with places counted in the body, and its rows are tested first (3). Plain words: 3, then 8, 7 and 9. No call
+ * gives 10.
  */
 
 /* Not refused. */
@@ -129,10 +149,15 @@ extern "C" {
 #define ZV_PAD_BIT 7u
 /* A bad argument: no such bitmap; no such row; fewer set rows than asked for; a list of no numbers or more than
  * ZV_MOST_NAMED; a threshold of 0 or above the list's length; a table that is not exactly one entry longer than the
- * list, or has an entry other than 0 and 1; not as many plain words as the rows have segments. bitmap 0, word 0. */
+ * list, or has an entry other than 0 and 1; not as many plain words as the rows have segments; a column of fewer than
+ * ZV_LEAST_COLUMN numbers, or of more than ZV_MOST_COLUMN, ZV_MOST_VALUE_COLUMN where only a value is asked; a value
+ * asked at a row that does not exist. bitmap 0, word 0. */
 #define ZV_BAD_ARGUMENT 8u
 /* The answer does not fit into the buffer. bitmap 0; word: the words needed. */
 #define ZV_NO_ROOM 9u
+/* A slice of a column has a row that does not exist, since the column's existence bitmap has it not. The first such
+ * slice in the list's order, the first column's before the second's: its bitmap number; word: its lowest such row. */
+#define ZV_STRAY_ROW 11u
 
 /* What a number of refusal says, in words that can stand within a sentence; `bitmap` and `word` say where. */
 static inline const char *zv_refusal_text(uint32_t number)
@@ -159,6 +184,8 @@ static inline const char *zv_refusal_text(uint32_t number)
                "number of plain words is not one that can be";
     case ZV_NO_ROOM:
         return "the buffer is too short for the answer (word is how many words it needs)";
+    case ZV_STRAY_ROW:
+        return "a slice holds a row that does not exist (bitmap is the slice, word is the row)";
     default:
         return "no call gives this number";
     }
@@ -186,6 +213,14 @@ typedef struct zv_number {
     uint64_t word;
     uint32_t value;
 } zv_number;
+
+/* A value of a column. */
+typedef struct zv_column_value {
+    uint32_t number;
+    uint32_t bitmap;
+    uint64_t word;
+    uint64_t value;
+} zv_column_value;
 
 /* How many words were written. */
 typedef struct zv_written {
@@ -297,6 +332,21 @@ zv_answered zv_symmetric(const uint32_t *index, size_t index_words, const uint32
 
 /* For each c from 0 to ZV_MOST_NAMED the number of rows that exactly c of the list have. 8. */
 zv_histogram_counts zv_histogram(const uint32_t *index, size_t index_words, const uint32_t *list, size_t list_words);
+
+/* ---- columns of an index, each named by a list: the existence bitmap, then the slices, the lowest first. Refusals:
+ * 1 to 7, then 8, 11 and 9. 8: a list has too few or too many numbers, or one that is no bitmap's. */
+
+/* The value of a row: what the slices that have it weigh. The list may have up to ZV_MOST_VALUE_COLUMN numbers. 8:
+ * there is no such row, or it does not exist; 11. */
+zv_column_value zv_value(const uint32_t *index, size_t index_words, const uint32_t *column, size_t column_numbers,
+                         uint32_t row);
+
+/* The sum of two columns, row by row, as a new index, which holds nothing else: the existence bitmap as bitmap 0,
+ * then the slices, one more than the wider column has, empty ones included, each body in the form with the fewest
+ * words. A row exists in the sum if it does in both. 0, 1 and so on, up to its last bitmap, name the sum in the new
+ * index. 8; 11; 9. */
+zv_written zv_sum(const uint32_t *index, size_t index_words, const uint32_t *first, size_t first_numbers,
+                  const uint32_t *second, size_t second_numbers, uint32_t *out, size_t out_words);
 
 #ifdef __cplusplus
 }

@@ -16,6 +16,8 @@ pub enum Value {
     Sound,
     Bit(bool),
     Number(u32),
+    /// A column's value.
+    Whole(u64),
     /// A part of the index: its place, unless it is empty, and its length.
     Part(Option<usize>, usize),
     /// Words written.
@@ -110,7 +112,17 @@ fn library(words: &[u32], q: &Question, out: &mut [u32]) -> Result<Value, zvonur
         Call::Threshold => zvonurel::threshold(words, &q.list, q.number, out).map(answer),
         Call::Symmetric => zvonurel::symmetric(words, &q.list, &q.table, out).map(answer),
         Call::Histogram => zvonurel::histogram(words, &q.list).map(|tally| Value::Tally(Box::new(tally))),
+        Call::Value => library_value(words, q),
+        Call::Sum => library_sum(words, q, out),
     }
+}
+
+fn library_value(words: &[u32], q: &Question) -> Result<Value, zvonurel::Refusal> {
+    zvonurel::value(words, &q.list, q.number).map(Value::Whole)
+}
+
+fn library_sum(words: &[u32], q: &Question, out: &mut [u32]) -> Result<Value, zvonurel::Refusal> {
+    zvonurel::sum(words, &q.list, &q.second, out).map(Value::Words)
 }
 
 // ---- the reference ----
@@ -170,5 +182,7 @@ fn second(words: &[u32], q: &Question) -> Second {
         Call::Threshold => reference::threshold(words, &q.list, q.number, q.room).map(answer),
         Call::Symmetric => reference::symmetric(words, &q.list, &q.table, q.room).map(answer),
         Call::Histogram => reference::histogram(words, &q.list).map(|tally| plain(Value::Tally(Box::new(tally)))),
+        Call::Value => reference::value(words, &q.list, q.number).map(|n| plain(Value::Whole(n))),
+        Call::Sum => reference::sum(words, &q.list, &q.second, q.room).map(wrote),
     }
 }

@@ -20,12 +20,16 @@ const _: () = assert!(FAR_LIST > MOST_NAMED && FAR_TABLE > HISTOGRAM_COUNTS);
 const PAIRS: [Call; 4] = [Call::And, Call::Or, Call::Xor, Call::AndNot];
 
 pub fn ask_all(session: &mut Session, input: &Input, random: &mut Random) {
-    let before = fingerprint(&input.words);
-    let mut asker = Asker { session, input, random };
-    match input.form {
+    asking(session, input, random, |asker| match input.form {
         Form::Index => asker.index(),
         Form::Body => asker.body(),
-    }
+    });
+}
+
+/// Asks these questions; the lent words must stay as they are.
+pub fn asking(session: &mut Session, input: &Input, random: &mut Random, ask: impl FnOnce(&mut Asker)) {
+    let before = fingerprint(&input.words);
+    ask(&mut Asker { session, input, random });
     if before != fingerprint(&input.words) {
         println!("DIFFERENCE  the lent words of a case were changed");
         std::process::exit(1);
@@ -36,19 +40,19 @@ fn fingerprint(words: &[u32]) -> u64 {
     words.iter().fold(0, |sum: u64, &word| sum.wrapping_mul(0x9E37_79B9_7F4A_7C15) ^ u64::from(word))
 }
 
-struct Asker<'a> {
+pub struct Asker<'a> {
     session: &'a mut Session,
-    input: &'a Input,
-    random: &'a mut Random,
+    pub input: &'a Input,
+    pub random: &'a mut Random,
 }
 
 impl Asker<'_> {
-    fn ask(&mut self, question: Question) {
+    pub fn ask(&mut self, question: Question) {
         self.session.ask(&self.input.words, question);
     }
 
     /// All of these, or two of them where the effort is small.
-    fn thin<T: Copy>(&mut self, mut from: Vec<T>) -> Vec<T> {
+    pub fn thin<T: Copy>(&mut self, mut from: Vec<T>) -> Vec<T> {
         if self.input.effort == Effort::Few {
             while from.len() > 2 {
                 from.swap_remove(self.random.below(from.len()));
@@ -60,9 +64,9 @@ impl Asker<'_> {
     // ---- buffers ----
 
     /// The same question with buffers of several lengths.
-    fn ask_rooms(&mut self, words: &[u32], question: Question) {
+    pub fn ask_rooms(&mut self, words: &[u32], question: Question) {
         let need = words_needed(words, &question);
-        let twice = 2 * self.named_words(&question.list);
+        let twice = 2 * (self.named_words(&question.list) + self.named_words(&question.second));
         let all = [need.saturating_sub(1), need, need + 1, 0, twice.min(LONGEST), need + 20 + self.random.below(20)];
         let rooms = match self.input.effort {
             Effort::Full => all.to_vec(),
@@ -86,7 +90,7 @@ impl Asker<'_> {
     }
 
     /// A buffer for questions that are refused before it matters.
-    fn any_room(&mut self) -> usize {
+    pub fn any_room(&mut self) -> usize {
         self.random.pick(&[0, 1, 5, 30])
     }
 
@@ -96,7 +100,7 @@ impl Asker<'_> {
         self.random.below(self.input.bitmaps as usize) as u32
     }
 
-    fn bad(&mut self) -> u32 {
+    pub fn bad(&mut self) -> u32 {
         let n = self.input.bitmaps;
         self.random.pick(&[n, n, n + 1, u32::MAX])
     }
@@ -109,7 +113,7 @@ impl Asker<'_> {
         self.thin(numbers)
     }
 
-    fn row_numbers(&mut self) -> Vec<u32> {
+    pub fn row_numbers(&mut self) -> Vec<u32> {
         let rows = self.input.rows;
         let inside = self.random.below(rows as usize) as u32;
         let last = rows.wrapping_sub(1);
@@ -187,6 +191,7 @@ impl Asker<'_> {
             self.two_bitmaps(call);
         }
         self.lists();
+        self.loose_columns();
     }
 
     fn rows_and_nths(&mut self) {
@@ -228,7 +233,7 @@ impl Asker<'_> {
 
     // ---- lists ----
 
-    fn some_list(&mut self, length: usize) -> Vec<u32> {
+    pub fn some_list(&mut self, length: usize) -> Vec<u32> {
         (0..length).map(|_| self.good()).collect()
     }
 

@@ -1,9 +1,11 @@
 //! Cases that always run, so that rare places are reached every time.
 
-use zvonurel::{index_of, segments, INDEX_KIND, MOST_BITMAPS, MOST_INDEX_WORDS, MOST_ROWS};
+use reference::limits::{LEAST_COLUMN, MOST_SUMMED, MOST_VALUED};
+use zvonurel::{index_of, segments, INDEX_KIND, MOST_BITMAPS, MOST_INDEX_WORDS, MOST_ROWS, WORD_BITS};
 
+use crate::ask::words_needed;
 use crate::choose::ask_all;
-use crate::encode::{entry_place, one_run};
+use crate::encode::{entry_place, one_run, settled};
 use crate::generate::{Effort, Form, Input};
 use crate::question::{Call, Question};
 use crate::random::Random;
@@ -93,15 +95,115 @@ pub fn run(session: &mut Session) {
     for (case, input) in inputs().iter().enumerate() {
         ask_all(session, input, &mut Random::for_case(0, case as u64));
     }
+    column_corners(session);
+    column_lengths(session);
     edge_of_length(session);
     edge_of_rows(session);
 }
 
-/// The most rows there can be: none set in one bitmap, all in the other.
+// ---- columns ----
+
+/// Bitmaps of 40 rows that columns are made of.
+const SLICES: [&[u32]; 10] = [
+    &[0x0000_0004],                       // none
+    &[0x0002_0003, 0xFF],                 // all
+    &[0x0000_0003, 0x2],                  // 0 to 31
+    &[0x0002_0002, 0xFF],                 // 32 to 39
+    &[0x0002_0002, 0x80],                 // 39, beside the pads
+    &[0x0004_0000, 0x8, 0x8],             // 3 and 35
+    &[0x0002_0000, 0x80, 0x2],            // 7
+    &[0x0004_0000, 0, 0],                 // none, clean dirty words
+    &[1, 0x0004_0000, u32::MAX, 0xFF, 0], // all, a clean dirty word and idle markers
+    &[0, 3, 0, 0x0002_0001, 0, 1],        // 0 to 31, the same
+];
+
+/// Pairs of columns of these.
+const PAIRS: [(&[u32], &[u32]); 23] = [
+    // existence empty, full, disjoint
+    (&[0, 0], &[0, 0]),
+    (&[0, 0], &[1, 1]),
+    (&[1, 0], &[1, 5]),
+    (&[2, 2, 5], &[3, 3]),
+    (&[2, 6], &[3, 4, 0]),
+    // a carry into the top slice
+    (&[1, 1], &[1, 1]),
+    (&[1, 1, 1, 1], &[1, 1]),
+    (&[1, 2, 5, 3], &[1, 2, 3, 3]),
+    // wasteful bodies
+    (&[8, 8, 7], &[9, 9, 7]),
+    (&[9, 7, 9, 6], &[8, 9, 8]),
+    // 11 in the first column, in the second, in both; only beside the pads
+    (&[2, 4], &[1, 1]),
+    (&[1, 1], &[2, 2, 4]),
+    (&[2, 4], &[3, 6]),
+    (&[9, 6, 3], &[1, 1]),
+    // 11 in several slices, a lower row in a later one
+    (&[2, 4, 5], &[1, 1]),
+    (&[3, 3, 5, 6, 2], &[0, 1]),
+    (&[1, 5], &[0, 4, 6, 5]),
+    // 8 and 11
+    (&[2, 4], &[]),
+    (&[2, 4], &[1]),
+    (&[0], &[2, 4]),
+    (&[2, 4], &[1, 10]),
+    (&[u32::MAX, 1], &[2, 4]),
+    (&[10, 4], &[1]),
+];
+
+/// The sum with buffers of about the words needed, and without one.
+fn sums(session: &mut Session, words: &[u32], first: &[u32], second: &[u32]) {
+    let question = Question::new(Call::Sum).list(first).second(second);
+    let need = words_needed(words, &question);
+    for room in [0, need.saturating_sub(1), need, need + 9] {
+        session.ask(words, question.clone().room(room));
+    }
+}
+
+fn values(session: &mut Session, words: &[u32], list: &[u32], rows: &[u32]) {
+    for &row in rows {
+        session.ask(words, Question::new(Call::Value).list(list).number(row));
+    }
+}
+
+/// The pairs above, and the same lists where there are no rows or no bitmaps.
+fn column_corners(session: &mut Session) {
+    let bodies = SLICES.map(|body| body.to_vec());
+    let idle = [vec![], vec![0], vec![1, 0]];
+    let no_rows: Vec<Vec<u32>> = idle.into_iter().cycle().take(SLICES.len()).collect();
+    let nothing: [Vec<u32>; 0] = [];
+    for words in [index_of(40, &bodies), index_of(0, &no_rows), index_of(40, &nothing), index_of(0, &nothing)] {
+        for (first, second) in PAIRS {
+            sums(session, &words, first, second);
+            sums(session, &words, second, first);
+            sums(session, &words, first, first);
+            for list in [first, second] {
+                values(session, &words, list, &[0, 3, 7, 31, 32, 35, 39, 40, u32::MAX]);
+            }
+        }
+    }
+}
+
+/// Lists up to the longest and over, all ones: the sum of the widest two has the largest value there is.
+fn column_lengths(session: &mut Session) {
+    let words = index_of(33, &[vec![0x0002_0003, 1], vec![0x0000_0004]]);
+    for length in [0, 1, LEAST_COLUMN, 3, 17, MOST_SUMMED, MOST_VALUED, MOST_VALUED + 1] {
+        let ones = vec![0; length];
+        values(session, &words, &ones, &[0, 32, 33]);
+        sums(session, &words, &ones, &ones);
+        for other in [&[0, 0][..], &[0, 1, 1, 0], &[1, 0]] {
+            sums(session, &words, &ones, other);
+            sums(session, &words, other, &ones);
+        }
+    }
+}
+
+/// The most rows there can be: none set in one bitmap, all in another, and just the last.
 fn edge_of_rows(session: &mut Session) {
     let [none, all] = [false, true].map(|value| one_run(value, segments(MOST_ROWS)));
+    let mut plain = vec![0; segments(MOST_ROWS)];
+    plain[segments(MOST_ROWS) - 1] = 1 << (WORD_BITS - 1);
     let room = all.len();
-    let words = index_of(MOST_ROWS, &[none, all]);
+    let words = index_of(MOST_ROWS, &[none, all, settled(&plain)]);
     let both = |call: Call| Question::new(call).list(&[0, 1]).number(1).room(room);
     let last = |call: Call| Question::new(call).list(&[1]).number(MOST_ROWS - 1);
     session.ask(&words, last(Call::Row));
@@ -113,6 +215,10 @@ fn edge_of_rows(session: &mut Session) {
     session.ask(&words, both(Call::Threshold));
     session.ask(&words, both(Call::Symmetric).table(&[1, 0, 1]));
     session.ask(&words, both(Call::Histogram));
+    values(session, &words, &[1, 2], &[MOST_ROWS - 1, MOST_ROWS]);
+    let columns = |first: &[u32]| Question::new(Call::Sum).list(first).second(&[1, 1]).room(100);
+    session.ask(&words, columns(&[1, 2]));
+    session.ask(&words, columns(&[0, 2]));
 }
 
 /// An index one word too long, and then one that is just not: a body of idle

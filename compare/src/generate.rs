@@ -35,14 +35,14 @@ pub struct Input {
 }
 
 #[derive(Clone, Copy, PartialEq, Eq)]
-enum Style {
+pub enum Style {
     Settled,
     Wasteful,
     Torn,
 }
 
 /// The fewest and the most rows of a long input.
-const LONG_ROWS: (usize, usize) = (100_000, 400_000);
+pub const LONG_ROWS: (usize, usize) = (100_000, 400_000);
 
 /// The input of a case.
 pub fn generate(random: &mut Random, long: bool) -> Input {
@@ -99,7 +99,7 @@ fn some_rows(random: &mut Random, bitmaps: usize) -> u32 {
 }
 
 /// Clean runs about the most of one marker and of two, and of three full ones.
-const RUNS: [usize; 8] = [
+pub const RUNS: [usize; 8] = [
     MOST_CLEAN - 1,
     MOST_CLEAN,
     MOST_CLEAN + 1,
@@ -111,7 +111,7 @@ const RUNS: [usize; 8] = [
 ];
 
 /// Dirty words about the most of one marker and of two.
-const DIRTIES: [usize; 7] = [
+pub const DIRTIES: [usize; 7] = [
     MOST_DIRTY - 1,
     MOST_DIRTY,
     MOST_DIRTY + 1,
@@ -160,6 +160,11 @@ fn made(random: &mut Random, form: Form, style: Style, rows: u32, bitmaps: usize
         plain.push(next);
     }
     finish(random, form, style, rows, plain, effort)
+}
+
+/// An index of these plain words.
+pub fn index_input(random: &mut Random, style: Style, rows: u32, plain: Vec<Vec<u32>>, effort: Effort) -> Input {
+    finish(random, Form::Index, style, rows, plain, effort)
 }
 
 /// The words of the input, torn where the style says so.
@@ -225,7 +230,7 @@ fn torn_index(rows: u32, mut bodies: Vec<Vec<u32>>, torn: bool, random: &mut Ran
 
 // ---- plain words ----
 
-fn mask_last(plain: &mut [u32], rows: u32) {
+pub fn mask_last(plain: &mut [u32], rows: u32) {
     if let Some(last) = plain.last_mut() {
         *last &= last_mask(rows);
     }
@@ -245,7 +250,7 @@ pub fn some_word(random: &mut Random) -> u32 {
 }
 
 /// Plain words of one bitmap: runs and mixed words by a taste of its own.
-fn spelled(rows: u32, random: &mut Random) -> Vec<u32> {
+pub fn spelled(rows: u32, random: &mut Random) -> Vec<u32> {
     let segments = segments(rows);
     let longest = random.pick(&[1, 3, 10, 40, segments.max(1)]);
     let mixed_share = random.below(5);

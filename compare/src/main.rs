@@ -2,6 +2,8 @@
 
 mod ask;
 mod choose;
+mod choose_columns;
+mod columns;
 mod encode;
 mod fixed;
 mod generate;
@@ -21,6 +23,7 @@ use reference::Mistake;
 
 use crate::ask::Value;
 use crate::choose::ask_all;
+use crate::choose_columns::ask_columns;
 use crate::generate::generate;
 use crate::random::Random;
 use crate::session::{Difference, Session};
@@ -29,11 +32,12 @@ use crate::shrink::shrink;
 const HELP: &str = "\
 compare SEED CASES [--mutate] [--long] [--only CASE] [--program PATH]
 
-Makes CASES indexes and bodies, always the same for one SEED, asks every
-question of the library and of the reference, and compares the results and the
-whole buffers. Then come the readings (examples with known answers) and a few
-fixed cases, and a table of the refusals that were reached. Exit code 1: a
-difference, or a refusal never reached.
+Makes CASES indexes and bodies, and indexes of columns beside some of them,
+always the same for one SEED, asks every question of the library and of the
+reference, and compares the results and the whole buffers. Then come the
+readings (examples with known answers) and a few fixed cases, and a table of the
+refusals that were reached. Exit code 1: a difference, or a refusal never
+reached.
 
 --mutate     builds one mistake after another into the reference; each has to
              show as a difference within CASES cases
@@ -98,11 +102,18 @@ fn main() -> ExitCode {
     }
 }
 
+/// One case in so many has an index of columns too.
+const COLUMNS_IN: usize = 2;
+
 /// Asks all of one case.
 fn run_case(session: &mut Session, options: &Options, case: u64) {
     let mut random = Random::for_case(options.seed, case);
     let input = generate(&mut random, options.long);
     ask_all(session, &input, &mut random);
+    if random.one_in(COLUMNS_IN) {
+        let columns = columns::generate(&mut random, options.long);
+        ask_columns(session, &columns, &mut random);
+    }
 }
 
 /// The first case with a difference.
@@ -154,7 +165,7 @@ fn mutate(options: &Options) -> bool {
                     Ok(Value::Panicked(_)) => ", by a panic",
                     _ => "",
                 };
-                println!("{name:20} case {case:>5}, comparison {asked:>7}, by {call:?}{how}");
+                println!("{name:21} case {case:>5}, comparison {asked:>7}, by {call:?}{how}");
             }
             None => {
                 println!("NOT CAUGHT  {mistake:?} in {} cases", options.cases);

@@ -1,6 +1,7 @@
 //! Which line of the table of refusals a refusal belongs to, and how often each
 //! line was reached by each call.
 
+use reference::limits::{LEAST_COLUMN, MOST_SUMMED, MOST_VALUED};
 use zvonurel::{segments, Refusal, ENTRY_WORDS, HEAD_WORDS, MOST_NAMED};
 
 use crate::ask::Refused;
@@ -39,13 +40,24 @@ pub enum Place {
     TableEntry,
     PlainFew,
     PlainMany,
+    ColumnShort,
+    ColumnLong,
+    ColumnNumber,
+    SecondShort,
+    SecondLong,
+    SecondNumber,
+    NoSuchRow,
     Several,
+    BadAndStray,
+    StrayFirst,
+    StraySecond,
+    StrayNoRoom,
     NoRoom,
 }
 
 use Place::*;
 
-const ALL: [(Place, &str); 32] = [
+const ALL: [(Place, &str); 43] = [
     (Answered, "- answered"),
     (ShortHead, "1 index below its head"),
     (ShortContents, "1 index below its contents"),
@@ -76,7 +88,18 @@ const ALL: [(Place, &str); 32] = [
     (TableEntry, "8 table entry not 0 or 1"),
     (PlainFew, "8 plain words too few"),
     (PlainMany, "8 plain words too many"),
+    (ColumnShort, "8 column of under 2"),
+    (ColumnLong, "8 column too long"),
+    (ColumnNumber, "8 bitmap number in a column"),
+    (SecondShort, "8 second column of under 2"),
+    (SecondLong, "8 second column too long"),
+    (SecondNumber, "8 number in a second column"),
+    (NoSuchRow, "8 row that doesn't exist"),
     (Several, "8 several of these at once"),
+    (BadAndStray, "8 where 11 holds too"),
+    (StrayFirst, "11 in the first column"),
+    (StraySecond, "11 in the second column"),
+    (StrayNoRoom, "11 where 9 holds too"),
     (NoRoom, "9 answer doesn't fit"),
 ];
 
@@ -90,14 +113,17 @@ fn possible(place: Place, call: Call) -> bool {
         Rows => true,
         PastBody | PastSegments | Missing | OnesOverPads | PadInDirty => body,
         PadInPlain | PlainFew | PlainMany => call == Call::Compress,
-        BadNumber => call.of_index() && !call.of_list() && call != Call::Check,
+        BadNumber => call.of_index() && !call.of_list() && !call.of_column() && call != Call::Check,
         BadSecond => call.of_two(),
-        BadRow => matches!(call, Call::BodyRow | Call::Row),
+        BadRow => matches!(call, Call::BodyRow | Call::Row | Call::Value),
         BadNth => matches!(call, Call::BodyNth | Call::Nth),
         ListEmpty | ListLong | ListNumber => call.of_list(),
         ThresholdZero | ThresholdHigh => call == Call::Threshold,
         TableShort | TableLong | TableEntry => call == Call::Symmetric,
-        Several => call.of_two() || matches!(call, Call::Row | Call::Threshold | Call::Symmetric),
+        ColumnShort | ColumnLong | ColumnNumber | BadAndStray | StrayFirst => call.of_column(),
+        SecondShort | SecondLong | SecondNumber | StraySecond | StrayNoRoom => call == Call::Sum,
+        NoSuchRow => call == Call::Value,
+        Several => call.of_two() || call.of_column() || matches!(call, Call::Row | Call::Threshold | Call::Symmetric),
         NoRoom => call.writes(),
     }
 }
@@ -123,7 +149,9 @@ pub fn place_of(words: &[u32], question: &Question, refused: Option<Refused>) ->
         Refusal::DIRTY_PAST_END => PastBody,
         Refusal::BAD_COUNT | Refusal::PAD_BIT if question.call == Call::Compress => PadInPlain,
         Refusal::BAD_COUNT | Refusal::PAD_BIT => in_body(words, question, number, bitmap as usize, word),
+        Refusal::BAD_ARGUMENT if question.call.of_column() => bad_column(words, question),
         Refusal::BAD_ARGUMENT => bad_argument(words, question),
+        STRAY => stray(words, question, bitmap, word),
         _ => NoRoom,
     }
 }
@@ -204,6 +232,56 @@ fn bad_others(words: &[u32], question: &Question) -> Vec<Place> {
         (symmetric && table.len() > length + 1, TableLong),
         (symmetric && table.iter().any(|&e| e > 1), TableEntry),
     ])
+}
+
+// ---- columns ----
+
+/// A slice holds a row that doesn't exist.
+const STRAY: u32 = 11;
+
+/// Would this list be refused for a stray, asked of a row that exists?
+fn has_stray(words: &[u32], list: &[u32]) -> bool {
+    let row = list.first().and_then(|&exists| reference::nth(words, exists, 0).ok());
+    let refused = row.and_then(|row| reference::value(words, list, row).err());
+    refused.is_some_and(|refusal| refusal.number == STRAY)
+}
+
+/// Like `bad_argument`, but a stray besides has a place of its own.
+fn bad_column(words: &[u32], question: &Question) -> Place {
+    let (call, list, second) = (question.call, &question.list, &question.second);
+    if has_stray(words, list) || has_stray(words, second) {
+        return BadAndStray;
+    }
+    let unknown = |list: &[u32]| list.iter().any(|&k| k >= words[2]);
+    let (sum, most) = (call == Call::Sum, if call == Call::Sum { MOST_SUMMED } else { MOST_VALUED });
+    let faults = holding([
+        (list.len() < LEAST_COLUMN, ColumnShort),
+        (list.len() > most, ColumnLong),
+        (unknown(list), ColumnNumber),
+        (sum && second.len() < LEAST_COLUMN, SecondShort),
+        (sum && second.len() > most, SecondLong),
+        (unknown(second), SecondNumber),
+        (!sum && question.number >= words[1], BadRow),
+    ]);
+    match faults[..] {
+        [] => NoSuchRow,
+        [one] => one,
+        _ => Several,
+    }
+}
+
+/// Whose stray it is. Where the buffer can't even take the contents, 9 holds as well.
+fn stray(words: &[u32], question: &Question, bitmap: u32, row: usize) -> Place {
+    let (list, second) = (&question.list, &question.second);
+    let bitmaps = 1 + list.len().max(second.len());
+    if question.call == Call::Sum && question.room < entry_place(bitmaps) {
+        return StrayNoRoom;
+    }
+    let first = list[1..].contains(&bitmap) && reference::row(words, list[0], row as u32) == Ok(false);
+    match first {
+        true => StrayFirst,
+        false => StraySecond,
+    }
 }
 
 // ---- counting ----

@@ -23,10 +23,12 @@ pub enum Call {
     Threshold,
     Symmetric,
     Histogram,
+    Value,
+    Sum,
 }
 
 impl Call {
-    pub const ALL: [Call; 21] = [
+    pub const ALL: [Call; 23] = [
         Call::CheckBody,
         Call::BodyRow,
         Call::BodyCount,
@@ -48,6 +50,8 @@ impl Call {
         Call::Threshold,
         Call::Symmetric,
         Call::Histogram,
+        Call::Value,
+        Call::Sum,
     ];
 
     /// Is it asked of an index?
@@ -68,11 +72,15 @@ impl Call {
         matches!(self, Call::Threshold | Call::Symmetric | Call::Histogram)
     }
 
+    pub fn of_column(self) -> bool {
+        matches!(self, Call::Value | Call::Sum)
+    }
+
     /// Does it write into a buffer?
     pub fn writes(self) -> bool {
         self.of_two()
             || matches!(self, Call::Expand | Call::Compress | Call::ExpandBitmap)
-            || matches!(self, Call::Not | Call::Threshold | Call::Symmetric)
+            || matches!(self, Call::Not | Call::Threshold | Call::Symmetric | Call::Sum)
     }
 }
 
@@ -85,6 +93,8 @@ pub struct Question {
     pub rows: u32,
     /// Bitmap numbers: one, two, or a list.
     pub list: Vec<u32>,
+    /// The list of a sum's second column.
+    pub second: Vec<u32>,
     /// Row, nth, or T.
     pub number: u32,
     pub table: Vec<u32>,
@@ -94,7 +104,7 @@ pub struct Question {
 
 impl Question {
     pub fn new(call: Call) -> Question {
-        Question { call, rows: 0, list: Vec::new(), number: 0, table: Vec::new(), room: 0 }
+        Question { call, rows: 0, list: Vec::new(), second: Vec::new(), number: 0, table: Vec::new(), room: 0 }
     }
 
     pub fn rows(mut self, rows: u32) -> Question {
@@ -104,6 +114,11 @@ impl Question {
 
     pub fn list(mut self, list: &[u32]) -> Question {
         self.list = list.to_vec();
+        self
+    }
+
+    pub fn second(mut self, second: &[u32]) -> Question {
+        self.second = second.to_vec();
         self
     }
 
@@ -132,10 +147,11 @@ impl Question {
             parts.push(format!("numbers {:?}", self.list));
         }
         match self.call {
-            Call::BodyRow | Call::Row => parts.push(format!("row {}", self.number)),
+            Call::BodyRow | Call::Row | Call::Value => parts.push(format!("row {}", self.number)),
             Call::BodyNth | Call::Nth => parts.push(format!("nth {}", self.number)),
             Call::Threshold => parts.push(format!("T {}", self.number)),
             Call::Symmetric => parts.push(format!("table {:?}", self.table)),
+            Call::Sum => parts.push(format!("second {:?}", self.second)),
             _ => {}
         }
         if self.call.writes() {

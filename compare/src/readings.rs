@@ -19,6 +19,7 @@ pub fn run() -> bool {
     readings.looped();
     readings.pairs();
     readings.wasteful();
+    readings.columns();
     println!("{} readings hold for both", readings.held);
     !readings.failed
 }
@@ -119,5 +120,22 @@ impl Readings {
         let either = Question::new(Call::Threshold).list(&[0, 1]).number(1);
         let expected = Ok(Value::Answer(4, 3));
         self.reading(&index, &either.room(4), expected, &settled);
+    }
+
+    /// 4 rows: 1, 2, 3 at rows 0 to 2, and 1, 1, 0 at rows 1 to 3. The sums, 3 and 4, were worked out by hand.
+    fn columns(&mut self) {
+        let one = |rows: u32| vec![0x0002_0000, rows];
+        let index = index_of(4, &[0x7, 0x5, 0x6, 0xE, 0x6].map(one));
+        let value = |list: &[u32], row| Question::new(Call::Value).list(list).number(row);
+        for (row, whole) in [(0, 1), (1, 2), (2, 3)] {
+            self.reading(&index, &value(&[0, 1, 2], row), Ok(Value::Whole(whole)), &[]);
+        }
+        self.reading(&index, &value(&[0, 1, 2], 3), Err((8, 0, 0)), &[]);
+        self.reading(&index, &value(&[0, 1, 3], 1), Err((11, 3, 3)), &[]);
+        let due = index_of(4, &[0x6, 0x2, 0x2, 0x4].map(one));
+        let sum = |first: &[u32], room| Question::new(Call::Sum).list(first).second(&[3, 4]).room(room);
+        self.reading(&index, &sum(&[0, 1, 2], 19), Ok(Value::Words(19)), &due);
+        self.reading(&index, &sum(&[0, 1, 2], 18), Err((9, 0, 19)), &[]);
+        self.reading(&index, &sum(&[0, 1, 3], 18), Err((11, 3, 3)), &[]);
     }
 }

@@ -59,6 +59,9 @@ fn candidates(difference: &Difference) -> Vec<Candidate> {
             all.push((words.clone(), less));
         }
     }
+    if question.call.of_column() {
+        all.extend(shorter_columns(question).map(|less| (words.clone(), less)));
+    }
     if words.len() > 2_000 {
         return all;
     }
@@ -76,6 +79,21 @@ fn candidates(difference: &Difference) -> Vec<Candidate> {
     all
 }
 
+/// One number left out of a column's list.
+fn shorter_columns(question: &Question) -> impl Iterator<Item = Question> + '_ {
+    let first = (0..question.list.len()).map(|at| {
+        let mut less = question.clone();
+        less.list.remove(at);
+        less
+    });
+    let second = (0..question.second.len()).map(|at| {
+        let mut less = question.clone();
+        less.second.remove(at);
+        less
+    });
+    first.chain(second)
+}
+
 /// One word left out of a lone body, or of plain words with their rows.
 fn without(words: &[u32], question: &Question, at: usize) -> Candidate {
     let mut less = words.to_vec();
@@ -87,7 +105,7 @@ fn without(words: &[u32], question: &Question, at: usize) -> Candidate {
 
 /// A bitmap that isn't named left out of an index, if its contents allow.
 fn without_bitmap(words: &[u32], question: &Question, k: usize) -> Option<Candidate> {
-    if question.list.contains(&(k as u32)) {
+    if question.list.contains(&(k as u32)) || question.second.contains(&(k as u32)) {
         return None;
     }
     let n = words[2] as usize;
@@ -108,7 +126,8 @@ fn without_bitmap(words: &[u32], question: &Question, k: usize) -> Option<Candid
         *start = start.wrapping_sub(by);
     }
     let mut question = question.clone();
-    for number in question.list.iter_mut().filter(|number| **number > k as u32) {
+    let numbers = question.list.iter_mut().chain(&mut question.second);
+    for number in numbers.filter(|number| **number > k as u32) {
         *number -= 1;
     }
     Some((less, question))

@@ -225,6 +225,12 @@ pub(crate) fn settle(segments: &[Segment]) -> Vec<u32> {
     settle_within(segments, most_clean, most_dirty)
 }
 
+/// The settled body of these rows.
+pub(crate) fn settled(rows: &[bool]) -> Vec<u32> {
+    let segments: Vec<Segment> = plain_words(rows).into_iter().map(segment_of).collect();
+    settle(&segments)
+}
+
 /// The same for any two limits of a marker's counts.
 fn settle_within(segments: &[Segment], most_clean: usize, most_dirty: usize) -> Vec<u32> {
     let mut words = Vec::new();

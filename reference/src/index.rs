@@ -93,6 +93,18 @@ fn contents(words: &[u32], bitmaps: usize) -> Result<Vec<Range<usize>>, Refusal>
     Ok(parts)
 }
 
+/// An index of these bodies.
+pub(crate) fn write(rows: u32, bodies: &[Vec<u32>]) -> Vec<u32> {
+    let mut words = vec![INDEX_KIND, rows, bodies.len() as u32];
+    let mut start = entry_place(bodies.len());
+    for body in bodies {
+        words.extend([start as u32, body.len() as u32]);
+        start += body.len();
+    }
+    words.extend(bodies.concat());
+    words
+}
+
 /// Checks a whole index.
 pub fn check(index: &[u32]) -> Result<(), Refusal> {
     open(index).map(|_| ())

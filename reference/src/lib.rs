@@ -6,6 +6,7 @@
 #![forbid(unsafe_code)]
 
 mod body;
+mod columns;
 mod index;
 pub mod limits;
 pub mod mistakes;
@@ -14,6 +15,7 @@ mod questions;
 mod refusal;
 
 pub use body::{body_count, body_nth, body_row, check_body, compress, expand};
+pub use columns::{sum, value};
 pub use index::{bitmap, check, count, expand_bitmap, nth, row};
 pub use mistakes::{with_mistake, Mistake};
 pub use program::program;

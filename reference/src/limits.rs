@@ -11,6 +11,13 @@ pub const MOST_NAMED: usize = 64;
 /// Entries of a tally: 0 to `MOST_NAMED` holders.
 pub const TALLY_ENTRIES: usize = MOST_NAMED + 1;
 
+/// Numbers in a column's list, at least: existence and one slice.
+pub const LEAST_COLUMN: usize = 2;
+/// Numbers in a summed column's list, at most: existence and 32 slices.
+pub const MOST_SUMMED: usize = 33;
+/// Numbers in the list where only a value is asked, at most: a sum has one slice more.
+pub const MOST_VALUED: usize = 34;
+
 /// Word 0 of an index.
 pub const INDEX_KIND: u32 = 1;
 /// Words in front of the contents.

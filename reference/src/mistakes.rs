@@ -49,6 +49,38 @@ pub enum Mistake {
     IdleMarkerRefused,
     /// Refusal 9 tells the buffer's length.
     NoRoomTellsBuffer,
+    /// A sum adds each digit by itself.
+    CarryDropped,
+    /// A slice may hold rows that don't exist.
+    StraysLetThrough,
+    /// A value looks at its own row only, so never refuses with 11.
+    ValueSkipsStrays,
+    /// Refusal 11 tells the slice's place in its list.
+    StrayTellsPlace,
+    /// Refusal 11 tells the highest row that doesn't exist.
+    StrayTellsHighestRow,
+    /// The second column's strays are told before the first's.
+    SecondColumnFirst,
+    /// The slice under the sum's top one also holds rows that only one column has.
+    SumSliceUnmasked,
+    /// A sum has no empty slices.
+    EmptySlicesLeftOut,
+    /// A row exists in the sum if one column or both have it.
+    SumExistsInEither,
+    /// A sum has as many slices as the wider column.
+    TopSliceLeftOut,
+    /// At a value, refusal 11 comes before 8 for the row.
+    StrayBeforeRow,
+    /// At a sum, the first column's 11 comes before 8 for the second list.
+    StrayBeforeSecondList,
+    /// Refusal 9 comes before 11.
+    NoRoomBeforeStray,
+    /// The value at a row that doesn't exist is 0.
+    MissingRowIsZero,
+    /// A sum takes lists of `MOST_SUMMED` numbers and one more.
+    SumTakesOneMore,
+    /// A value takes lists of under `MOST_VALUED` numbers only.
+    ValueTakesOneLess,
 }
 
 impl Mistake {
@@ -75,6 +107,22 @@ impl Mistake {
         Mistake::HighThresholdEmpty,
         Mistake::IdleMarkerRefused,
         Mistake::NoRoomTellsBuffer,
+        Mistake::CarryDropped,
+        Mistake::StraysLetThrough,
+        Mistake::ValueSkipsStrays,
+        Mistake::StrayTellsPlace,
+        Mistake::StrayTellsHighestRow,
+        Mistake::SecondColumnFirst,
+        Mistake::SumSliceUnmasked,
+        Mistake::EmptySlicesLeftOut,
+        Mistake::SumExistsInEither,
+        Mistake::TopSliceLeftOut,
+        Mistake::StrayBeforeRow,
+        Mistake::StrayBeforeSecondList,
+        Mistake::NoRoomBeforeStray,
+        Mistake::MissingRowIsZero,
+        Mistake::SumTakesOneMore,
+        Mistake::ValueTakesOneLess,
     ];
 }
 

@@ -2,7 +2,7 @@
 
 mod common;
 use common::*;
-use reference::limits::{MOST_CLEAN, MOST_DIRTY, WORD_BITS};
+use reference::limits::{MOST_CLEAN, MOST_DIRTY, MOST_SUMMED, MOST_VALUED, WORD_BITS};
 use reference::*;
 
 const ANY: usize = usize::MAX;
@@ -10,6 +10,46 @@ const ANY: usize = usize::MAX;
 /// So many segments of this word, compressed.
 fn repeated(word: u32, segments: usize) -> Result<Vec<u32>, Refusal> {
     compress((WORD_BITS * segments) as u32, &vec![word; segments], ANY)
+}
+
+/// 4 rows, one segment each: 0 to 2; 0 and 2; 1 and 2; 1 to 3; 3; none.
+fn columns() -> Vec<u32> {
+    let one = |rows| [0x0002_0000, rows];
+    index_of(4, &[&one(0x7), &one(0x5), &one(0x6), &one(0xE), &one(0x8), &[2]])
+}
+
+/// The same for the mistakes about columns.
+fn column_case(m: Mistake) -> String {
+    let index = columns();
+    let value_of = |list: &[u32], row| format!("{:?}", value(&index, list, row));
+    let summed = |first: &[u32], second: &[u32], room| match sum(&index, first, second, room) {
+        Ok(words) => format!("{:x?}", bodies_of(&words)),
+        Err(refusal) => format!("Err({refusal:?})"),
+    };
+    match m {
+        Mistake::CarryDropped => summed(&[0, 1], &[0, 1], ANY),
+        Mistake::StraysLetThrough => summed(&[0, 4], &[0, 1], ANY),
+        Mistake::ValueSkipsStrays => value_of(&[0, 2, 4], 1),
+        Mistake::StrayTellsPlace => value_of(&[0, 1, 4], 1),
+        Mistake::StrayTellsHighestRow => value_of(&[4, 3], 3),
+        Mistake::SecondColumnFirst => summed(&[0, 4], &[3, 0], ANY),
+        Mistake::SumSliceUnmasked => summed(&[0, 1], &[3, 5], ANY),
+        Mistake::EmptySlicesLeftOut => summed(&[0, 1], &[0, 5], ANY),
+        Mistake::SumExistsInEither => summed(&[0, 5], &[3, 5], ANY),
+        Mistake::TopSliceLeftOut => summed(&[0, 1, 2], &[3, 2], ANY),
+        Mistake::StrayBeforeRow => value_of(&[0, 4], 3),
+        Mistake::StrayBeforeSecondList => summed(&[0, 4], &[0], ANY),
+        Mistake::NoRoomBeforeStray => summed(&[0, 4], &[0, 1], 0),
+        Mistake::MissingRowIsZero => value_of(&[0, 1], 3),
+        Mistake::SumTakesOneMore => summed(&[5; MOST_SUMMED + 1], &[5, 5], 0),
+        Mistake::ValueTakesOneLess => value_of(&[0; MOST_VALUED], 0),
+        _ => unreachable!("not about columns"),
+    }
+}
+
+/// The bodies of a sum, one after the other; the contents are due by them.
+fn bodies_of(sum: &[u32]) -> Vec<&[u32]> {
+    (0..sum[2]).map(|k| &sum[bitmap(sum, k).unwrap()]).collect()
 }
 
 /// A result in words, the case chosen for this mistake.
@@ -43,6 +83,7 @@ fn case(m: Mistake) -> String {
         Mistake::HighThresholdEmpty => format!("{:x?}", threshold(&LOOPED, &list, 4, ANY)),
         Mistake::IdleMarkerRefused => format!("{:?}", check(&index_of(32, &[&[0, 2]]))),
         Mistake::NoRoomTellsBuffer => format!("{:?}", threshold(&LOOPED, &list, 2, 1)),
+        _ => column_case(m),
     }
 }
 
@@ -54,6 +95,37 @@ fn refused(number: u32, bitmap: u32, word: u64) -> String {
 
 fn answer(words: &str, stretches: u32) -> String {
     format!("Ok(Answer {{ words: [{words}], stretches: {stretches} }})")
+}
+
+/// The same for the mistakes about columns.
+fn column_expected(m: Mistake) -> (String, String) {
+    let bad = || refused(8, 0, 0);
+    let text = |s: &str| s.to_string();
+    match m {
+        Mistake::CarryDropped => (text("[[20000, 7], [2], [20000, 5]]"), text("[[20000, 7], [2], [2]]")),
+        Mistake::StraysLetThrough => (refused(11, 4, 3), text("[[20000, 7], [20000, 5], [2]]")),
+        Mistake::ValueSkipsStrays => (refused(11, 4, 3), text("Ok(1)")),
+        Mistake::StrayTellsPlace => (refused(11, 4, 3), refused(11, 2, 3)),
+        Mistake::StrayTellsHighestRow => (refused(11, 3, 1), refused(11, 3, 2)),
+        Mistake::SecondColumnFirst => (refused(11, 4, 3), refused(11, 0, 0)),
+        // Row 0 is in the first column only.
+        Mistake::SumSliceUnmasked => (text("[[20000, 6], [20000, 4], [2]]"), text("[[20000, 6], [20000, 5], [2]]")),
+        Mistake::EmptySlicesLeftOut => (text("[[20000, 7], [20000, 5], [2]]"), text("[[20000, 7], [20000, 5]]")),
+        Mistake::SumExistsInEither => (text("[[20000, 6], [2], [2]]"), text("[[20000, f], [2], [2]]")),
+        // Row 1: 2 + 1 = 3. Row 2: 3 + 1 = 4.
+        Mistake::TopSliceLeftOut => {
+            (text("[[20000, 6], [20000, 2], [20000, 2], [20000, 4]]"), text("[[20000, 6], [20000, 2], [20000, 2]]"))
+        }
+        Mistake::StrayBeforeRow => (bad(), refused(11, 4, 3)),
+        Mistake::StrayBeforeSecondList => (bad(), refused(11, 4, 3)),
+        // Three bodies: 9 words of contents, then 2, 2 and 1.
+        Mistake::NoRoomBeforeStray => (refused(11, 4, 3), refused(9, 0, 14)),
+        Mistake::MissingRowIsZero => (bad(), text("Ok(0)")),
+        // 35 bodies of one word: 73 words of contents, then 35.
+        Mistake::SumTakesOneMore => (bad(), refused(9, 0, 108)),
+        Mistake::ValueTakesOneLess => (text("Ok(8589934591)"), bad()),
+        _ => unreachable!("not about columns"),
+    }
 }
 
 /// (without, with) as they should be.
@@ -84,12 +156,13 @@ fn expected(m: Mistake) -> (String, String) {
         Mistake::HighThresholdEmpty => (bad(), answer("2", 1)),
         Mistake::IdleMarkerRefused => (text("Ok(())"), refused(6, 0, 5)),
         Mistake::NoRoomTellsBuffer => (refused(9, 0, 2), refused(9, 0, 1)),
+        _ => column_expected(m),
     }
 }
 
 #[test]
 fn each_mistake_shows() {
-    assert_eq!(Mistake::ALL.len(), 22);
+    assert_eq!(Mistake::ALL.len(), 38);
     for (place, &m) in Mistake::ALL.iter().enumerate() {
         assert!(!Mistake::ALL[..place].contains(&m));
         let before = case(m);
@@ -106,7 +179,7 @@ fn each_mistake_shows() {
 fn no_mistake_shows_everywhere() {
     for &m in Mistake::ALL {
         let shown = Mistake::ALL.iter().filter(|&&c| with_mistake(m, || case(c)) != case(c)).count();
-        assert!((1..6).contains(&shown), "{m:?} {shown}");
+        assert!((1..10).contains(&shown), "{m:?} {shown}");
     }
 }
 

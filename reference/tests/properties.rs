@@ -2,7 +2,7 @@
 
 mod common;
 use common::*;
-use reference::limits::{CLEAN_SHIFT, DIRTY_SHIFT, MOST_BITMAPS, WORD_BITS};
+use reference::limits::{CLEAN_SHIFT, DIRTY_SHIFT, HEAD_WORDS, INDEX_KIND, MOST_BITMAPS, WORD_BITS};
 use reference::*;
 
 const ANY: usize = usize::MAX;
@@ -114,6 +114,66 @@ fn lists() {
     }
 }
 
+/// A thrown column: existence, then slices, masked by it but for a few.
+fn throw_column(dice: &mut Dice, rows: u32) -> Vec<Vec<u32>> {
+    let exists = throw_body(dice, rows).1;
+    let mut column = vec![exists.clone()];
+    for _ in 0..1 + dice.below(6) {
+        let mut slice = throw_body(dice, rows).1;
+        if dice.below(30) > 0 {
+            slice.iter_mut().zip(&exists).for_each(|(word, mask)| *word &= mask);
+        }
+        column.push(slice);
+    }
+    column
+}
+
+/// The number a column of plain words spells at a row.
+fn spelt(column: &[Vec<u32>], r: u32) -> u64 {
+    (1..column.len()).map(|place| u64::from(bit(&column[place], r)) << (place - 1)).sum()
+}
+
+#[test]
+fn columns() {
+    let mut dice = Dice(5);
+    for _ in 0..600 {
+        let rows = dice.below(300);
+        let (a, b) = (throw_column(&mut dice, rows), throw_column(&mut dice, rows));
+        let bodies: Vec<Vec<u32>> = a.iter().chain(&b).map(|plain| compress(rows, plain, ANY).unwrap()).collect();
+        let index = index_of(rows, &bodies.iter().map(|body| &body[..]).collect::<Vec<_>>());
+        let first: Vec<u32> = (0..a.len() as u32).collect();
+        let second: Vec<u32> = (a.len() as u32..bodies.len() as u32).collect();
+
+        let strays = |column: &[Vec<u32>], list: &[u32]| {
+            let stray = |place: usize, r: u32| bit(&column[place], r) && !bit(&column[0], r);
+            let places = (1..column.len()).flat_map(|place| (0..rows).map(move |r| (place, r)));
+            places.into_iter().find(|&(place, r)| stray(place, r)).map(|(place, r)| no(11, list[place], u64::from(r)))
+        };
+        for r in 0..rows {
+            let due = strays(&a, &first).map_or(Ok(spelt(&a, r)), Err);
+            let due = if bit(&a[0], r) { due } else { Err(no(8, 0, 0)) };
+            assert_eq!(value(&index, &first, r), due);
+        }
+        let total = sum(&index, &first, &second, ANY);
+        if let Some(refusal) = strays(&a, &first).or(strays(&b, &second)) {
+            assert_eq!(total, Err(refusal));
+            continue;
+        }
+        let total = total.unwrap();
+        let list: Vec<u32> = (0..=a.len().max(b.len()) as u32).collect();
+        assert_eq!(total[..HEAD_WORDS], [INDEX_KIND, rows, list.len() as u32]);
+        for r in 0..rows {
+            let exists = bit(&a[0], r) && bit(&b[0], r);
+            let due = if exists { Ok(spelt(&a, r) + spelt(&b, r)) } else { Err(no(8, 0, 0)) };
+            assert_eq!(value(&total, &list, r), due);
+        }
+        for &k in &list {
+            let body = &total[bitmap(&total, k).unwrap()];
+            assert_eq!(compress(rows, &expand(body, rows, ANY).unwrap(), ANY).as_deref(), Ok(body));
+        }
+    }
+}
+
 /// Random words must not bring any call down, with or without a mistake.
 #[test]
 fn nothing_panics() {
@@ -124,6 +184,8 @@ fn nothing_panics() {
         let _ = (or(index, 0, 1, room), xor(index, 1, 0, room), and_not(index, 0, 1, room));
         let _ = (not(index, 1, room), threshold(index, list, t, room), histogram(index, list));
         let _ = symmetric(index, list, &[1, 0, 1][..1 + list.len().min(2)], room);
+        let _ = (value(index, &[0, 1], t), value(index, &[0, 0], t), value(index, list, t));
+        let _ = (sum(index, &[0, 1], &[1, 0], room), sum(index, list, &[0, 0], room));
         let _ = program(&input(t, index));
     };
     for round in 0..4000u32 {

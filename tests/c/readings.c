@@ -1,5 +1,5 @@
 /*
- * Every call, on an index of four rows and one of eight, and a refusal of each number, through include/zvonurel.h.
+ * Every call, on an index of four rows and two of eight, and a refusal of each number, through include/zvonurel.h.
  * Writes `ok`, or the first difference, with exit status 1.
  *
  *   gcc -std=c99 -Wall -Wextra -Werror -pedantic -Iinclude tests/c/readings.c \
@@ -18,7 +18,7 @@ static const uint32_t looped[] = {1, 4, 3, 9, 2, 11, 2, 13, 2, 0x00020000, 0x3, 
 static const uint32_t eight[] = {1, 8, 2, 7, 2, 9, 2, 0x00020000, 0x32, 0x00020000, 0xB0};
 static const uint32_t three[] = {0, 1, 2};
 static const uint32_t forty[] = {0x00040000, 0x00000001, 0x00000080};
-static uint32_t out[70];
+static uint32_t out[ZV_MOST_SUM_WORDS(8u, ZV_MOST_COLUMN - 1u) + 1u];
 
 static void refusal(int line, uint32_t number, uint32_t bitmap, uint64_t word, uint32_t n, uint32_t b, uint64_t w)
 {
@@ -84,6 +84,13 @@ static void counted(int line, zv_histogram_counts got, const uint32_t *want, uin
     }
 }
 
+static void valued(int line, zv_column_value got, uint64_t want, uint32_t n, uint32_t b, uint64_t w)
+{
+    refusal(line, got.number, got.bitmap, got.word, n, b, w);
+    same(line, "value", got.value, want);
+}
+
+#define VALUED(got, want, n, b, w) valued(__LINE__, got, want, n, b, w)
 #define COUNTED(got, want, n, b, w) counted(__LINE__, got, want, n, b, w)
 #define WROTE(got, want) wrote(__LINE__, got, WORDS(want))
 #define NOT_WRITTEN(got, n, b, w) not_written(__LINE__, got, n, b, w)
@@ -175,6 +182,8 @@ static void every_index_call(const uint32_t *index, size_t words, uint32_t n, ui
     NOT_ANSWERED(zv_threshold(index, words, WORDS(three), 2, WORDS(out)), n, b, w);
     NOT_ANSWERED(zv_symmetric(index, words, WORDS(three), WORDS(table), WORDS(out)), n, b, w);
     COUNTED(zv_histogram(index, words, WORDS(three)), zeros, n, b, w);
+    VALUED(zv_value(index, words, WORDS(three), 0), 0, n, b, w);
+    NOT_WRITTEN(zv_sum(index, words, WORDS(three), WORDS(three), WORDS(out)), n, b, w);
 }
 
 /* each of an index's faults, by one word of LOOPED changed, or by its length */
@@ -245,6 +254,79 @@ static void lists(void)
     COUNTED(zv_histogram(WORDS(looped), WORDS(one_more)), zeros, ZV_BAD_ARGUMENT, 0, 0);
 }
 
+/* Eight rows. In the column of bitmaps 0, 1 and 2 rows 0 to 3 exist and have the values 1, 2, 3 and 0; in that of 3 and
+ * 4 rows 1 to 4 exist and have 1, 1, 0 and 1. Bitmap 5 has rows 0 and 5. */
+static const uint32_t columns[] = {1, 8, 6, 15, 2, 17, 2, 19, 2, 21, 2, 23, 2, 25, 2,
+                                   0x00020000, 0x0F, 0x00020000, 0x05, 0x00020000, 0x06,
+                                   0x00020000, 0x1E, 0x00020000, 0x16, 0x00020000, 0x21};
+static const uint32_t low[] = {0, 1, 2}, high[] = {3, 4}, stray[] = {0, 5}, high_stray[] = {3, 5};
+
+static void one_column(void)
+{
+    static const uint32_t one[] = {0}, no_bitmap[] = {0, 6}, no_existence[] = {6, 0}, later[] = {0, 1, 5, 4},
+                          sooner[] = {0, 4, 5};
+    static const uint32_t most[ZV_MOST_VALUE_COLUMN], one_more[ZV_MOST_VALUE_COLUMN + 1u];
+
+    VALUED(zv_value(WORDS(columns), WORDS(low), 0), 1, 0, 0, 0);
+    VALUED(zv_value(WORDS(columns), WORDS(low), 1), 2, 0, 0, 0);
+    VALUED(zv_value(WORDS(columns), WORDS(low), 2), 3, 0, 0, 0);
+    VALUED(zv_value(WORDS(columns), WORDS(low), 3), 0, 0, 0, 0);
+    VALUED(zv_value(WORDS(columns), WORDS(high), 4), 1, 0, 0, 0);
+    VALUED(zv_value(WORDS(columns), WORDS(most), 3), 8589934591u, 0, 0, 0);
+
+    VALUED(zv_value(WORDS(columns), low, 0, 0), 0, ZV_BAD_ARGUMENT, 0, 0);
+    VALUED(zv_value(WORDS(columns), WORDS(one), 0), 0, ZV_BAD_ARGUMENT, 0, 0);
+    VALUED(zv_value(WORDS(columns), WORDS(one_more), 0), 0, ZV_BAD_ARGUMENT, 0, 0);
+    VALUED(zv_value(WORDS(columns), WORDS(no_bitmap), 0), 0, ZV_BAD_ARGUMENT, 0, 0);
+    VALUED(zv_value(WORDS(columns), WORDS(no_existence), 0), 0, ZV_BAD_ARGUMENT, 0, 0);
+    VALUED(zv_value(WORDS(columns), WORDS(low), 8), 0, ZV_BAD_ARGUMENT, 0, 0);
+    VALUED(zv_value(WORDS(columns), WORDS(low), 4), 0, ZV_BAD_ARGUMENT, 0, 0);
+    VALUED(zv_value(WORDS(columns), WORDS(stray), 5), 0, ZV_BAD_ARGUMENT, 0, 0);
+
+    VALUED(zv_value(WORDS(columns), WORDS(stray), 1), 0, ZV_STRAY_ROW, 5, 5);
+    VALUED(zv_value(WORDS(columns), WORDS(high_stray), 1), 0, ZV_STRAY_ROW, 5, 0);
+    VALUED(zv_value(WORDS(columns), WORDS(later), 1), 0, ZV_STRAY_ROW, 5, 5);
+    VALUED(zv_value(WORDS(columns), WORDS(sooner), 1), 0, ZV_STRAY_ROW, 4, 4);
+}
+
+static void two_columns(void)
+{
+    static const uint32_t sum[] = {1, 8, 4, 11, 2, 13, 2, 15, 2, 17, 2,
+                                   0x00020000, 0x0E, 0x00020000, 0x02, 0x00020000, 0x02, 0x00020000, 0x04};
+    static const uint32_t twice[] = {1, 8, 4, 11, 2, 13, 1, 14, 2, 16, 2,
+                                     0x00020000, 0x0F, 0x00000002, 0x00020000, 0x05, 0x00020000, 0x06};
+    static const uint32_t one[] = {0}, no_bitmap[] = {0, 6};
+    static const uint32_t most[ZV_MOST_COLUMN], one_more[ZV_MOST_COLUMN + 1u];
+    uint32_t widest[ZV_MOST_VALUE_COLUMN];
+    zv_written told;
+
+    WROTE(zv_sum(WORDS(columns), WORDS(low), WORDS(high), WORDS(out)), sum);
+    WROTE(zv_sum(WORDS(columns), WORDS(high), WORDS(low), WORDS(out)), sum);
+    /* slice 0 is empty, and is there */
+    WROTE(zv_sum(WORDS(columns), WORDS(low), WORDS(low), WORDS(out)), twice);
+    WROTE(zv_sum(WORDS(columns), WORDS(low), WORDS(high), out, 19), sum);
+    NOT_WRITTEN(zv_sum(WORDS(columns), WORDS(low), WORDS(high), out, 18), ZV_NO_ROOM, 0, 19);
+    NOT_WRITTEN(zv_sum(WORDS(columns), WORDS(low), WORDS(high), out, 0), ZV_NO_ROOM, 0, 19);
+
+    NOT_WRITTEN(zv_sum(WORDS(columns), WORDS(one), WORDS(high), WORDS(out)), ZV_BAD_ARGUMENT, 0, 0);
+    NOT_WRITTEN(zv_sum(WORDS(columns), WORDS(low), WORDS(one_more), WORDS(out)), ZV_BAD_ARGUMENT, 0, 0);
+    /* 8 of either list comes before 11 of the first, and 11 before 9 */
+    NOT_WRITTEN(zv_sum(WORDS(columns), WORDS(stray), WORDS(no_bitmap), out, 0), ZV_BAD_ARGUMENT, 0, 0);
+    NOT_WRITTEN(zv_sum(WORDS(columns), WORDS(stray), WORDS(high_stray), out, 0), ZV_STRAY_ROW, 5, 5);
+    NOT_WRITTEN(zv_sum(WORDS(columns), WORDS(low), WORDS(high_stray), WORDS(out)), ZV_STRAY_ROW, 5, 0);
+
+    /* the most slices, all of them set: 2^32 - 1 twice, whose sum is read back from the words written */
+    told = zv_sum(WORDS(columns), WORDS(most), WORDS(most), WORDS(out));
+    FINE(told);
+    SAME("the words of the widest sum", told.words, 138);
+    SAME("the word behind it", out[138], UNTOUCHED);
+    for (uint32_t k = 0; k < ZV_MOST_VALUE_COLUMN; k++) {
+        widest[k] = k;
+    }
+    VALUED(zv_value(out, (size_t)told.words, WORDS(widest), 3), 8589934590u, 0, 0, 0);
+    VALUED(zv_value(out, (size_t)told.words, WORDS(widest), 4), 0, ZV_BAD_ARGUMENT, 0, 0);
+}
+
 int main(void)
 {
     clear();
@@ -253,6 +335,8 @@ int main(void)
     bad_indexes();
     two_bitmaps();
     lists();
+    one_column();
+    two_columns();
     printf("ok\n");
     return 0;
 }

@@ -32,7 +32,9 @@
 #define MARKER(value, clean, dirty) ((value) + 2u * (clean) + 2u * (ZV_MOST_CLEAN + 1u) * (dirty))
 
 static uint32_t all[CONTENTS_END + ZV_MOST_BITMAPS * BODY_WORDS];
-static uint32_t list[ZV_MOST_NAMED], table[ZV_MOST_NAMED + 1u], plain[SEGMENTS], out[ZV_MOST_BODY_WORDS(ROWS)];
+static uint32_t list[ZV_MOST_NAMED], table[ZV_MOST_NAMED + 1u], plain[SEGMENTS];
+static uint32_t longest[ZV_MOST_VALUE_COLUMN], first[ZV_MOST_COLUMN], second[ZV_MOST_COLUMN];
+static uint32_t out[ZV_MOST_SUM_WORDS(ROWS, ZV_MOST_COLUMN - 1u)];
 static size_t room;
 static unsigned char stack[STACK_BYTES];
 
@@ -41,6 +43,7 @@ static union {
     zv_checked checked;
     zv_flag flag;
     zv_number number;
+    zv_column_value value;
     zv_written written;
     zv_answered answered;
     zv_part part;
@@ -69,7 +72,9 @@ static union {
     X(written, zv_not, WORDS(all), 63u, out, room) \
     X(answered, zv_threshold, WORDS(all), WORDS(list), 20u, out, room) \
     X(answered, zv_symmetric, WORDS(all), WORDS(list), WORDS(table), out, room) \
-    X(histogram, zv_histogram, WORDS(all), WORDS(list))
+    X(histogram, zv_histogram, WORDS(all), WORDS(list)) \
+    X(value, zv_value, WORDS(all), WORDS(longest), 0u) \
+    X(written, zv_sum, WORDS(all), WORDS(first), WORDS(second), out, room)
 
 #define RUN(kind, name, ...) \
     static void run_##name(void) \
@@ -85,7 +90,8 @@ static void run_nothing(void)
     told.checked.number = ZV_FINE;
 }
 
-/* An index of ZV_MOST_BITMAPS such bitmaps, the list of them all, a table that is 1 at every other number. */
+/* An index of ZV_MOST_BITMAPS such bitmaps, the list of them all, a table that is 1 at every other number; and columns
+ * of the most slices, each of which is the existence bitmap itself. */
 static void prepare(void)
 {
     const uint32_t head[ZV_HEAD_WORDS] = {ZV_INDEX_KIND, ROWS, ZV_MOST_BITMAPS};
@@ -102,6 +108,13 @@ static void prepare(void)
         list[k] = k;
         table[k] = k % 2u;
         plain[k] = k % 4u == 0 ? MIXED : 0;
+    }
+    for (uint32_t i = 0; i < ZV_MOST_VALUE_COLUMN; i++) {
+        longest[i] = 63u;
+    }
+    for (uint32_t i = 0; i < ZV_MOST_COLUMN; i++) {
+        first[i] = 1u;
+        second[i] = 62u;
     }
 }
 

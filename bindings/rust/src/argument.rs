@@ -5,7 +5,7 @@
 
 use std::fmt;
 
-use crate::{segments, MOST_NAMED};
+use crate::{segments, LEAST_COLUMN, MOST_COLUMN, MOST_NAMED, MOST_VALUE_COLUMN};
 
 /// What is wrong with an argument, and what would not be.
 #[derive(Clone, Copy, Debug, PartialEq, Eq, Hash)]
@@ -81,9 +81,67 @@ pub enum BadArgument {
         /// How many rows they were to be.
         rows: u32,
     },
+    /// The list names no column.
+    Column(BadColumn),
+    /// The list that was given second names no column.
+    SecondColumn(BadColumn),
+    /// The row does not exist in the column.
+    NoValue {
+        /// The row asked for.
+        row: u32,
+    },
+    /// There is not one value, or `None`, for each row.
+    Values {
+        /// How many there are.
+        values: usize,
+        /// How many rows there are.
+        rows: u32,
+    },
+    /// A column has no slice, or more than [`MOST_COLUMN`] leaves room for.
+    Slices {
+        /// The slices asked for.
+        slices: usize,
+    },
+    /// A value has more binary digits than the column has slices.
+    WideValue {
+        /// Its row.
+        row: u32,
+        /// The value.
+        value: u32,
+        /// The greatest value that the slices hold.
+        most: u32,
+    },
+}
+
+/// Why a list of bitmap numbers names no column.
+#[derive(Clone, Copy, Debug, PartialEq, Eq, Hash)]
+#[non_exhaustive]
+pub enum BadColumn {
+    /// The list has fewer than [`LEAST_COLUMN`] numbers.
+    Short {
+        /// How many it has.
+        numbers: usize,
+    },
+    /// The list has too many numbers.
+    Long {
+        /// How many it has.
+        numbers: usize,
+        /// How many it may have: [`MOST_COLUMN`], or [`MOST_VALUE_COLUMN`] where only a value is asked.
+        most: usize,
+    },
+    /// A number of the list is no bitmap's.
+    Number {
+        /// Its place in the list, counted from 0.
+        place: usize,
+        /// The number there.
+        number: u32,
+        /// How many bitmaps there are.
+        bitmaps: u32,
+    },
 }
 
 use BadArgument::{Bitmap, EmptyList, LongList, Name, PlainWords, Row, SecondBitmap, SetRow};
+use BadArgument::{Column, NoValue, SecondColumn, Slices, Values, WideValue};
 use BadArgument::{TableEntry, TableLength, Threshold};
 
 impl fmt::Display for BadArgument {
@@ -108,6 +166,33 @@ impl fmt::Display for BadArgument {
             PlainWords { words, rows } => {
                 write!(f, "there are {words} plain words, and {rows} rows need {}", segments(rows))
             }
+            Column(fault) => fault.tell(f, "the column"),
+            SecondColumn(fault) => fault.tell(f, "the second column"),
+            NoValue { row } => write!(f, "row {row} does not exist in the column"),
+            Values { values, rows } => write!(f, "there are {values} values, and {rows} rows need as many"),
+            Slices { slices } => {
+                write!(f, "a column of {slices} slices was asked for, and it can have 1 to {}", MOST_COLUMN - 1)
+            }
+            WideValue { row, value, most } => {
+                write!(f, "the value of row {row} is {value}, and the slices hold at most {most}")
+            }
+        }
+    }
+}
+
+impl BadColumn {
+    fn tell(&self, f: &mut fmt::Formatter<'_>, column: &str) -> fmt::Result {
+        match *self {
+            BadColumn::Short { numbers } => {
+                write!(f, "{column}'s list has length {numbers}, and {LEAST_COLUMN} is the least")
+            }
+            BadColumn::Long { numbers, most } => {
+                write!(f, "{column}'s list has length {numbers}, and {most} is the most")
+            }
+            BadColumn::Number { place, number, bitmaps } => write!(
+                f,
+                "place {place} of {column}'s list has {number}, and there are {bitmaps} bitmaps, counted from 0"
+            ),
         }
     }
 }
@@ -143,11 +228,13 @@ pub(crate) fn list(index: &[u32], list: &[u32]) -> Option<BadArgument> {
     match list.len() {
         0 => Some(EmptyList),
         names if names > MOST_NAMED => Some(LongList { names }),
-        _ => {
-            let place = list.iter().position(|number| *number >= bitmaps)?;
-            Some(Name { place, number: list[place], bitmaps })
-        }
+        _ => no_bitmap(list, bitmaps).map(|(place, number)| Name { place, number, bitmaps }),
     }
+}
+
+/// The first number of a list that is no bitmap's, and its place.
+fn no_bitmap(list: &[u32], bitmaps: u32) -> Option<(usize, u32)> {
+    list.iter().copied().enumerate().find(|(_, number)| *number >= bitmaps)
 }
 
 pub(crate) fn threshold(index: &[u32], names: &[u32], t: u32) -> Option<BadArgument> {
@@ -162,4 +249,23 @@ pub(crate) fn symmetric(index: &[u32], names: &[u32], table: &[u32]) -> Option<B
         let place = table.iter().position(|entry| *entry > 1)?;
         Some(TableEntry { place, entry: table[place] })
     })
+}
+
+fn column(index: &[u32], list: &[u32], most: usize) -> Option<BadColumn> {
+    let bitmaps = bitmaps_of(index);
+    match list.len() {
+        numbers if numbers < LEAST_COLUMN => Some(BadColumn::Short { numbers }),
+        numbers if numbers > most => Some(BadColumn::Long { numbers, most }),
+        _ => no_bitmap(list, bitmaps).map(|(place, number)| BadColumn::Number { place, number, bitmaps }),
+    }
+}
+
+pub(crate) fn value(index: &[u32], list: &[u32], row: u32) -> Option<BadArgument> {
+    let rows = rows_of(index);
+    let no_row = if row < rows { NoValue { row } } else { Row { row, rows } };
+    column(index, list, MOST_VALUE_COLUMN).map(Column).or(Some(no_row))
+}
+
+pub(crate) fn two_columns(index: &[u32], first: &[u32], second: &[u32]) -> Option<BadArgument> {
+    column(index, first, MOST_COLUMN).map(Column).or_else(|| column(index, second, MOST_COLUMN).map(SecondColumn))
 }

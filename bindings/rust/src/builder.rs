@@ -1,7 +1,7 @@
 //! Indexes made of bodies.
 
 use crate::{check, check_body, compress, most_body_words, segments, BadArgument, Refusal};
-use crate::{ENTRY_WORDS, HEAD_WORDS, INDEX_KIND, WORD_BITS};
+use crate::{ENTRY_WORDS, HEAD_WORDS, INDEX_KIND, MOST_COLUMN, WORD_BITS};
 
 /// The words of an index of these bodies, in order, with its contents right.
 ///
@@ -25,6 +25,16 @@ pub fn index_of<B: AsRef<[u32]>>(rows: u32, bodies: &[B]) -> Vec<u32> {
         index.extend_from_slice(body.as_ref());
     }
     index
+}
+
+/// The rows that exist and have a value of which `wanted` holds.
+fn rows_with<'v>(values: &'v [Option<u32>], wanted: impl Fn(u32) -> bool + 'v) -> impl Iterator<Item = u32> + 'v {
+    (0..).zip(values).filter(move |(_, value)| value.is_some_and(&wanted)).map(|(row, _)| row)
+}
+
+/// An argument that is refused here, as the library would.
+fn refused<T>(argument: BadArgument) -> Result<T, Refusal> {
+    Err(Refusal { number: Refusal::BAD_ARGUMENT, bitmap: 0, word: 0, argument: Some(argument) })
 }
 
 /// An index in the making. Every bitmap of it has the same rows, and is numbered from 0 in the order of the calls.
@@ -65,7 +75,7 @@ impl IndexBuilder {
     /// # Errors
     /// 3 for too many rows or bitmaps; 5, 6 or 7 for the body's first fault. Then nothing is added.
     pub fn add_body(&mut self, body: &[u32]) -> Result<u32, Refusal> {
-        self.check_room()?;
+        self.check_room(1)?;
         check_body(body, self.rows)?;
         Ok(self.push(body.to_vec()))
     }
@@ -76,7 +86,7 @@ impl IndexBuilder {
     /// 3 for too many rows or bitmaps; 8 unless there is one word for each [`WORD_BITS`] rows; 7 where the last has a
     /// bit behind the last row. Then nothing is added.
     pub fn add_plain(&mut self, plain: &[u32]) -> Result<u32, Refusal> {
-        self.check_room()?;
+        self.check_room(1)?;
         let mut body = vec![0; most_body_words(self.rows)];
         let words = compress(self.rows, plain, &mut body)?;
         body.truncate(words);
@@ -89,17 +99,55 @@ impl IndexBuilder {
     /// # Errors
     /// 3 for too many rows or bitmaps; 8 for a row that is not there. Then nothing is added.
     pub fn add_rows(&mut self, set: impl IntoIterator<Item = u32>) -> Result<u32, Refusal> {
-        self.check_room()?;
+        self.check_room(1)?;
         let rows = self.rows;
         let mut plain = vec![0; segments(rows)];
         for row in set {
             if row >= rows {
-                let argument = Some(BadArgument::Row { row, rows });
-                return Err(Refusal { number: Refusal::BAD_ARGUMENT, bitmap: 0, word: 0, argument });
+                return refused(BadArgument::Row { row, rows });
             }
             plain[row as usize / WORD_BITS] |= 1 << (row as usize % WORD_BITS);
         }
         self.add_plain(&plain)
+    }
+
+    /// Adds the bitmaps of a column, existence and that many slices, the lowest first, and returns the list of their
+    /// numbers, which names it. A row whose value is `None` does not exist.
+    ///
+    /// # Errors
+    /// 3 for too many rows or bitmaps; 8 unless there is one value, or `None`, for each row, for no slices or more than
+    /// 32, and for a value that has more binary digits than there are slices. Then nothing is added.
+    ///
+    /// ```
+    /// use zvonurel::IndexBuilder;
+    ///
+    /// let mut builder = IndexBuilder::new(3);
+    /// let column = builder.add_column(&[Some(6), None, Some(1)], 3)?;
+    /// assert_eq!(column, [0, 1, 2, 3]);
+    /// let index = builder.build()?;
+    /// assert_eq!(zvonurel::value(&index, &column, 0), Ok(6));
+    /// assert_eq!(zvonurel::value(&index, &column, 1).unwrap_err().number, 8);
+    /// # Ok::<(), zvonurel::Refusal>(())
+    /// ```
+    pub fn add_column(&mut self, values: &[Option<u32>], slices: usize) -> Result<Vec<u32>, Refusal> {
+        self.check_room(slices.saturating_add(1))?;
+        let rows = self.rows;
+        if values.len() != rows as usize {
+            return refused(BadArgument::Values { values: values.len(), rows });
+        }
+        if !(1..MOST_COLUMN).contains(&slices) {
+            return refused(BadArgument::Slices { slices });
+        }
+        let most = u32::MAX >> (MOST_COLUMN - 1 - slices);
+        let wide = (0..).zip(values).find_map(|(row, value)| Some((row, value.filter(|value| *value > most)?)));
+        if let Some((row, value)) = wide {
+            return refused(BadArgument::WideValue { row, value, most });
+        }
+        let mut column = vec![self.add_rows(rows_with(values, |_| true))?];
+        for slice in 0..slices {
+            column.push(self.add_rows(rows_with(values, |value| value >> slice & 1 == 1))?);
+        }
+        Ok(column)
     }
 
     /// The words of the index so far, checked.
@@ -117,10 +165,11 @@ impl IndexBuilder {
         (self.bodies.len() - 1) as u32
     }
 
-    /// Whether an index may have so many rows, and a bitmap more: asked of a head alone, before room for the rows is
-    /// taken. That its contents are missing is told only where both are right.
-    fn check_room(&self) -> Result<(), Refusal> {
-        match check(&[INDEX_KIND, self.rows, self.bodies.len() as u32 + 1]) {
+    /// Whether an index may have so many rows, and that many bitmaps more: asked of a head alone, before room for the
+    /// rows is taken. That its contents are missing is told only where both are right.
+    fn check_room(&self, more: usize) -> Result<(), Refusal> {
+        let bitmaps = u32::try_from(self.bodies.len().saturating_add(more)).unwrap_or(u32::MAX);
+        match check(&[INDEX_KIND, self.rows, bitmaps]) {
             Err(refusal) if refusal.number == Refusal::TOO_LARGE => Err(refusal),
             _ => Ok(()),
         }

@@ -15,6 +15,15 @@ pub const MOST_NAMED: usize = 64;
 /// How many numbers a histogram has: one for each number of holders from 0 to [`MOST_NAMED`].
 pub const HISTOGRAM_COUNTS: usize = MOST_NAMED + 1;
 
+/// The fewest numbers that name a column: the existence bitmap's, and that of one slice.
+pub const LEAST_COLUMN: usize = 2;
+
+/// The most numbers that name a column: the existence bitmap's, and those of 32 slices.
+pub const MOST_COLUMN: usize = 33;
+
+/// The most numbers that name a column of which only a value is asked: a sum has one slice more than what was added.
+pub const MOST_VALUE_COLUMN: usize = MOST_COLUMN + 1;
+
 /// What word 0 of an index says.
 pub const INDEX_KIND: u32 = 1;
 
@@ -60,4 +69,19 @@ pub const fn segments(rows: u32) -> usize {
 #[must_use]
 pub const fn most_body_words(rows: u32) -> usize {
     segments(rows) + segments(rows) / MOST_DIRTY + 1
+}
+
+/// Room for every sum of two columns of that many rows, of which the wider has at most that many slices: [`sum`] is not
+/// refused such a buffer.
+///
+/// A list of n numbers names n - 1 slices. The sum is an index of the existence bitmap and one slice more.
+///
+/// [`sum`]: crate::sum
+///
+/// ```
+/// assert_eq!(zvonurel::most_sum_words(8, 2), 19);
+/// ```
+#[must_use]
+pub const fn most_sum_words(rows: u32, slices: usize) -> usize {
+    HEAD_WORDS + (slices + 2) * (ENTRY_WORDS + most_body_words(rows))
 }

@@ -31,6 +31,14 @@ pub struct Number {
 }
 
 #[repr(C)]
+pub struct Value {
+    pub number: u32,
+    pub bitmap: u32,
+    pub word: u64,
+    pub value: u64,
+}
+
+#[repr(C)]
 pub struct Written {
     pub number: u32,
     pub bitmap: u32,
@@ -106,4 +114,15 @@ extern "C" {
         out_words: usize,
     ) -> Answered;
     pub fn zv_histogram(index: In, index_words: usize, list: In, list_words: usize) -> HistogramCounts;
+    pub fn zv_value(index: In, index_words: usize, column: In, column_numbers: usize, row: u32) -> Value;
+    pub fn zv_sum(
+        index: In,
+        index_words: usize,
+        first: In,
+        first_numbers: usize,
+        second: In,
+        second_numbers: usize,
+        out: Out,
+        out_words: usize,
+    ) -> Written;
 }

@@ -5,7 +5,7 @@ use std::fmt;
 
 use crate::{BadArgument, ENTRY_WORDS, HEAD_WORDS, INDEX_KIND, MOST_BITMAPS, MOST_INDEX_WORDS, MOST_ROWS};
 
-/// Why a call was refused: a number from 1 to 9, and where.
+/// Why a call was refused: a number from 1 to 9, or 11, and where.
 ///
 /// A body that stands alone is bitmap 0, with places counted in the body. As text it is a sentence:
 ///
@@ -53,6 +53,8 @@ impl Refusal {
     pub const BAD_ARGUMENT: u32 = 8;
     /// The answer doesn't fit into the buffer; `word` is how many words it has.
     pub const NO_ROOM: u32 = 9;
+    /// Bitmap `bitmap`, a slice of a column, has row `word`, which does not exist in that column.
+    pub const STRAY_ROW: u32 = 11;
 
     /// The number, the bitmap and the word, as the library, C and the program tell them.
     #[must_use]
@@ -87,6 +89,7 @@ impl fmt::Display for Refusal {
                 None => write!(f, "a bad argument")?,
             },
             Refusal::NO_ROOM => write!(f, "the buffer is too short for an answer of {word} words")?,
+            Refusal::STRAY_ROW => write!(f, "bitmap {bitmap}: this slice holds row {word}, which does not exist")?,
             _ => write!(f, "bitmap {bitmap}, word {word}")?,
         }
         write!(f, " (refusal {number})")

@@ -95,6 +95,13 @@ fn sizes() {
     assert_eq!(sizes(1_048_576), (32_768, 32_770));
     assert_eq!(sizes(MOST_ROWS), (524_288, 524_305));
     assert_eq!(sizes(u32::MAX), (134_217_728, 134_221_825));
+    let sums = |rows| (most_sum_words(rows, LEAST_COLUMN - 1), most_sum_words(rows, MOST_COLUMN - 1));
+    assert_eq!(sums(0), (12, 105));
+    assert_eq!(sums(1), (15, 139));
+    assert_eq!(sums(33), (18, 173));
+    assert_eq!(sums(1_048_576), (98_319, 1_114_251));
+    assert_eq!(sums(MOST_ROWS), (1_572_924, 17_826_441));
+    assert_eq!(sums(u32::MAX), (402_665_484, 4_563_542_121));
     // a body that needs them all: rows 0, 32, 64 and so on
     let mut body = vec![0; most_body_words(1_048_576)];
     assert_eq!(compress(1_048_576, &vec![1; 32_768], &mut body), Ok(32_770));
@@ -116,6 +123,9 @@ fn header() {
         ("MOST_BITMAPS", MOST_BITMAPS as usize),
         ("MOST_INDEX_WORDS", MOST_INDEX_WORDS),
         ("MOST_NAMED", MOST_NAMED),
+        ("LEAST_COLUMN", LEAST_COLUMN),
+        ("MOST_COLUMN", MOST_COLUMN),
+        ("MOST_VALUE_COLUMN", MOST_VALUE_COLUMN),
         ("INDEX_KIND", INDEX_KIND as usize),
         ("HEAD_WORDS", HEAD_WORDS),
         ("ENTRY_WORDS", ENTRY_WORDS),
@@ -133,6 +143,7 @@ fn header() {
         ("PAD_BIT", Refusal::PAD_BIT as usize),
         ("BAD_ARGUMENT", Refusal::BAD_ARGUMENT as usize),
         ("NO_ROOM", Refusal::NO_ROOM as usize),
+        ("STRAY_ROW", Refusal::STRAY_ROW as usize),
     ];
     for (name, value) in same {
         assert_eq!(defined(name), format!("{value}u"), "ZV_{name}");
@@ -180,4 +191,60 @@ fn builder_limits() {
     let mut long = IndexBuilder::new(0);
     assert_eq!((long.add_body(&idle), long.add_body(&idle)), (Ok(0), Ok(1)));
     assert_eq!(long.build().unwrap_err().numbers(), (Refusal::TOO_LARGE, 0, 0));
+}
+
+/// A column's bitmaps are behind those that were there: the rows that exist, and for each digit those that have it.
+#[test]
+fn builder_columns() {
+    let mut bits = Bits(1_116);
+    for rows in (0..70).chain([1_023, 1_024]) {
+        for slices in [1, 2, 7, 31, 32] {
+            let most = u32::MAX >> (32 - slices);
+            let values: Vec<_> = (0..rows).map(|_| (bits.next() % 4 != 0).then(|| bits.next() as u32 & most)).collect();
+            let mut builder = IndexBuilder::new(rows);
+            assert_eq!(builder.add_rows([]), Ok(0));
+            let column = builder.add_column(&values, slices).unwrap();
+            assert!(column.iter().copied().eq(1..slices as u32 + 2));
+            let index = builder.build().unwrap();
+            let listed = |k: usize| set_rows(bitmap(&index, column[k]).unwrap(), rows).unwrap();
+            assert!(listed(0).eq((0..rows).filter(|r| values[*r as usize].is_some())));
+            for i in 0..slices {
+                let set = |r: &u32| values[*r as usize].is_some_and(|value| value / (1 << i) % 2 == 1);
+                assert!(listed(1 + i).eq((0..rows).filter(set)));
+            }
+        }
+    }
+}
+
+#[test]
+fn builder_refuses_columns() {
+    let mut builder = IndexBuilder::new(3);
+    let values = [Some(3), None, Some(4)];
+    let refused = |values: &[Option<u32>], slices| {
+        let refusal = builder.clone().add_column(values, slices).unwrap_err();
+        assert_eq!(refusal.numbers(), (Refusal::BAD_ARGUMENT, 0, 0));
+        (refusal.argument.unwrap(), refusal.argument.unwrap().to_string())
+    };
+    let few = "there are 2 values, and 3 rows need as many".to_string();
+    assert_eq!(refused(&values[..2], 3), (BadArgument::Values { values: 2, rows: 3 }, few));
+    let none = "a column of 0 slices was asked for, and it can have 1 to 32".to_string();
+    assert_eq!(refused(&values, 0), (BadArgument::Slices { slices: 0 }, none));
+    assert_eq!(refused(&values, 33).0, BadArgument::Slices { slices: 33 });
+    let wide = "the value of row 2 is 4, and the slices hold at most 3".to_string();
+    assert_eq!(refused(&values, 2), (BadArgument::WideValue { row: 2, value: 4, most: 3 }, wide));
+    let widest = [Some(u32::MAX), None, Some(4)];
+    assert_eq!(refused(&widest, 31).0, BadArgument::WideValue { row: 0, value: u32::MAX, most: u32::MAX / 2 });
+
+    // what is refused adds nothing, not even the bitmaps that there is room for
+    assert!(builder.add_column(&values, 2).is_err());
+    assert_eq!(builder.build(), Ok(vec![1, 3, 0]));
+    assert_eq!(builder.add_column(&widest, 32).unwrap().len(), MOST_COLUMN);
+    let before = builder.build();
+    for slices in [31, usize::MAX] {
+        assert_eq!(builder.add_column(&widest, slices).unwrap_err().numbers(), (Refusal::TOO_LARGE, 0, 2));
+        assert_eq!(builder.build(), before);
+    }
+    assert_eq!(builder.add_column(&values, 30).unwrap().last(), Some(&(MOST_BITMAPS - 1)));
+    let mut long = IndexBuilder::new(MOST_ROWS + 1);
+    assert_eq!(long.add_column(&[], 1).unwrap_err().numbers(), (Refusal::TOO_LARGE, 0, 1));
 }

@@ -1,25 +1,17 @@
 //! Words of other makers: what is imported has exactly the rows that the words set, and anything else is not imported.
 
+#[path = "shared/random.rs"]
+mod random;
+
+use random::Random;
 use zvonurel::{check_body, import, import_java, set_rows, NotImported, MOST_ROWS};
 
-/// A number from 0 to below `n`, by a small generator that is the same in each run.
-struct Random(u64);
-
-impl Random {
-    fn below(&mut self, n: u64) -> u64 {
-        self.0 ^= self.0 << 13;
-        self.0 ^= self.0 >> 7;
-        self.0 ^= self.0 << 17;
-        self.0 % n
-    }
-
-    fn segment(&mut self) -> u32 {
-        match self.below(4) {
-            0 => 0,
-            1 => u32::MAX,
-            2 => 1 << self.below(32),
-            _ => self.below(1 << 32) as u32,
-        }
+fn some_segment(random: &mut Random) -> u32 {
+    match random.below(4) {
+        0 => 0,
+        1 => u32::MAX,
+        2 => 1 << random.below(32),
+        _ => random.below(1 << 32) as u32,
     }
 }
 
@@ -76,7 +68,7 @@ fn some_words(random: &mut Random) -> (Vec<u32>, u64) {
     for _ in 0..random.below(6) {
         let (value, clean, dirty) = (random.below(2), random.below(4), random.below(4));
         words.push((value + 2 * clean + 131_072 * dirty) as u32);
-        words.extend((0..dirty).map(|_| random.segment()));
+        words.extend((0..dirty).map(|_| some_segment(random)));
         segments += clean + dirty;
     }
     (words, segments)

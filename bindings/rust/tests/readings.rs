@@ -1,40 +1,13 @@
 //! Every call, on an index of four rows, one of eight and others, a refusal of each number, and each limit.
 
+mod shared;
+
+use shared::{no_room, said, told, writes, BAD, LOOPED, UNTOUCHED};
 use zvonurel::*;
 
-const LOOPED: [u32; 15] = [1, 4, 3, 9, 2, 11, 2, 13, 2, 0x20000, 0x3, 0x20000, 0xE, 0x20000, 0x8];
 const EIGHT: [u32; 11] = [1, 8, 2, 7, 2, 9, 2, 0x20000, 0x32, 0x20000, 0xB0];
 const FORTY: [u32; 3] = [0x40000, 0x1, 0x80];
 const ALL: [u32; 3] = [0, 1, 2];
-const UNTOUCHED: u32 = 0x7777_7777;
-
-/// A refusal's number, bitmap and word.
-type Numbers = (u32, u32, u64);
-
-const BAD: Numbers = (Refusal::BAD_ARGUMENT, 0, 0);
-
-fn no_room<T>(need: u64) -> Result<T, Numbers> {
-    Err((Refusal::NO_ROOM, 0, need))
-}
-
-/// What a call told, a refusal by its three numbers.
-fn told<T>(result: Result<T, Refusal>) -> Result<T, Numbers> {
-    result.map_err(|refusal| refusal.numbers())
-}
-
-/// The call writes these words into a buffer of their length and one more, which it leaves; and it is refused with
-/// their number, and changes nothing, where one word is missing.
-fn writes(want: &[u32], call: impl Fn(&mut [u32]) -> Result<usize, Refusal>) {
-    let mut out = vec![UNTOUCHED; want.len() + 1];
-    assert_eq!(call(&mut out), Ok(want.len()));
-    assert_eq!(&out[..want.len()], want);
-    assert_eq!(out[want.len()], UNTOUCHED);
-    if let Some(short) = want.len().checked_sub(1) {
-        let mut out = vec![UNTOUCHED; short];
-        assert_eq!(told(call(&mut out)), no_room(want.len() as u64));
-        assert!(out.iter().all(|w| *w == UNTOUCHED));
-    }
-}
 
 /// Plain words, and the body that they are written as and read from.
 fn body_of(rows: u32, plain: &[u32], body: &[u32]) {
@@ -121,8 +94,7 @@ fn refused_by_all(index: &[u32]) -> [Option<Refusal>; 14] {
 #[test]
 fn bad_indexes() {
     let changed = |place: usize, value: u32| {
-        let mut index = LOOPED;
-        index[place] = value;
+        let index = shared::changed(place, value);
         let told = check(&index).unwrap_err();
         assert!(refused_by_all(&index).iter().all(|r| *r == Some(told)));
         told.numbers()
@@ -212,11 +184,7 @@ fn lists() {
 /// What each refusal says. The numbers at fault are changed words of LOOPED, or the arguments.
 #[test]
 fn sentences() {
-    let changed = |place: usize, value: u32| {
-        let mut index = LOOPED;
-        index[place] = value;
-        check(&index).unwrap_err().to_string()
-    };
+    let changed = |place: usize, value: u32| check(&shared::changed(place, value)).unwrap_err().to_string();
     assert_eq!(
         check(&LOOPED[..8]).unwrap_err().to_string(),
         "the index has 8 words, too few for its head and its contents (refusal 1)"
@@ -241,13 +209,6 @@ fn sentences() {
     assert_eq!(changed(12, 0x1E), "bitmap 1, word 12: a bit behind the last row is set (refusal 7)");
     let room = and(&LOOPED, 0, 1, &mut []).unwrap_err().to_string();
     assert_eq!(room, "the buffer is too short for an answer of 2 words (refusal 9)");
-}
-
-fn said<T: std::fmt::Debug>(result: Result<T, Refusal>) -> String {
-    let refusal = result.unwrap_err();
-    assert_eq!(refusal.numbers(), BAD);
-    let text = refusal.to_string();
-    text.strip_prefix("a bad argument: ").and_then(|rest| rest.strip_suffix(" (refusal 8)")).unwrap().to_string()
 }
 
 /// A refusal 8 names the argument, the first in the call's order where two are wrong.

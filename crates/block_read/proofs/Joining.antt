@@ -14,9 +14,9 @@ use Rattle.meaning.specs.Ewah.{segments}
 use Rattle.meaning.specs.Ahead.{Ahead}
 use Rattle.ewah.specs.declared.cursor.Cursor.{Cursor}
 use Rattle.ewah.specs.declared.cursor.Piece.the-variants.{Clean, Dirty}
-use Rattle.ewah.specs.Cursors.{InOrder, leftOf, piecesFrom, Passes}
-use Rattle.block_read.specs.Taken.{wordAt, wordOf, Replaced, SpanTaken, RowTaken}
-use Rattle.block_read.proofs.Spans.{run-word, dirty-segment, piece-word}
+use Rattle.ewah.specs.Cursors.{InOrder, leftOf, wordOf, piecesFrom, Passes}
+use Rattle.block_read.specs.Taken.{wordAt, Replaced, SpanTaken, RowTaken}
+use Rattle.ewah.proofs.Spans.{run-word, dirty-segment, piece-word}
 
 module _ (b : List ℕ) (c : Cursor) (n : ℕ) (x : List ℕ) (at : ℕ) (x′ : List ℕ) (r : Cursor) where
   -- the words that were replaced are the segments

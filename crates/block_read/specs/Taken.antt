@@ -6,12 +6,9 @@ use mathlib.Core.Path.{_≡_}
 use mathlib.Core.List.{List}
 use lib.ListN.{length, getD}
 use Rattle.meaning.specs.Limits.{blockSegments}
-use Rattle.meaning.specs.Segment.{fill}
 use Rattle.meaning.specs.Ewah.{segments}
 use Rattle.meaning.specs.Ahead.{Ahead}
 use Rattle.ewah.specs.declared.cursor.Cursor.{Cursor}
-use Rattle.ewah.specs.declared.cursor.Piece as code
-use Rattle.ewah.specs.declared.cursor.Piece.the-variants.{Clean, Dirty}
 use Rattle.ewah.specs.Cursors.{piecesFrom, Passes}
 
 -- word i of the row that begins at `at`; where all its segments are alike only the first word is kept
@@ -21,11 +18,6 @@ wordAt even x at i = getD x (at + cond even 0 i) 0
 -- a cursor stands somewhere with n segments ahead of it
 abbrev pub HasAhead : List ℕ → Cursor → ℕ → Type 0
 HasAhead b c n = (o : ℕ) × Ahead b o (piecesFrom b c) × (o + n ≤ length (segments b))
-
--- the word that every segment of a piece is
-abbrev pub wordOf : code.Piece → ℕ
-wordOf (Clean v n) = fill 32 32 v
-wordOf (Dirty x) = x
 
 -- from x to x′ the n words from `at` on became f 0, f 1, ..; the others stay
 pub record Replaced (x x′ : List ℕ) (at n : ℕ) (f : ℕ → ℕ) : Type 0 where

@@ -8,7 +8,7 @@ ghost use lib.ListN.{length, getD};
 ghost use Rattle.meaning.specs.Limits.{blockSegments, blockWords};
 ghost use Rattle.ewah.specs.declared.cursor.Piece.the-variants.{Clean, Dirty};
 ghost use Rattle.ewah.specs.Cursors.{InOrder, ValueLow, leftOf, piecesFrom, spanOf};
-ghost use Rattle.block_read.specs.Taken.{HasAhead, wordOf, Replaced, SpanTaken, RowTaken};
+ghost use Rattle.block_read.specs.Taken.{HasAhead, Replaced, SpanTaken, RowTaken};
 use ewah::cursor;
 use ewah::cursor::Cursor;
 use ewah::cursor::Piece;
@@ -112,17 +112,6 @@ fn take_spans(body: &[u32], from: Cursor, x: &mut [u32; BLOCK_WORDS], at: usize,
     c
 }
 
-// The word of a piece's segments.
-fn word(piece: Piece) -> u32
-    requires { ⌜ ValueLow piece ⌝ }
-    ensures { λ r. ⌜ r ≡ wordOf piece ⌝ }
-{
-    match piece {
-        Piece::Clean(value, _) => marker::segment(value),
-        Piece::Dirty(x) => x,
-    }
-}
-
 // The next n segments of one piece: their word is kept once.
 fn take_even(body: &[u32], c: Cursor, x: &mut [u32; BLOCK_WORDS], at: usize, n: u32) -> Cursor
     requires { ⌜ InOrder (now body) c ⌝ }
@@ -131,7 +120,7 @@ fn take_even(body: &[u32], c: Cursor, x: &mut [u32; BLOCK_WORDS], at: usize, n: 
     ensures { λ r. ⌜ RowTaken (now (body .entry)) c n true (now (x .entry)) at (now (x .exit)) r ⌝ }
 {
     let piece = c.piece;
-    x[at] = word(piece);
+    x[at] = cursor::word(piece);
     cursor::advance(body, c, n)
 }
 

@@ -14,7 +14,7 @@ use Rattle.ewah.specs.declared.cursor.Cursor.{Cursor}
 use Rattle.ewah.specs.declared.cursor.Piece as code
 use Rattle.ewah.specs.declared.cursor.Piece.the-variants.{Clean, Dirty}
 use Rattle.ewah.specs.Markers.{FieldsOf}
-use Rattle.ewah.specs.Cursors.{Stands, InOrder, leftOf, piecesFrom, pieceThen, spanOf, behind, Passes}
+use Rattle.ewah.specs.Cursors.{Stands, InOrder, leftOf, piecesFrom, pieceThen, Passes}
 use Rattle.meaning.specs.Ahead.{Ahead, advanced, firstSize}
 use Rattle.meaning.proofs.Walked.{ahead-on}
 

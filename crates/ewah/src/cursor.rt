@@ -135,16 +135,7 @@ pub fn pass(body: &[u32], c: Cursor, n: u32) -> Cursor
     let next = c.next;
     let dirty = c.dirty;
     match piece {
-        Piece::Clean(value, k) => {
-            if n < k {
-                return Cursor {
-                    piece: Piece::Clean(value, k - n),
-                    next,
-                    dirty,
-                };
-            }
-            load(body, next, dirty)
-        }
+        Piece::Clean(_, _) => advance(body, c, n),
         Piece::Dirty(_) => load(body, next + (n - 1) as usize, dirty - (n - 1)),
     }
 }

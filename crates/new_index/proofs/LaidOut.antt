@@ -172,7 +172,7 @@ module _ (out starts : List ℕ) (bs : List (List ℕ)) (f : ℕ) (places : (k :
   laid-out old h =
       let all : take (length bs) bs ≡ bs = take-all (length bs) bs (omega arith) in
       let front : take (f + totalWords bs) out ≡ take f out ++ joined bs =
-          subst (λ (c : List (List ℕ)). take (f + totalWords c) out ≡ take f out ++ joined c) all (joined-take (length bs) (omega arith)) in
+      subst (λ (c : List (List ℕ)). take (f + totalWords c) out ≡ take f out ++ joined c) all (joined-take (length bs) (omega arith)) in
       sym (take-append-drop (f + totalWords bs) out) ∙ ap₂ (λ (u v : List ℕ). u ++ v) front h
 
   -- behind the head and the contents of an index of the bodies they are that index

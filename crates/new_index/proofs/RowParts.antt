@@ -40,8 +40,8 @@ module _ (rows : List ℕ) (n : ℕ) (even : Bool) (k m : ℕ) (e : m ≡ rowLen
         let some : 1 ≤ length words = omega (arith, row-length, one) in
         let here : k * blockSegments + 0 ≡ k * blockSegments = omega arith in
         let same : getD words 0 0 ≡ getD rows (k * blockSegments) 0 =
-            getD-take ((k * blockSegments + m) - k * blockSegments) (drop (k * blockSegments) rows) 0 0 (omega (arith, one, many))
-            ∙ getD-drop (k * blockSegments) rows 0 0 ∙ ap (λ (j : ℕ). getD rows j 0) here in
+        getD-take ((k * blockSegments + m) - k * blockSegments) (drop (k * blockSegments) rows) 0 0 (omega (arith, one, many))
+        ∙ getD-drop (k * blockSegments) rows 0 0 ∙ ap (λ (j : ℕ). getD rows j 0) here in
         (some, rw same g)
 
     -- and else one for each

@@ -9,8 +9,8 @@ use meaning::ENTRY_WORDS;
 use meaning::HEAD_WORDS;
 use meaning::INDEX_KIND;
 use meaning::MOST_STARTS;
-use meaning::WRITERS_NUMBERS;
 use meaning::WRITER_NUMBERS;
+use meaning::WRITERS_NUMBERS;
 
 // The starts of `count` bodies one behind the other, the first at `from`, and the end of the last.
 pub fn starts(numbers: &[usize; WRITERS_NUMBERS], count: usize, from: usize) -> [usize; MOST_STARTS]

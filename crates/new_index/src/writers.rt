@@ -15,8 +15,8 @@ use ewah_write::writer::Writer;
 use meaning::BLOCK_SEGMENTS;
 use meaning::BLOCK_WORDS;
 use meaning::MOST_VALUE_COLUMN;
-use meaning::WRITERS_NUMBERS;
 use meaning::WRITER_NUMBERS;
+use meaning::WRITERS_NUMBERS;
 
 // Five numbers for each writer: the words in use, the last marker's place, and its three fields.
 pub struct Writers {
@@ -28,7 +28,9 @@ pub fn start() -> Writers
     ensures { λ r. ⌜ (length (r .numbers) ≡ writersNumbers)
         × ((i : ℕ) → i < mostValueColumn → Tracks (writerOf (r .numbers) i) blank) ⌝ }
 {
-    let mut ws = Writers { numbers: [0; WRITERS_NUMBERS] };
+    let mut ws = Writers {
+        numbers: [0; WRITERS_NUMBERS],
+    };
     let mut i: usize = 0;
     while i < MOST_VALUE_COLUMN {
         let w = writer::start();

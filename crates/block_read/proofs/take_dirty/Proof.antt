@@ -4,7 +4,7 @@ use mathlib.Core.Path.{ap}
 use denote.Ref.{now}
 use Rattle.ewah.specs.declared.cursor.Piece as code
 use Rattle.ewah.specs.Cursors.{spanBy, behind}
-use Rattle.block_read.proofs.Spans.{word-held, words-there}
+use Rattle.ewah.proofs.Spans.{word-held, words-there}
 use Rattle.block_read.proofs.Joining.{dirty-taken}
 use native.Mathlib.Omega.{arith}
 use Rattle.block_read.proofs.take_dirty.Statement.{statement}

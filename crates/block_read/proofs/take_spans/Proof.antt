@@ -4,7 +4,7 @@ use Prim.Native.Nat.{_+_, _-_, _≤_}
 use mathlib.Core.Path.{_≡_, _∙_}
 use denote.Ref.{now}
 use Rattle.block_read.specs.Taken.{SpanTaken}
-use Rattle.block_read.proofs.Spans.{span-some}
+use Rattle.ewah.proofs.Spans.{span-some}
 use Rattle.block_read.proofs.Joining.{taken-none, taken-more}
 use borrow.Author.Needs.{needs}
 use native.Mathlib.Omega.{arith}

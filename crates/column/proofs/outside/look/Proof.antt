@@ -94,7 +94,7 @@ returns-3 c =
     let s = start t in
     let q = s .pre .1 .1 in
     λ o l k. c .find .ensures _
-        (seen-words (facing s o l k) (s .pre .0) (s .pre .1 .0) _ (is-word t .1) _ (is-word′ t .1) (q .4) (q .5))
+    (seen-words (facing s o l k) (s .pre .0) (s .pre .1 .0) _ (is-word t .1) _ (is-word′ t .1) (q .4) (q .5))
 
 word-requires : tie.Need-word-requires
 word-requires c κs = search needs

@@ -1,36 +1,32 @@
--- `ewah::cursor::pass` meets its contract: within one piece as `advance`, and over dirty words one by one.
+-- `ewah::cursor::pass` meets its contract: within a run as `advance`, and over dirty words many at once.
 -- Assumes nothing.
-use Prim.Native.Nat.{ℕ, _+_, _-_, _≤_}
-use mathlib.Core.Path.{_≡_, ap}
+use Prim.Native.Nat.{_+_, _-_, _≤_}
+use mathlib.Core.Path.{ap}
 use native.Mathlib.Omega.{arith}
 use denote.Ref.{now}
 use lib.ListN.{length}
 use Rattle.ewah.specs.declared.cursor.Piece as code
 use Rattle.ewah.specs.Cursors.{leftOf, spanBy, behind}
-use Rattle.ewah.proofs.Pieces.{run-shorter, run-over, passes-one, passes-dirty}
+use Rattle.ewah.proofs.Pieces.{passes-one, passes-dirty}
 use borrow.Author.Needs.{needs}
 use Rattle.ewah.proofs.cursor.pass.Statement.{statement}
 use Rattle.ewah.proofs.cursor.pass.Tie as tie
 
-enum-known-piece : tie.Need-enum-known-piece
-enum-known-piece c = search needs
-
-sub-t11 : tie.Need-sub-t11
-sub-t11 c = search needs
-
-returns : tie.Need-returns
-returns c =
-    let s = c .before .before .before .before .before in
-    let a = s .args in
-    let e = c .before .before .piece .given .1 in
-    let h : a .n ≤ leftOf (a .c .piece) = omega (arith, ap leftOf e, c .if1 .taken) in
-    passes-one (now (a .body)) (a .c) (a .n) (s .pre .1 .0) h _ (run-shorter (now (a .body)) (a .c) (a .n) (s .pre .0) (s .pre .1 .0) h _ _ e (c .if1 .taken))
-
-load-requires : tie.Need-load-requires
-load-requires c κs = search needs
-
 enum-told : tie.Need-enum-told
 enum-told c = search needs
+
+-- a run has as many segments up to the next marker as it has left
+in-run : (t : tie.After-enum-told) → t .before .before .before .args .n ≤ leftOf (t .before .before .before .args .c .piece)
+in-run t =
+    let s = t .before .before .before in
+    let e = t .enum-told .given .1 in
+    omega (arith, s .pre .1 .1, ap leftOf e, ap (λ (q : code.Piece). spanBy q (s .args .c .dirty)) e)
+
+advance-requires : tie.Need-advance-requires
+advance-requires c κs = let s = c .before .before .before in (s .pre .0, (s .pre .1 .0, in-run c))
+
+enum-told-2 : tie.Need-enum-told-2
+enum-told-2 c = search needs
 
 sub-load : tie.Need-sub-load
 sub-load c = search needs
@@ -44,45 +40,46 @@ add-load c = search needs
 sub-load-2 : tie.Need-sub-load-2
 sub-load-2 c = search needs
 
-sub-load-3 : tie.Need-sub-load-3
-sub-load-3 c =
-    let s = c .before .before .before in
-    omega (arith, s .pre .1 .1, ap (λ (q : code.Piece). spanBy q (s .args .c .dirty)) (c .enum-told .given .1))
+-- so many dirty words are due
+due : (t : tie.After-enum-told2) → t .before .before .before .args .n ≤ t .before .before .before .args .c .dirty + 1
+due t =
+    let s = t .before .before .before in
+    omega (arith, s .pre .1 .1, ap (λ (q : code.Piece). spanBy q (s .args .c .dirty)) (t .enum-told2 .given .1))
 
-load-requires-2 : tie.Need-load-requires-2
-load-requires-2 c κs =
-    let s = c .before .before .before in
-    (omega (arith, s .pre .1 .2, ap (λ (q : code.Piece). behind q (s .args .n)) (c .enum-told .given .1)), omega (arith, s .pre .0 .dirty-low))
+inside : (t : tie.After-enum-told2) → t .before .before .before .args .c .next + (t .before .before .before .args .n - 1) ≤ length (now (t .before .before .before .args .body))
+inside t =
+    let s = t .before .before .before in
+    omega (arith, s .pre .1 .2, ap (λ (q : code.Piece). behind q (s .args .n)) (t .enum-told2 .given .1))
+
+sub-load-3 : tie.Need-sub-load-3
+sub-load-3 c = omega (arith, due c, c .before .before .before .pre .1 .0)
+
+load-requires : tie.Need-load-requires
+load-requires c κs = (inside c, omega (arith, c .before .before .before .pre .0 .dirty-low))
+
+returns : tie.Need-returns
+returns c =
+    let s = c .before .before .before .before in
+    passes-one (now (s .args .body)) (s .args .c) (s .args .n) (s .pre .1 .0) (in-run (c .before)) (c .advance .result) (c .advance .ensures)
 
 returns-2 : tie.Need-returns-2
 returns-2 c =
-    let s = c .before .before .before .before .before .before in
-    let a = s .args in
-    let e = c .before .before .before .piece .given .1 in
-    let h : a .n ≤ leftOf (a .c .piece) = omega (arith, ap leftOf e, ap (λ (q : code.Piece). spanBy q (a .c .dirty)) e, s .pre .1 .1) in
-    passes-one (now (a .body)) (a .c) (a .n) (s .pre .1 .0) h _ (run-over (now (a .body)) (a .c) (a .n) (s .pre .0) (s .pre .1 .0) h _ _ (c .load .result) e (c .before .if1 .left) (c .load .ensures))
-
-returns-3 : tie.Need-returns-3
-returns-3 c =
-    let s = c .before .before .before .before in
-    let a = s .args in
-    let e = c .before .enum-told .given .1 in
-    passes-dirty (now (a .body)) (a .c) (a .n) (s .pre .1 .0) _ e (omega (arith, s .pre .1 .1, ap (λ (q : code.Piece). spanBy q (a .c .dirty)) e)) (omega (arith, s .pre .1 .2, ap (λ (q : code.Piece). behind q (a .n)) e)) (c .load2 .result) (c .load2 .ensures)
+    let t = c .before in
+    let s = t .before .before .before in
+    passes-dirty (now (s .args .body)) (s .args .c) (s .args .n) (s .pre .1 .0) _ (t .enum-told2 .given .1) (due t) (inside t) (c .load .result) (c .load .ensures)
 
 pub pass-spec : {M : Type 1} → statement M
 pass-spec =
     tie.close
     (tie.spec
-    enum-known-piece
-    sub-t11
-    returns
-    load-requires
     enum-told
+    advance-requires
+    enum-told-2
     sub-load
     cast-load
     add-load
     sub-load-2
     sub-load-3
-    load-requires-2
-    returns-2
-    returns-3)
+    load-requires
+    returns
+    returns-2)

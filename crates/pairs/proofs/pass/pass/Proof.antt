@@ -175,10 +175,9 @@ loop-holds c =
     let t = c .before .before .before .before .before .before .before .before .before .before in
     let a = t .args in
     let e = c .before .before .«open» .ensures in
-    let f = c .before .open2 .ensures in
-    (
+    let f = c .before .open2 .ensures in (
       passing-none (now (a .index)) (now (a .first)) (now (a .second)) (a .n) (now (a .starts)) (now (a .out)) (a .store) (t .pre .0) _ _ _
-      (record { standing = e .2; long = e .1 }) (record { standing = f .2; long = f .1 }) (c .start .ensures .0) (c .start .ensures .1),
+          (record { standing = e .2; long = e .1 }) (record { standing = f .2; long = f .1 }) (c .start .ensures .0) (c .start .ensures .1),
       refl,
     )
 
@@ -207,8 +206,7 @@ mask-before-requires c κs =
 gather-requires : tie.Need-gather-requires Inv-loop μ-loop
 gather-requires c κs =
     let w = c .before .before .before in
-    let i = here w in
-    (
+    let i = here w in (
       cs i .facts .head,
       (
         cs i .facts .entries,
@@ -232,8 +230,7 @@ gather-requires c κs =
 gather-requires-2 : tie.Need-gather-requires-2 Inv-loop μ-loop
 gather-requires-2 c κs =
     let w = c .before .before .before .before .before .before in
-    let i = here w in
-    (
+    let i = here w in (
       cs i .facts .head,
       (
         cs i .facts .entries,
@@ -260,8 +257,7 @@ row-length-requires c κs = search needs
 sum-requires : tie.Need-sum-requires Inv-loop μ-loop
 sum-requires c κs =
     let w = c .before .before .before .before .before .before .before .before .before .before .before in
-    let i = here w in
-    (
+    let i = here w in (
       cs i .few,
       omega (arith, c .row-length .ensures, row-some (m w) (even w) (ch w .some)),
       omega (arith, c .row-length .ensures, row-low (m w) (even w) (ch w .in-block)),
@@ -278,8 +274,7 @@ emit-all-requires c κs =
     let s = c .before .before .before in
     let w = chosen s in
     let i = h s in
-    let low = m-low (index i) (first i) (second i) (n i) (starts i) (old i) (store i) (cs i) (out i) (ns1 i) (ns2 i) (ws i) (o i) (g i) (near w) (m w) (even w) (ch w) (near1 w) (near2 w) in
-    (
+    let low = m-low (index i) (first i) (second i) (n i) (starts i) (old i) (store i) (cs i) (out i) (ns1 i) (ns2 i) (ws i) (o i) (g i) (near w) (m w) (even w) (ch w) (near1 w) (near2 w) in (
       (omega (arith, cs i .few), g i .numbers-long, added s .long, ch w .some, low, ch w .in-block),
       (
         rw (g i .long) (call i .pre .1 .0),
@@ -307,12 +302,11 @@ loop-again c =
     let s = c .before .before .before .before .before .before in
     let w = chosen s in
     let i = h s in
-    let e = c .before .before .emit-all in
-    (
+    let e = c .before .before .emit-all in (
       passing-more (index i) (first i) (second i) (n i) (starts i) (old i) (store i) (cs i) (out i) (ns1 i) (ns2 i) (ws i) (o i) (g i) (near w) (m w) (even w) (ch w) (near1 w) (near2 w) (x s) (y s) (z s) (mask s) (blocks1 s) (blocks2 s) (added s) (masked s)
-      (e .last .0) (e .last .1 .1 .0) (e .ensures) _ _
-      (walking-on (index i) (first i) (cs i .facts) (cs i .first-listed) (ns1 i) (o i) (m w) (g i .first-walking) (even w) _ _ (x s) (s .before .before .before .before .before .before .before .before .gather .ensures))
-      (walking-on (index i) (second i) (cs i .facts) (cs i .second-listed) (ns2 i) (o i) (m w) (g i .second-walking) (even w) _ _ (y s) (s .before .before .before .before .before .gather2 .ensures)),
+          (e .last .0) (e .last .1 .1 .0) (e .ensures) _ _
+          (walking-on (index i) (first i) (cs i .facts) (cs i .first-listed) (ns1 i) (o i) (m w) (g i .first-walking) (even w) _ _ (x s) (s .before .before .before .before .before .before .before .before .gather .ensures))
+          (walking-on (index i) (second i) (cs i .facts) (cs i .second-listed) (ns2 i) (o i) (m w) (g i .second-walking) (even w) _ _ (y s) (s .before .before .before .before .before .gather2 .ensures)),
       added s .long,
     )
 

@@ -72,8 +72,7 @@ slice-aggregate-pass c = search needs
 
 pass-requires : tie.Need-pass-requires
 pass-requires c κs =
-    let a = c .before .before .before .before .before .before in
-    (
+    let a = c .before .before .before .before .before .before in (
       a .pre,
       (
         nowhere-laid (replicate mostStarts 0) (a .args .n + 1) _ (omega (arith, a .pre .few)) (zeros mostStarts),
@@ -90,8 +89,7 @@ add-starts c = search needs
 starts-requires : tie.Need-starts-requires
 starts-requires c κs =
     let a = c .before .before .before .before .before .before .before .before .before .before .before in
-    let p = c .before .before .before .before .pass .ensures in
-    (
+    let p = c .before .before .before .before .pass .ensures in (
       omega (arith, a .pre .few),
       p .numbers-long,
       omega (arith, a .pre .few),
@@ -122,8 +120,7 @@ write-contents-requires : tie.Need-write-contents-requires
 write-contents-requires c κs =
     let s = c .before .before .before .before in
     let fits = c .before .before .before .if1 .left in
-    let l = in-order s _ fits in
-    (
+    let l = in-order s _ fits in (
       (
         omega (arith, cs s .few),
         l .many,
@@ -142,8 +139,7 @@ pass-requires-2 : tie.Need-pass-requires-2
 pass-requires-2 c κs =
     let s = c .before .before .before .before .before .before .before .before .before in
     let hd = c .before .before .before .before .write-contents .ensures in
-    let room = c .before .before .before .before .before .before .before .before .if1 .left in
-    (
+    let room = c .before .before .before .before .before .before .before .before .if1 .left in (
       cs s,
       (
         in-order s _ (omega (arith, hd .long, room)),
@@ -160,9 +156,9 @@ returns-2 c =
     let room = c .before .before .before .before .before .before .before .before .before .before .before .if1 .left in
     let out₁ = c .before .before .before .before .before .before .before .write-contents .last .0 in
     let hd : Headed (s .before .before .before .before .before .pass .last .1 .1 .1 .1 .0) (rowCount (index s)) (starts s) (n s + 1) out₁ (n s + 1) =
-        subst (λ (r : ℕ). Headed (s .before .before .before .before .before .pass .last .1 .1 .1 .1 .0) r (starts s) (n s + 1) out₁ (n s + 1)) (c .before .before .before .before .before .before .before .before .before .before .rows .ensures) (c .before .before .before .before .before .before .before .write-contents .ensures) in
+    subst (λ (r : ℕ). Headed (s .before .before .before .before .before .pass .last .1 .1 .1 .1 .0) r (starts s) (n s + 1) out₁ (n s + 1)) (c .before .before .before .before .before .before .before .before .before .before .rows .ensures) (c .before .before .before .before .before .before .before .write-contents .ensures) in
     let out = written (index s) (first s) (second s) (n s) (cs s) (ws s) (starts s) (used s) (st s) (old s) out₁ _ _ (omega (arith, room, ap length (same s)))
-        (subst (λ (l : List ℕ). Headed l (rowCount (index s)) (starts s) (n s + 1) out₁ (n s + 1)) (same s) hd) (c .before .before .pass2 .ensures) in
+    (subst (λ (l : List ℕ). Headed l (rowCount (index s)) (starts s) (n s + 1) out₁ (n s + 1)) (same s) hd) (c .before .before .pass2 .ensures) in
     record { need-is = need s; fits = λ h. out; lacks = λ h. absurd (omega (arith, room, ap length (same s))) }
 
 pub sum-spec : {M : Type 1} → statement M

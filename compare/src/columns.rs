@@ -1,0 +1,358 @@
+//! Makes indexes of columns, some with strays: rows of a slice that do not exist in its column.
+
+use reference::limits::MOST_SUMMED;
+use zvonurel::{segments, MOST_BITMAPS, WORD_BITS};
+
+use crate::generate::{index_input, mask_last, some_word, spelled};
+use crate::generate::{Effort, Input, Style, DIRTIES, LONG_ROWS, RUNS};
+use crate::random::Random;
+
+/// An index, and two lists that name columns of it.
+pub struct Columns {
+    pub input: Input,
+    pub first: Vec<u32>,
+    pub second: Vec<u32>,
+}
+
+/// Plain words of a column's bitmaps: existence first, then the slices.
+type Column = Vec<Vec<u32>>;
+
+#[derive(Clone, Copy)]
+enum Kind {
+    Clean,
+    Mixed,
+    /// Each segment lacks one row, so that many mixed ones follow each other.
+    OneOut,
+}
+
+/// Segments in which the bitmaps of an index are alike in kind, so that all of them can be clean at once.
+struct Stretch {
+    length: usize,
+    kind: Kind,
+}
+
+struct Shape {
+    rows: u32,
+    stretches: Vec<Stretch>,
+    /// Some bitmaps do not keep to the stretches.
+    loose: bool,
+    /// Slices of the two columns.
+    widths: [usize; 2],
+    effort: Effort,
+}
+
+pub fn generate(random: &mut Random, long: bool) -> Columns {
+    let shape = match long {
+        true => tall(random),
+        false if random.one_in(400) => at_a_limit(random),
+        false => ordinary(random),
+    };
+    let mut first = some_column(&shape, 0, random);
+    let mut second = some_column(&shape, 1, random);
+    relate(&mut first, &mut second, &shape, random);
+    if random.below(5) < 2 {
+        let whose = random.below(3);
+        if whose != 1 {
+            put_strays(&mut first, &shape, random);
+        }
+        if whose != 0 {
+            put_strays(&mut second, &shape, random);
+        }
+    }
+    numbered(&shape, first, second, random)
+}
+
+// ---- shapes ----
+
+/// Most slices of a column that is summed.
+const MOST_SLICES: usize = MOST_SUMMED - 1;
+
+fn some_width(random: &mut Random) -> usize {
+    match random.below(10) {
+        0..=2 => 1,
+        3..=6 => random.between(2, 5),
+        7..=8 => random.between(6, 20),
+        _ => random.pick(&[MOST_SLICES - 1, MOST_SLICES]),
+    }
+}
+
+/// Two widths, often equal. With their existence bitmaps they fit one index.
+fn some_widths(random: &mut Random) -> [usize; 2] {
+    let first = some_width(random);
+    let second = if random.one_in(3) { first } else { some_width(random) };
+    [first, second.min(MOST_BITMAPS as usize - 2 - first)]
+}
+
+/// Few segments where there are many bitmaps.
+fn ordinary(random: &mut Random) -> Shape {
+    let widths = some_widths(random);
+    let bitmaps = 2 + widths[0] + widths[1];
+    let most = random.pick(&[30, 100, 300, 600, 1_500]) / bitmaps;
+    let count = if random.one_in(20) { 0 } else { random.between(1, 1 + most) };
+    let pads = random.below(WORD_BITS);
+    let rows = (WORD_BITS * count).saturating_sub(random.pick(&[0, pads])) as u32;
+    let effort = match bitmaps * count {
+        0..=150 => Effort::Full,
+        _ => Effort::Some,
+    };
+    Shape { rows, stretches: some_stretches(count, random), loose: random.one_in(3), widths, effort }
+}
+
+/// Stretches up to 40 segments long, so that they begin and end at any place of a block of 16.
+fn some_stretches(count: usize, random: &mut Random) -> Vec<Stretch> {
+    let longest = random.pick(&[1, 4, 17, 40, 40]);
+    let clean_share = random.between(0, 4);
+    let mut stretches = Vec::new();
+    let mut left = count;
+    while left > 0 {
+        let length = random.between(1, longest).min(left);
+        let kind = if random.below(4) < clean_share { Kind::Clean } else { Kind::Mixed };
+        stretches.push(Stretch { length, kind });
+        left -= length;
+    }
+    stretches
+}
+
+/// A stretch about as long as a marker's counts allow, between short ones.
+fn at_a_limit(random: &mut Random) -> Shape {
+    let long = match random.one_in(2) {
+        true => Stretch { length: random.pick(&RUNS), kind: Kind::Clean },
+        false => Stretch { length: random.pick(&DIRTIES), kind: Kind::OneOut },
+    };
+    let before = random.below(4);
+    let mut stretches = some_stretches(before, random);
+    stretches.push(long);
+    let after = random.below(4);
+    stretches.extend(some_stretches(after, random));
+    let count: usize = stretches.iter().map(|stretch| stretch.length).sum();
+    let rows = (WORD_BITS * count - random.below(WORD_BITS)) as u32;
+    let widths = [random.between(1, 2), random.between(1, 2)];
+    Shape { rows, stretches, loose: false, widths, effort: Effort::Few }
+}
+
+/// As many bitmaps as an index has, over many rows.
+fn tall(random: &mut Random) -> Shape {
+    let rows = random.between(LONG_ROWS.0, LONG_ROWS.1) as u32;
+    let widths = [MOST_SLICES, MOST_BITMAPS as usize - 2 - MOST_SLICES];
+    let stretches = some_stretches(segments(rows), random);
+    Shape { rows, stretches, loose: random.one_in(3), widths, effort: Effort::Few }
+}
+
+// ---- bitmaps ----
+
+/// Plain words that keep to the stretches, or have stretches of their own.
+fn laid(shape: &Shape, random: &mut Random) -> Vec<u32> {
+    if shape.loose && random.one_in(2) {
+        return spelled(shape.rows, random);
+    }
+    let mut plain = Vec::new();
+    for stretch in &shape.stretches {
+        match stretch.kind {
+            Kind::Mixed if !random.one_in(4) => plain.extend((0..stretch.length).map(|_| some_word(random))),
+            Kind::OneOut => plain.extend((0..stretch.length).map(|_| !(1 << random.below(WORD_BITS)))),
+            _ => plain.extend(std::iter::repeat_n(random.pick(&[0, u32::MAX]), stretch.length)),
+        }
+    }
+    mask_last(&mut plain, shape.rows);
+    plain
+}
+
+/// All rows or none.
+fn uniform(rows: u32, value: u32) -> Vec<u32> {
+    let mut plain = vec![value; segments(rows)];
+    mask_last(&mut plain, rows);
+    plain
+}
+
+fn keep(words: &mut [u32], only: &[u32]) {
+    words.iter_mut().zip(only).for_each(|(word, mask)| *word &= mask);
+}
+
+fn either(mut words: Vec<u32>, other: &[u32]) -> Vec<u32> {
+    words.iter_mut().zip(other).for_each(|(word, more)| *word |= more);
+    words
+}
+
+/// A column without strays. Few have no rows; a third have all.
+fn some_column(shape: &Shape, which: usize, random: &mut Random) -> Column {
+    let exists = match random.below(12) {
+        0 => uniform(shape.rows, 0),
+        1..=4 => uniform(shape.rows, u32::MAX),
+        5..=8 => either(laid(shape, random), &laid(shape, random)),
+        _ => laid(shape, random),
+    };
+    let mut column = vec![exists.clone()];
+    for _ in 0..shape.widths[which] {
+        let mut slice = match random.below(10) {
+            0 => uniform(shape.rows, 0),
+            1 => exists.clone(),
+            _ => laid(shape, random),
+        };
+        keep(&mut slice, &exists);
+        column.push(slice);
+    }
+    column
+}
+
+/// Sometimes the columns exist in no row together, or in the same; sometimes their sums carry far.
+fn relate(first: &mut Column, second: &mut Column, shape: &Shape, random: &mut Random) {
+    match random.below(12) {
+        0 => {
+            let mut others: Vec<u32> = first[0].iter().map(|word| !word).collect();
+            mask_last(&mut others, shape.rows);
+            second[0] = others;
+        }
+        1..=4 => second[0] = first[0].clone(),
+        _ => {}
+    }
+    match random.below(5) {
+        0 => carry_through(first, second),
+        1 => {
+            all_ones(first);
+            all_ones(second);
+        }
+        _ => {}
+    }
+    if random.one_in(2) {
+        let at = random.between(1, second.len() - 1);
+        second[at] = laid(shape, random);
+    }
+    mask_slices(first);
+    mask_slices(second);
+}
+
+/// The largest number in every row that exists.
+fn all_ones(column: &mut Column) {
+    let exists = column[0].clone();
+    column[1..].fill(exists);
+}
+
+fn mask_slices(column: &mut Column) {
+    let exists = column[0].clone();
+    column[1..].iter_mut().for_each(|slice| keep(slice, &exists));
+}
+
+/// Both lowest digits are 1, and of any higher two just one: where both columns exist, a carry goes all the way up.
+fn carry_through(first: &mut Column, second: &mut Column) {
+    first[1] = first[0].clone();
+    second[1] = second[0].clone();
+    for at in 2..first.len().max(second.len()) {
+        match (first.get(at).cloned(), second.get_mut(at)) {
+            (Some(digit), Some(other)) => *other = digit.iter().map(|word| !word).collect(),
+            (None, Some(other)) => other.fill(u32::MAX),
+            (_, None) => first[at].fill(u32::MAX),
+        }
+    }
+    mask_slices(first);
+    mask_slices(second);
+}
+
+// ---- strays ----
+
+fn bit_of(row: usize) -> (usize, u32) {
+    (row / WORD_BITS, 1 << (row % WORD_BITS))
+}
+
+/// Rows that do not exist: one or several, in one slice or in several.
+fn put_strays(column: &mut Column, shape: &Shape, random: &mut Random) {
+    let (rows, last) = (shape.rows as usize, column.len() - 1);
+    if rows == 0 {
+        return;
+    }
+    let slice = random.between(1, last);
+    match random.below(6) {
+        // In the last segment, the one with pads.
+        0 => put_rows(column, &[(rows - 1, slice)]),
+        1 => {
+            // A lower row in a later slice, or in the same where there is just one.
+            let (low, high) = (random.below(rows), random.below(rows));
+            let later = random.between(slice, last);
+            put_rows(column, &[(low.max(high), slice), (low.min(high), later)]);
+        }
+        2 => {
+            let start = random.below(rows);
+            let end = rows.min(start + random.between(1, 4 * WORD_BITS));
+            put_rows(column, &(start..end).map(|row| (row, slice)).collect::<Vec<_>>());
+        }
+        3..=4 => put_stretch(column, slice, shape, random),
+        _ => {
+            let count = random.between(1, 4);
+            let put: Vec<_> = (0..count).map(|_| (random.below(rows), random.between(1, last))).collect();
+            put_rows(column, &put);
+        }
+    }
+}
+
+/// Takes the rows out of the whole column, then puts each into a slice.
+fn put_rows(column: &mut Column, put: &[(usize, usize)]) {
+    for &(row, _) in put {
+        let (at, bit) = bit_of(row);
+        column.iter_mut().for_each(|words| words[at] &= !bit);
+    }
+    for &(row, slice) in put {
+        let (at, bit) = bit_of(row);
+        column[slice][at] |= bit;
+    }
+}
+
+/// A whole stretch of rows in a slice where the column has none: all of it is clean.
+fn put_stretch(column: &mut Column, slice: usize, shape: &Shape, random: &mut Random) {
+    let some = [0; 3].map(|_| random.below(shape.stretches.len()));
+    let which = some.into_iter().max_by_key(|&at| shape.stretches[at].length).expect("three of them");
+    let start: usize = shape.stretches[..which].iter().map(|stretch| stretch.length).sum();
+    let end = start + shape.stretches[which].length;
+    column.iter_mut().for_each(|words| words[start..end].fill(0));
+    column[slice][start..end].fill(u32::MAX);
+    mask_last(&mut column[slice], shape.rows);
+}
+
+// ---- numbers ----
+
+/// The bitmaps in any order, with others between them, and the two lists.
+fn numbered(shape: &Shape, first: Column, second: Column, random: &mut Random) -> Columns {
+    let width = first.len();
+    let mut all = first;
+    all.extend(second);
+    while all.len() < MOST_BITMAPS as usize && random.one_in(3) {
+        all.push(laid(shape, random));
+    }
+    let order = shuffled(all.len(), random);
+    let mut plain = vec![Vec::new(); all.len()];
+    for (words, &number) in all.into_iter().zip(&order) {
+        plain[number as usize] = words;
+    }
+    let mut lists = [order[..width].to_vec(), order[width..width + 1 + shape.widths[1]].to_vec()];
+    share(&mut lists, &plain, random);
+    let style = random.pick(&[Style::Settled, Style::Settled, Style::Wasteful, Style::Wasteful, Style::Torn]);
+    let input = index_input(random, style, shape.rows, plain, shape.effort);
+    let [first, second] = lists;
+    Columns { input, first, second }
+}
+
+/// The numbers below `n`, in any order.
+fn shuffled(n: usize, random: &mut Random) -> Vec<u32> {
+    let mut numbers: Vec<u32> = (0..n as u32).collect();
+    for at in (1..n).rev() {
+        numbers.swap(at, random.below(at + 1));
+    }
+    numbers
+}
+
+/// Lists that name a bitmap twice: in one column, as existence and slice, or in both columns.
+fn share(lists: &mut [Vec<u32>; 2], plain: &[Vec<u32>], random: &mut Random) {
+    for list in lists.iter_mut() {
+        if random.one_in(4) {
+            let any = random.below(list.len());
+            let from = random.pick(&[0, any]);
+            let to = random.between(1, list.len() - 1);
+            list[to] = list[from];
+        }
+    }
+    let [first, second] = lists;
+    match random.below(10) {
+        0 => *second = first.clone(),
+        1 => *second = first[..random.between(2, first.len())].to_vec(),
+        2 if plain[first[0] as usize] == plain[second[0] as usize] => second[0] = first[0],
+        _ => {}
+    }
+}

@@ -1,0 +1,157 @@
+//! Bit-sliced columns: a whole number a row, one bitmap for each binary digit.
+
+use crate::body::settled;
+use crate::index::{self, open, Index};
+use crate::limits::{LEAST_COLUMN, MOST_SUMMED, MOST_VALUED};
+use crate::mistakes::{mistaken, Mistake};
+use crate::refusal::{bad_argument, must_fit, refusal, Refusal};
+
+struct Slice {
+    /// Its number in the index, for refusal 11.
+    bitmap: u32,
+    rows: Vec<bool>,
+}
+
+/// A column as its list names it, strays and all.
+struct Column {
+    exists: Vec<bool>,
+    /// Lowest digit first.
+    slices: Vec<Slice>,
+}
+
+impl Column {
+    /// The number that the slices spell at a row.
+    fn number(&self, row: usize) -> u64 {
+        let mut number = 0;
+        for (place, slice) in self.slices.iter().enumerate() {
+            if slice.rows[row] {
+                number += 1 << place;
+            }
+        }
+        number
+    }
+}
+
+/// Existence first, then the slices; `most` numbers at most.
+fn column(index: &Index, list: &[u32], most: usize) -> Result<Column, Refusal> {
+    if !(LEAST_COLUMN..=most).contains(&list.len()) {
+        return Err(bad_argument());
+    }
+    let mut slices = Vec::new();
+    for &bitmap in list {
+        let mut rows = index.body(bitmap)?.rows;
+        rows.truncate(index.rows as usize);
+        slices.push(Slice { bitmap, rows });
+    }
+    let exists = slices.remove(0).rows;
+    Ok(Column { exists, slices })
+}
+
+/// Refusal 11: a slice, the first in list order, holds a row that doesn't exist.
+fn no_strays(column: &Column) -> Result<(), Refusal> {
+    if mistaken(Mistake::StraysLetThrough) {
+        return Ok(());
+    }
+    for (place, slice) in column.slices.iter().enumerate() {
+        let mut strays = (0..column.exists.len()).filter(|&r| slice.rows[r] && !column.exists[r]);
+        let told = if mistaken(Mistake::StrayTellsHighestRow) { strays.next_back() } else { strays.next() };
+        if let Some(row) = told {
+            // In the list, existence has place 0.
+            let bitmap = if mistaken(Mistake::StrayTellsPlace) { 1 + place as u32 } else { slice.bitmap };
+            return Err(refusal(11, bitmap, row));
+        }
+    }
+    Ok(())
+}
+
+/// The same for two columns.
+fn no_strays_in_either(first: &Column, second: &Column) -> Result<(), Refusal> {
+    if mistaken(Mistake::SecondColumnFirst) {
+        no_strays(second)?;
+    }
+    no_strays(first)?;
+    no_strays(second)
+}
+
+// ---- the value at a row ----
+
+/// The number that a column has at a row.
+pub fn value(index: &[u32], list: &[u32], row: u32) -> Result<u64, Refusal> {
+    let index = open(index)?;
+    let most = if mistaken(Mistake::ValueTakesOneLess) { MOST_VALUED - 1 } else { MOST_VALUED };
+    let column = column(&index, list, most)?;
+    if mistaken(Mistake::StrayBeforeRow) {
+        no_strays(&column)?;
+    }
+    if row >= index.rows {
+        return Err(bad_argument());
+    }
+    let row = row as usize;
+    // Without strays a row that doesn't exist spells 0, which is what the mistake says.
+    if !column.exists[row] && !mistaken(Mistake::MissingRowIsZero) {
+        return Err(bad_argument());
+    }
+    if !mistaken(Mistake::ValueSkipsStrays) {
+        no_strays(&column)?;
+    }
+    Ok(column.number(row))
+}
+
+// ---- the sum of two columns ----
+
+/// The sum as a new index: contents, existence, slices.
+pub fn sum(index: &[u32], first: &[u32], second: &[u32], room: usize) -> Result<Vec<u32>, Refusal> {
+    let index = open(index)?;
+    let most = if mistaken(Mistake::SumTakesOneMore) { MOST_SUMMED + 1 } else { MOST_SUMMED };
+    let first = column(&index, first, most)?;
+    if mistaken(Mistake::StrayBeforeSecondList) {
+        no_strays(&first)?;
+    }
+    let second = column(&index, second, most)?;
+
+    if !mistaken(Mistake::NoRoomBeforeStray) {
+        no_strays_in_either(&first, &second)?;
+    }
+    let words = index::write(index.rows, &sum_bodies(&first, &second));
+    must_fit(words.len(), room)?;
+    if mistaken(Mistake::NoRoomBeforeStray) {
+        no_strays_in_either(&first, &second)?;
+    }
+    Ok(words)
+}
+
+/// The bodies of the sum: existence, then its slices, lowest first.
+fn sum_bodies(first: &Column, second: &Column) -> Vec<Vec<u32>> {
+    let rows = 0..first.exists.len();
+    let exists: Vec<bool> = rows.clone().map(|r| exists_in_sum(first.exists[r], second.exists[r])).collect();
+    let numbers: Vec<u64> = rows.clone().map(|r| added(first.number(r), second.number(r))).collect();
+
+    let wider = first.slices.len().max(second.slices.len());
+    let digits = if mistaken(Mistake::TopSliceLeftOut) { wider } else { wider + 1 };
+    let mut bodies = vec![settled(&exists)];
+    for place in 0..digits {
+        let masked = !(mistaken(Mistake::SumSliceUnmasked) && place + 1 == wider);
+        let holds = |r: usize| (numbers[r] >> place) & 1 == 1 && (exists[r] || !masked);
+        let slice: Vec<bool> = rows.clone().map(holds).collect();
+        if mistaken(Mistake::EmptySlicesLeftOut) && !slice.contains(&true) {
+            continue;
+        }
+        bodies.push(settled(&slice));
+    }
+    bodies
+}
+
+fn exists_in_sum(first: bool, second: bool) -> bool {
+    if mistaken(Mistake::SumExistsInEither) {
+        return first || second;
+    }
+    first && second
+}
+
+/// Two numbers of a row; the mistake adds each digit by itself.
+fn added(first: u64, second: u64) -> u64 {
+    if mistaken(Mistake::CarryDropped) {
+        return first ^ second;
+    }
+    first + second
+}
