@@ -92,7 +92,7 @@ pub fn row_length(n: u32, even: bool) -> usize
     contents::wide(n)
 }
 
-// A stretch of n segments for each of the bodies, row i of `rows` for body i: written to the part of `out` between start i and
+// The next n segments of each of the bodies, row i of `rows` for body i: written to the part of `out` between start i and
 // start i + 1 where `store` says so, and else only measured.
 pub fn emit_all(
     out: &mut [u32],

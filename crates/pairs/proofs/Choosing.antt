@@ -1,4 +1,4 @@
--- The stretch that is chosen.
+-- What is chosen: a run, or a block.
 -- Assumes nothing.
 use Prim.Native.Nat.{ℕ, _+_, _-_, _*_, _/_, _≤_, _<_, min}
 use mathlib.Core.Bool.{true, false, true≢false}

@@ -9,26 +9,26 @@ use meaning::BLOCK_SEGMENTS;
 use walk::survey;
 
 // So many segments, and whether all of them are alike in every place.
-pub struct Stretch {
+pub struct Step {
     pub n: u32,
     pub even: bool,
 }
 
 // The next segments from segment o on, where no piece ends before `near`. A segment with pad bits is never part of a run.
-pub fn choose(near: u32, o: u32, rows: u32, segments: u32) -> Stretch
+pub fn choose(near: u32, o: u32, rows: u32, segments: u32) -> Step
     requires { ⌜ (segments ≡ segmentCount 32 rows) × (o < segments) × (rows ≤ mostRows) ⌝ }
     ensures { λ r. ⌜ Chosen near rows o (r .n) (r .even) ⌝ }
 {
     let full = rows >> 5;
     if BLOCK_SEGMENTS <= contents::wide(near) {
         if o < full {
-            return Stretch {
+            return Step {
                 n: survey::smaller(near, full - o),
                 even: true,
             };
         }
     }
-    Stretch {
+    Step {
         n: survey::smaller(BLOCK_SEGMENTS as u32, segments - o),
         even: false,
     }
