@@ -151,7 +151,7 @@ extern "C" {
  * ZV_MOST_NAMED; a threshold of 0 or above the list's length; a table that is not exactly one entry longer than the
  * list, or has an entry other than 0 and 1; not as many plain words as the rows have segments; a column of fewer than
  * ZV_LEAST_COLUMN numbers, or of more than ZV_MOST_COLUMN, ZV_MOST_VALUE_COLUMN where only a value is asked; a value
- * asked at a row that does not exist. bitmap 0, word 0. */
+ * of a row that the existence bitmap has not. bitmap 0, word 0. */
 #define ZV_BAD_ARGUMENT 8u
 /* The answer does not fit into the buffer. bitmap 0; word: the words needed. */
 #define ZV_NO_ROOM 9u
@@ -185,7 +185,7 @@ static inline const char *zv_refusal_text(uint32_t number)
     case ZV_NO_ROOM:
         return "the buffer is too short for the answer (word is how many words it needs)";
     case ZV_STRAY_ROW:
-        return "a slice holds a row that does not exist (bitmap is the slice, word is the row)";
+        return "a slice of a column has a row that its existence bitmap has not (bitmap is the slice, word is the row)";
     default:
         return "no call gives this number";
     }

@@ -1,5 +1,7 @@
 //! Values and sums of an input's columns, with good and bad arguments.
 
+use std::collections::HashSet;
+
 use reference::limits::{LEAST_COLUMN, MOST_SUMMED, MOST_VALUED};
 use zvonurel::WORD_BITS;
 
@@ -60,7 +62,9 @@ impl Asker<'_> {
             all.extend(self.near(list, 0, wanted));
         }
         all.extend([rows.wrapping_sub(1), rows, rows.wrapping_add(1), u32::MAX]);
-        all.dedup();
+        // Not sorted: whoever takes the first row wants one that exists.
+        let mut met = HashSet::new();
+        all.retain(|&row| met.insert(row));
         all
     }
 
@@ -114,13 +118,19 @@ impl Asker<'_> {
 
     // ---- lengths ----
 
-    /// A column's list drawn out to a length; its slices come again in any order.
+    /// A column's list drawn out to a length. Either its slices come again behind its own, in any order, or one of
+    /// them comes again and again before its own: then the first stray can be as late as the last slice.
     fn drawn_out(&mut self, list: &[u32], length: usize) -> Vec<u32> {
-        let mut longer = list[..list.len().min(length)].to_vec();
-        while longer.len() < length {
-            longer.push(list[self.random.between(1, list.len() - 1)]);
+        let own = &list[..list.len().min(length)];
+        let more = length - own.len();
+        let last = list.len() - 1;
+        if self.random.one_in(2) {
+            let behind: Vec<u32> = (0..more).map(|_| list[self.random.between(1, last)]).collect();
+            return [own, &behind].concat();
         }
-        longer
+        let (exists, slices) = own.split_at(own.len().min(1));
+        let before = vec![list[self.random.between(1, last)]; more];
+        [exists, &before, slices].concat()
     }
 
     fn lengths(&mut self, first: &[u32], second: &[u32]) {

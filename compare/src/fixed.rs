@@ -97,6 +97,7 @@ pub fn run(session: &mut Session) {
     }
     column_corners(session);
     column_lengths(session);
+    late_strays(session);
     edge_of_length(session);
     edge_of_rows(session);
 }
@@ -194,6 +195,26 @@ fn column_lengths(session: &mut Session) {
             sums(session, &words, &ones, other);
             sums(session, &words, other, &ones);
         }
+    }
+}
+
+/// Lists as long as they can be, the first stray row in the last slice.
+fn late_strays(session: &mut Session) {
+    let words = index_of(40, &SLICES.map(|body| body.to_vec()));
+    // Rows 0 to 31 exist. Slices 6 and 9 keep to them; 3, 4 and 5 do not.
+    for (good, stray) in [(6, 3), (6, 4), (6, 5), (9, 5)] {
+        let late = |length: usize| {
+            let mut list = vec![good; length];
+            (list[0], list[length - 1]) = (2, stray);
+            list
+        };
+        for length in [MOST_SUMMED, MOST_VALUED] {
+            values(session, &words, &late(length), &[0, 7, 31, 32, 40]);
+        }
+        let longest = late(MOST_SUMMED);
+        sums(session, &words, &longest, &[1, 1]);
+        sums(session, &words, &[1, 1], &longest);
+        sums(session, &words, &longest, &longest);
     }
 }
 

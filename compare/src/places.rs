@@ -97,9 +97,9 @@ const ALL: [(Place, &str); 43] = [
     (NoSuchRow, "8 row that doesn't exist"),
     (Several, "8 several of these at once"),
     (BadAndStray, "8 where 11 holds too"),
-    (StrayFirst, "11 in the first column"),
-    (StraySecond, "11 in the second column"),
-    (StrayNoRoom, "11 where 9 holds too"),
+    (StrayFirst, "11 stray row, first column"),
+    (StraySecond, "11 stray row, second column"),
+    (StrayNoRoom, "11 stray row where 9 holds too"),
     (NoRoom, "9 answer doesn't fit"),
 ];
 
@@ -151,7 +151,7 @@ pub fn place_of(words: &[u32], question: &Question, refused: Option<Refused>) ->
         Refusal::BAD_COUNT | Refusal::PAD_BIT => in_body(words, question, number, bitmap as usize, word),
         Refusal::BAD_ARGUMENT if question.call.of_column() => bad_column(words, question),
         Refusal::BAD_ARGUMENT => bad_argument(words, question),
-        STRAY => stray(words, question, bitmap, word),
+        Refusal::STRAY_ROW => stray(words, question, bitmap, word),
         _ => NoRoom,
     }
 }
@@ -236,14 +236,11 @@ fn bad_others(words: &[u32], question: &Question) -> Vec<Place> {
 
 // ---- columns ----
 
-/// A slice holds a row that doesn't exist.
-const STRAY: u32 = 11;
-
-/// Would this list be refused for a stray, asked of a row that exists?
+/// Would this list be refused for a stray row, asked of a row that exists?
 fn has_stray(words: &[u32], list: &[u32]) -> bool {
     let row = list.first().and_then(|&exists| reference::nth(words, exists, 0).ok());
     let refused = row.and_then(|row| reference::value(words, list, row).err());
-    refused.is_some_and(|refusal| refusal.number == STRAY)
+    refused.is_some_and(|refusal| refusal.number == Refusal::STRAY_ROW)
 }
 
 /// Like `bad_argument`, but a stray besides has a place of its own.

@@ -2,7 +2,7 @@
 
 use crate::body::settled;
 use crate::index::{self, open, Index};
-use crate::limits::{LEAST_COLUMN, MOST_SUMMED, MOST_VALUED};
+use crate::limits::{ENTRY_WORDS, HEAD_WORDS, LEAST_COLUMN, MOST_SUMMED, MOST_VALUED};
 use crate::mistakes::{mistaken, Mistake};
 use crate::refusal::{bad_argument, must_fit, refusal, Refusal};
 
@@ -47,13 +47,33 @@ fn column(index: &Index, list: &[u32], most: usize) -> Result<Column, Refusal> {
     Ok(Column { exists, slices })
 }
 
-/// Refusal 11: a slice, the first in list order, holds a row that doesn't exist.
+/// The stray rows of a slice, lowest first, where these rows exist.
+fn strays<'a>(slice: &'a Slice, exists: &'a [bool]) -> impl DoubleEndedIterator<Item = usize> + 'a {
+    (0..exists.len()).filter(|&r| slice.rows[r] && !exists[r])
+}
+
+/// Refusal 11: a stray row, told of the first slice in list order that has one.
 fn no_strays(column: &Column) -> Result<(), Refusal> {
+    none_where(&column.exists, &column.slices)
+}
+
+/// The same of these slices, where these rows exist.
+fn none_where(exists: &[bool], slices: &[Slice]) -> Result<(), Refusal> {
     if mistaken(Mistake::StraysLetThrough) {
         return Ok(());
     }
-    for (place, slice) in column.slices.iter().enumerate() {
-        let mut strays = (0..column.exists.len()).filter(|&r| slice.rows[r] && !column.exists[r]);
+    if mistaken(Mistake::StrayLowestOfAll) {
+        let lowest = slices.iter().filter_map(|slice| Some((strays(slice, exists).next()?, slice.bitmap)));
+        // Of equal rows this is the first.
+        let told = lowest.min_by_key(|&(row, _)| row);
+        return told.map_or(Ok(()), |(row, bitmap)| Err(refusal(11, bitmap, row)));
+    }
+    for (place, slice) in slices.iter().enumerate() {
+        // Existence, the slices before this one, and this one: the longest list.
+        if mistaken(Mistake::LastSliceUnsearched) && place + 2 == MOST_VALUED {
+            continue;
+        }
+        let mut strays = strays(slice, exists);
         let told = if mistaken(Mistake::StrayTellsHighestRow) { strays.next_back() } else { strays.next() };
         if let Some(row) = told {
             // In the list, existence has place 0.
@@ -68,6 +88,11 @@ fn no_strays(column: &Column) -> Result<(), Refusal> {
 fn no_strays_in_either(first: &Column, second: &Column) -> Result<(), Refusal> {
     if mistaken(Mistake::SecondColumnFirst) {
         no_strays(second)?;
+    }
+    if mistaken(Mistake::StrayAgainstBoth) {
+        let both: Vec<bool> = first.exists.iter().zip(&second.exists).map(|(&a, &b)| a && b).collect();
+        none_where(&both, &first.slices)?;
+        none_where(&both, &second.slices)?;
     }
     no_strays(first)?;
     no_strays(second)
@@ -113,6 +138,10 @@ pub fn sum(index: &[u32], first: &[u32], second: &[u32], room: usize) -> Result<
         no_strays_in_either(&first, &second)?;
     }
     let words = index::write(index.rows, &sum_bodies(&first, &second));
+    if mistaken(Mistake::NeedWithoutContents) && words.len() > room {
+        let contents = HEAD_WORDS + ENTRY_WORDS * words[2] as usize;
+        return Err(refusal(9, 0, words.len() - contents));
+    }
     must_fit(words.len(), room)?;
     if mistaken(Mistake::NoRoomBeforeStray) {
         no_strays_in_either(&first, &second)?;
@@ -148,10 +177,13 @@ fn exists_in_sum(first: bool, second: bool) -> bool {
     first && second
 }
 
-/// Two numbers of a row; the mistake adds each digit by itself.
+/// Two numbers of a row; the mistakes add each digit by itself, or drop the high ones.
 fn added(first: u64, second: u64) -> u64 {
     if mistaken(Mistake::CarryDropped) {
         return first ^ second;
+    }
+    if mistaken(Mistake::SumCutAtWord) {
+        return (first + second) & u64::from(u32::MAX);
     }
     first + second
 }

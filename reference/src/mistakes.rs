@@ -81,6 +81,16 @@ pub enum Mistake {
     SumTakesOneMore,
     /// A value takes lists of under `MOST_VALUED` numbers only.
     ValueTakesOneLess,
+    /// Refusal 11 tells a column's lowest stray of all, and the slice that has it.
+    StrayLowestOfAll,
+    /// At a sum, the rows that exist are those that both columns have.
+    StrayAgainstBoth,
+    /// Refusal 9 of a sum counts its bodies alone, without head and contents.
+    NeedWithoutContents,
+    /// A sum's numbers are cut to a word's bits.
+    SumCutAtWord,
+    /// The last slice of a list of `MOST_VALUED` numbers isn't searched for strays.
+    LastSliceUnsearched,
 }
 
 impl Mistake {
@@ -123,6 +133,11 @@ impl Mistake {
         Mistake::MissingRowIsZero,
         Mistake::SumTakesOneMore,
         Mistake::ValueTakesOneLess,
+        Mistake::StrayLowestOfAll,
+        Mistake::StrayAgainstBoth,
+        Mistake::NeedWithoutContents,
+        Mistake::SumCutAtWord,
+        Mistake::LastSliceUnsearched,
     ];
 }
 

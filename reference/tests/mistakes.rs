@@ -43,6 +43,15 @@ fn column_case(m: Mistake) -> String {
         Mistake::MissingRowIsZero => value_of(&[0, 1], 3),
         Mistake::SumTakesOneMore => summed(&[5; MOST_SUMMED + 1], &[5, 5], 0),
         Mistake::ValueTakesOneLess => value_of(&[0; MOST_VALUED], 0),
+        Mistake::StrayLowestOfAll => value_of(&[2, 4, 1], 1),
+        Mistake::StrayAgainstBoth => summed(&[0, 1], &[3, 2], ANY),
+        Mistake::NeedWithoutContents => summed(&[0, 1], &[0, 5], 13),
+        Mistake::SumCutAtWord => summed(&[0; MOST_SUMMED], &[0, 0], ANY),
+        Mistake::LastSliceUnsearched => {
+            let mut list = [1; MOST_VALUED];
+            (list[0], list[MOST_VALUED - 1]) = (0, 4);
+            value_of(&list, 0)
+        }
         _ => unreachable!("not about columns"),
     }
 }
@@ -97,6 +106,11 @@ fn answer(words: &str, stretches: u32) -> String {
     format!("Ok(Answer {{ words: [{words}], stretches: {stretches} }})")
 }
 
+/// A sum of rows 0 to 2: 32 empty slices, then this one on top.
+fn wide(top: &str) -> String {
+    format!("[[20000, 7], {}{top}]", "[2], ".repeat(32))
+}
+
 /// The same for the mistakes about columns.
 fn column_expected(m: Mistake) -> (String, String) {
     let bad = || refused(8, 0, 0);
@@ -124,6 +138,15 @@ fn column_expected(m: Mistake) -> (String, String) {
         // 35 bodies of one word: 73 words of contents, then 35.
         Mistake::SumTakesOneMore => (bad(), refused(9, 0, 108)),
         Mistake::ValueTakesOneLess => (text("Ok(8589934591)"), bad()),
+        Mistake::StrayLowestOfAll => (refused(11, 4, 3), refused(11, 1, 0)),
+        // Row 1: 0 + 1 = 1. Row 2: 1 + 1 = 2. Row 0 is the first column's alone.
+        Mistake::StrayAgainstBoth => (text("[[20000, 6], [20000, 2], [20000, 4]]"), refused(11, 1, 0)),
+        // Bodies of 2, 2 and 1 behind 9 words of contents.
+        Mistake::NeedWithoutContents => (refused(9, 0, 14), refused(9, 0, 5)),
+        // 4294967295 + 1 in each row.
+        Mistake::SumCutAtWord => (wide("[20000, 7]"), wide("[2]")),
+        // 32 slices have row 0.
+        Mistake::LastSliceUnsearched => (refused(11, 4, 3), text("Ok(4294967295)")),
         _ => unreachable!("not about columns"),
     }
 }
@@ -162,7 +185,7 @@ fn expected(m: Mistake) -> (String, String) {
 
 #[test]
 fn each_mistake_shows() {
-    assert_eq!(Mistake::ALL.len(), 38);
+    assert_eq!(Mistake::ALL.len(), 43);
     for (place, &m) in Mistake::ALL.iter().enumerate() {
         assert!(!Mistake::ALL[..place].contains(&m));
         let before = case(m);

@@ -73,7 +73,7 @@ static void texts(void)
 {
     static const char *const has[] = {"nothing",  "too short for its head", "word 0",   "too many",
                                       "contents", "dirty words",            "segments", "behind the last row",
-                                      "argument", "buffer",                 "no call",  "does not exist"};
+                                      "argument", "buffer",                 "no call",  "existence"};
     const uint32_t unknown = ZV_NO_ROOM + 1, past = ZV_STRAY_ROW + 1;
 
     SAME("the number of texts", sizeof(has) / sizeof(has[0]), past);

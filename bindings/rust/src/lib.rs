@@ -519,7 +519,7 @@ pub fn histogram(index: &[u32], list: &[u32]) -> Result<[u32; HISTOGRAM_COUNTS],
 /// assert_eq!(refusal.to_string(), "a bad argument: row 4 does not exist in the column (refusal 8)");
 /// // where bitmap 1 says which rows exist, row 1 does not, and bitmap 0 has it
 /// let refusal = zvonurel::value(&index, &[1, 0], 2).unwrap_err();
-/// assert_eq!(refusal.to_string(), "bitmap 0: this slice holds row 1, which does not exist (refusal 11)");
+/// assert_eq!(refusal.to_string(), "bitmap 0: this slice has row 1, which is not in the existence bitmap (refusal 11)");
 /// ```
 pub fn value(index: &[u32], column: &[u32], row: u32) -> Result<u64, Refusal> {
     // SAFETY: each pointer is a slice's, with its length.

@@ -1,5 +1,6 @@
-// Numbers that lie across rows of words: row 0 has the rows that exist, row i + 1 digit i of their values.
-// Whole rows are taken into local arrays, at which nothing else points, so that the machine works on many words at once.
+// A column's next segments as a block: a row of words for each place. The words of row 0 say which rows of the bitmaps exist, those of
+// row i + 1 have digit i of their values. Whole rows of words are taken into local arrays, at which nothing else points, so that the
+// machine works on many words at once.
 ghost use mathlib.Core.Path.{_≡_};
 ghost use Prim.Native.Nat.{_≤_, _<_};
 ghost use lib.ListN.{length};
@@ -32,7 +33,8 @@ fn add(a: [u32; BLOCK_SEGMENTS], b: [u32; BLOCK_SEGMENTS], c: [u32; BLOCK_SEGMEN
     Sums { digits, carries }
 }
 
-// The sum: which rows exist in both, and the n digits of their sums.
+// The sum of the first k words of each row of x and y: which rows exist in both, of word k - 1 those of the mask alone, and the n
+// digits of their sums. Words from k on hold no meaning.
 pub fn sum(
     x: &[u32; BLOCK_WORDS],
     y: &[u32; BLOCK_WORDS],

@@ -34,7 +34,7 @@ pub fn put_both(
     }
 }
 
-// The first row becomes what exists in both x and y, of word k - 1 the rows of the mask alone.
+// Row 0 of z, which is returned too: what exists in both x and y, of word k - 1 the rows of the mask alone.
 pub fn exist(
     x: &[u32; BLOCK_WORDS],
     y: &[u32; BLOCK_WORDS],

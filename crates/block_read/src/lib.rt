@@ -7,7 +7,7 @@ ghost use Prim.Native.Nat.{ℕ, _+_, _≤_};
 ghost use lib.ListN.{length, getD};
 ghost use Rattle.meaning.specs.Limits.{blockSegments, blockWords};
 ghost use Rattle.ewah.specs.declared.cursor.Piece.the-variants.{Clean, Dirty};
-ghost use Rattle.ewah.specs.Cursors.{InOrder, ValueLow, leftOf, piecesFrom, spanOf};
+ghost use Rattle.ewah.specs.Cursors.{InOrder, leftOf, piecesFrom, spanOf};
 ghost use Rattle.block_read.specs.Taken.{HasAhead, Replaced, SpanTaken, RowTaken};
 use ewah::cursor;
 use ewah::cursor::Cursor;

@@ -51,7 +51,7 @@ fn all_mixed(words: &[u32]) -> bool
     true
 }
 
-// Whether all words are of mixed segments and the last marker has room for them. With no word yet it counts as full.
+// Whether all words are of mixed segments and the last marker has room for them. A body with no word yet counts as having a full one.
 fn joins(w: Writer, words: &[u32]) -> bool
     requires { ⌜ Writing w ⌝ }
     ensures { λ r. ⌜ (r ≡ true → (w .last .dirty + length (now (words .entry)) ≤ mostDirty)

@@ -1,5 +1,6 @@
-// The lowest row that one body has and another has not, for a slice and its column's existence. The two are gone through together,
-// at most to the next marker of either at a time: where a run says that nothing strays all its segments are passed at once.
+// The lowest row that one body has and another has not, for a slice and its column's existence. The two are gone through
+// together, at most to the next marker of either at a time: where a run says that nothing strays all its segments are
+// passed at once.
 ghost use mathlib.Core.Bool.{Bool, true};
 ghost use mathlib.Core.Path.{_≡_};
 ghost use Prim.Native.Nat.{ℕ, _+_, _*_, _≤_, _<_};
@@ -72,8 +73,8 @@ fn is_dirty(piece: Piece) -> bool
     }
 }
 
-// The next n segments of both, at most to the next marker of either. A run against dirty words is looked at segment by segment:
-// in canonical bodies its first segment has a stray row.
+// The next n segments of both, at most to the next marker of either. Where dirty words face a run that decides nothing, they
+// are looked at one by one: in canonical bodies the first has a stray row.
 fn look(slice: &[u32], c: Cursor, exists: &[u32], e: Cursor, n: u32) -> Seen
     requires { ⌜ InOrder (now slice) c ⌝ }
     requires { ⌜ InOrder (now exists) e ⌝ }

@@ -1,8 +1,8 @@
 -- Questions on columns: what is refused, in its order, and that what is left is the answer.
 -- Assumes nothing.
-use Prim.Native.Nat.{ℕ, suc, _+_, _-_, _≤_, _<_, max}
+use Prim.Native.Nat.{ℕ, suc, _+_, _-_, _≤_, _<_}
 use mathlib.Core.Bool.{Bool, true, false, not, _||_}
-use mathlib.Core.Path.{_≡_, refl, sym, ap, _∙_, subst}
+use mathlib.Core.Path.{_≡_, ap, _∙_, subst}
 use mathlib.Core.List.{List, _++_}
 use native.Mathlib.Omega.{arith}
 use borrow.Author.Tests.{lt-ltb, le-ltb, le-leb, lt-leb, leb-false}
@@ -20,7 +20,6 @@ use Rattle.meaning.proofs.Tests.{or-false}
 use Rattle.meaning.proofs.Demanded.{good-each}
 use Rattle.meaning.proofs.ColumnsHold.{column-length}
 use Rattle.answers.specs.declared.refusal.Refusal.{Refusal}
-use Rattle.answers.specs.declared.answer.Written.{Written}
 use Rattle.answers.specs.declared.answer.Written.the-variants as written
 use Rattle.answers.specs.Told.{refusedBy, refusal, Wrote}
 use Rattle.answers.proofs.Tells.{wrote-refused, wrote-none, wrote-words}

@@ -30,7 +30,7 @@ fn left(numbers: &[u32; QUERY_NUMBERS], k: usize) -> u32
     numbers[at + 1]
 }
 
-// How far every cursor of the first `len` places stands before the end of its piece, at least.
+// The fewest segments that one of the first `len` places has left in its piece; no place has fewer.
 pub fn nearest(numbers: &[u32; QUERY_NUMBERS], len: usize) -> u32
     requires { ⌜ (len ≤ mostNamed) × (length (now numbers) ≡ queryNumbers) ⌝ }
     ensures { λ r. ⌜ ((k : ℕ) → k < len → r ≤ leftOf (cursorOf (now (numbers .entry)) k .piece)) ⌝ }

@@ -14,6 +14,7 @@ use borrow.Author.Tests.{ltb-false, le-ltb, lt-leb, le-leb, leb-false, not-false
 use Rattle.meaning.specs.Limits.{mostRows, leastColumn, mostColumn, mostValueColumn}
 use Rattle.meaning.specs.Segment.{tabulate, isSet}
 use Rattle.meaning.specs.Refusal.{Outcome, refused, answer, sound, refuseIf, _then_}
+use Rattle.meaning.specs.Canonical.{Canonical}
 use Rattle.meaning.specs.Index.{rowCount, bitmapCount, rowsAt, SoundIndex, indexFault}
 use Rattle.meaning.specs.Question.{intersection}
 use Rattle.meaning.specs.Answer.{check, badBitmap, anyBad, named}
@@ -25,18 +26,13 @@ use Rattle.meaning.proofs.Tests.{or-false, or-true}
 use Rattle.meaning.proofs.Outcomes.{refuse-no, refuse-yes, refuse-answer, then-sound, then-refused, then-answer, fits-yes, fits-no, fits-answer}
 use Rattle.meaning.proofs.RowWords.{length-tabulate, getD-tabulate}
 use Rattle.meaning.proofs.IndexSound.{index-means}
+use Rattle.meaning.proofs.CanonicalBody.{canonical-form}
+use Rattle.meaning.proofs.Demanded.{all-good}
 use Rattle.meaning.proofs.NewIndexes.{new-index-holds}
 use Rattle.meaning.proofs.StraysFound.{stray-laws}
 use Rattle.meaning.proofs.ColumnValues.{value-lt, value-ext, slices-length, slices-at, slices-value, column-value}
 
 -- ---- the bitmaps that a list names
-
-all-good : (index list : List ℕ) → ((i : ℕ) → i < length list → getD list i 0 < bitmapCount index)
-    → anyBad index list ≡ false
-unfolding anyBad badBitmap
-all-good index [] h = refl
-all-good index (k ∷ ks) h =
-    rw (lt-leb (bitmapCount index) k (h 0 (omega arith))) (all-good index ks (λ i g. h (suc i) (omega arith)))
 
 pub named-length : (index ks : List ℕ) → length (named index ks) ≡ length ks
 unfolding named
@@ -341,6 +337,7 @@ module _ (index first second : List ℕ) where
         is-sound = new .is-sound;
         rows = new .rows;
         count = new .count ∙ ps-length R both total width few (omega arith) most;
+        forms = λ k h. subst (λ (b : List ℕ). Canonical R b) (sym (new .bodies k (omega (arith, ps-length R both total width few (omega arith) most)))) (canonical-form R _);
         exists = out-exists R both total width few (omega arith) most;
         slices = out-slices R both total width few (omega arith) most;
         no-strays = out-strays R both total width few (omega arith) most;

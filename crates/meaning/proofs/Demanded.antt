@@ -58,7 +58,7 @@ twice-stretches index (k ∷ ks) f s n h =
 
 -- ---- a list of bitmap numbers
 
-all-good : (index list : List ℕ) → ((i : ℕ) → i < length list → getD list i 0 < bitmapCount index) → anyBad index list ≡ false
+pub all-good : (index list : List ℕ) → ((i : ℕ) → i < length list → getD list i 0 < bitmapCount index) → anyBad index list ≡ false
 unfolding anyBad badBitmap
 all-good index [] h = refl
 all-good index (k ∷ ks) h = rw (lt-leb (bitmapCount index) k (h 0 (omega arith))) (all-good index ks (λ i g. h (suc i) (omega arith)))

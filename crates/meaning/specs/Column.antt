@@ -34,7 +34,7 @@ unfoldable pub columnOf : (exists : ℕ → Bool) (value : ℕ → ℕ) (n : ℕ
 unfolding slicesFrom
 columnOf exists value n = exists ∷ slicesFrom exists value 0 n
 
--- ---- what an operation makes of two values, x and y, of a row; n is the number of slices of its answer
+-- ---- what an operation makes of two values, x and y, of a row; n is the number of slices of its answer, of which a sum makes no use
 
 unfoldable pub sumValue : (n x y : ℕ) → ℕ
 sumValue n x y = x + y

@@ -11,7 +11,7 @@ use lib.ListN.{length, getD}
 use Rattle.meaning.specs.Limits.{mostRows, mostColumn, mostValueColumn}
 use Rattle.meaning.specs.Segment.{tabulate}
 use Rattle.meaning.specs.Refusal.{refused, answer, sound, refuseIf}
-use Rattle.meaning.specs.Canonical.{canonical}
+use Rattle.meaning.specs.Canonical.{canonical, Canonical}
 use Rattle.meaning.specs.Index.{rowCount, bitmapCount, bodyAt, rowsAt, SoundIndex}
 use Rattle.meaning.specs.Answer.{check}
 use Rattle.meaning.specs.NewIndex.{indexOf}
@@ -151,12 +151,13 @@ module _ (index first second : List ℕ) where
   abbrev pub inBoth : ℕ → Bool
   inBoth r = existing index first r && existing index second r
 
-  -- it is sound, and has as many rows; a row exists in it if it does in both; no slice has any other row, so 11 is never
-  -- given; and its value at a row is v, or 8 where there is no such row or it does not exist
+  -- it is sound, has as many rows, and n + 1 bitmaps in canonical form; a row exists in it if it does in both; no slice has any other
+  -- row, so 11 is never given; and its value at a row is v, or 8 where there is no such row or it does not exist
   pub record ColumnOf (n : ℕ) (v : ℕ → ℕ) (out : List ℕ) : Type 0 where
     pub is-sound : SoundIndex out
     pub rows : rowCount out ≡ rowCount index
     pub count : bitmapCount out ≡ suc n
+    pub forms : (k : ℕ) → k ≤ n → Canonical (rowCount index) (bodyAt out k)
     pub exists : (r : ℕ) → r < rowCount index → rowsAt out 0 r ≡ inBoth r
     pub slices : (i r : ℕ) → i < n → r < rowCount index → rowsAt out (suc i) r ≡ slice inBoth v i r
     pub no-strays : strays out (whole n) ≡ sound

@@ -72,7 +72,7 @@ module _ (index : List ℕ) where
 
   -- of the column that a list names
   unfoldable pub strays : List ℕ → Verdict
-  unfolding straysIn existing rowsAt
+  unfolding straysIn rowsAt
   strays [] = sound
   strays (k ∷ ks) = straysIn (rowsAt index k) ks
 

@@ -1,4 +1,5 @@
--- Every limit and size that paper 01 names, once. Section names in these comments are paper 01's.
+-- Every limit that the papers name, and every size that follows from one or that the code chooses, once. Section names in these
+-- comments are paper 01's, requests paper 02's.
 -- Assumes nothing.
 use Prim.Native.Nat.{ℕ, _+_, _-_, _*_, _/_, _^_}
 

@@ -10,7 +10,7 @@ use native.Mathlib.Nat.{pow-suc, zero-mul}
 use native.Mathlib.Omega.{arith}
 use Rattle.meaning.specs.Rows.{bit, sumBelow}
 use Rattle.meaning.specs.Segment.{Segment, clean, kind, bitAt, isSet, segmentCount, allSet, fromRows}
-use Rattle.meaning.specs.Ewah.{segments, rowsOf}
+use Rattle.meaning.specs.Ewah.{segments}
 use Rattle.meaning.specs.Index.{rowCount, rowsAt}
 use Rattle.meaning.specs.Question.{intersection}
 use Rattle.meaning.specs.Answer.{named}

@@ -13,7 +13,6 @@ use Rattle.meaning.specs.Limits.{blockSegments}
 use Rattle.meaning.specs.Rows.{bit}
 use Rattle.meaning.specs.Segment.{bitAt, isSet}
 use Rattle.meaning.specs.Ewah.{segments, rowsOf}
-use Rattle.meaning.specs.Index.{rowCount}
 use Rattle.meaning.specs.Column.{sumValue}
 use Rattle.meaning.proofs.RowWords.{word-by-bits, eqb-bit}
 use Rattle.meaning.proofs.Sums.{sum-ext}

@@ -1,7 +1,7 @@
 -- The sum of two columns: measured, laid out, and written.
 -- Assumes nothing.
 use Prim.Native.Nat.{ℕ, zero, suc, _+_, _-_, _*_, _≤_, _<_}
-use mathlib.Core.Bool.{Bool, true}
+use mathlib.Core.Bool.{Bool, true, false, true≢false}
 use mathlib.Core.Path.{_≡_, refl, sym, ap, _∙_, subst}
 use mathlib.Core.List.{List, [], _∷_, _++_, map, append-nil}
 use lib.ListN.{length, getD, take, drop, length-map, drop-of-length-le}
@@ -33,6 +33,11 @@ nowhere-laid zs count n h z = record { many = h; rising = λ i j a b. omega (ari
 -- a pass whose bodies have no places leaves the buffer
 pub nothing-kept : (zs old out : List ℕ) (k : ℕ) → ((i : ℕ) → getD zs i 0 ≡ 0) → drop (getD zs k 0) out ≡ drop (getD zs k 0) old → out ≡ old
 nothing-kept zs old out k z h = rw (z k) at h
+
+-- and it needs no room
+pub none-stored : (index first second : List ℕ) (n : ℕ) (starts out : List ℕ) → false ≡ true
+    → (i : ℕ) → i ≤ n → length (bodyOf index first second n i) ≤ length (region starts out i)
+none-stored index first second n starts out e i h = absurd (true≢false (sym e))
 
 module _ (index first second : List ℕ) (n : ℕ) (cs : Columns index first second n) where
   abbrev R : ℕ

@@ -1,5 +1,5 @@
-// How many segments come next, and whether as a run: where no piece ends for a block or longer, all segments up to that end are alike,
-// and one word for each place says them all.
+// How many segments come next, and whether as a run: where no piece ends within a block or more, the segments up to the nearest end are
+// alike in every place, and one word for each says them all.
 ghost use mathlib.Core.Path.{_≡_};
 ghost use Prim.Native.Nat.{_≤_, _<_};
 ghost use Rattle.meaning.specs.Limits.{mostRows};
@@ -14,7 +14,8 @@ pub struct Step {
     pub even: bool,
 }
 
-// The next segments from segment o on, where no piece ends before `near`. A segment with pad bits is never part of a run.
+// The next segments from segment o on, where no piece ends within the next `near`. A segment with pad bits is never part of a
+// run.
 pub fn choose(near: u32, o: u32, rows: u32, segments: u32) -> Step
     requires { ⌜ (segments ≡ segmentCount 32 rows) × (o < segments) × (rows ≤ mostRows) ⌝ }
     ensures { λ r. ⌜ Chosen near rows o (r .n) (r .even) ⌝ }

@@ -1,4 +1,4 @@
-// One pass over two columns, block by block: the bodies of their sum, measured or written.
+// One pass over two columns, block by block or run by run: the bodies of their sum, measured or written.
 ghost use mathlib.Core.Path.{_≡_};
 ghost use mathlib.Core.Bool.{true};
 ghost use Prim.Native.Nat.{ℕ, _+_, _≤_};
@@ -13,7 +13,7 @@ use new_index::writers::Writers;
 use walk::survey;
 use words::rows;
 
-// The sum's n slices and the rows that exist, each to its own part of `out` where `store` says so, and else only measured.
+// The rows that exist and the sum's n slices, each to its own part of `out` where `store` says so, and else only measured.
 pub fn pass(
     index: &[u32],
     first: &[u32],

@@ -7,8 +7,8 @@ use meaning::HEAD_WORDS;
 use meaning::MOST_STARTS;
 use new_index::layout;
 
-// The words that the index of n slices takes; it is written where they fit, and else nothing is. Bodies are measured first, since
-// each lies behind those before it.
+// The words that the index of n slices takes; it is written where they fit, and else nothing is. Bodies are measured first,
+// since each lies behind those before it.
 pub fn sum(index: &[u32], first: &[u32], second: &[u32], n: usize, out: &mut [u32]) -> usize
     requires { ⌜ Columns (now index) (now first) (now second) n ⌝ }
     ensures { λ r. ⌜ SumWritten (now (index .entry)) (now (first .entry)) (now (second .entry)) n

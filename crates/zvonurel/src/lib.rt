@@ -277,7 +277,7 @@ pub fn histogram(index: &[u32], list: &[u32]) -> Histogram
     }
 }
 
-// ---- columns: a list names existence first, then the slices of the values, the lowest digit first; a number may be named twice
+// ---- columns: a list names existence first, then the slices of the values, the lowest first; a number may be named twice
 
 // The value at a row of the column that a list of `LEAST_COLUMN` to `MOST_VALUE_COLUMN` numbers names.
 pub fn value(index: &[u32], column: &[u32], row: u32) -> Value
@@ -290,7 +290,8 @@ pub fn value(index: &[u32], column: &[u32], row: u32) -> Value
     }
 }
 
-// The sum of two columns of up to `MOST_COLUMN` numbers each, as a new index: the rows that exist in both, then one slice more than the wider has.
+// The sum of two columns of up to `MOST_COLUMN` numbers each, as a new index: the rows that exist in both, then one slice more
+// than the wider has.
 pub fn sum(index: &[u32], first: &[u32], second: &[u32], out: &mut [u32]) -> Written
     ensures { λ r. ⌜ Wrote (columns.sum (now (index .entry)) (now (first .entry)) (now (second .entry))
         (length (now (out .entry)))) r (now (out .entry)) (now (out .exit)) ⌝ }

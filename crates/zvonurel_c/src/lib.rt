@@ -209,8 +209,8 @@ pub extern "C" fn zv_value(index: &[u32], column: &[u32], row: u32) -> ZvValue
 
 #[no_mangle]
 pub extern "C" fn zv_sum(index: &[u32], first: &[u32], second: &[u32], out: &mut [u32]) -> ZvWritten
-    ensures { λ r. ⌜ Writes (columns.sum (now (index .entry)) (now (first .entry)) (now (second .entry)) (length (now (out .entry))))
-        r (now (out .entry)) (now (out .exit)) ⌝ }
+    ensures { λ r. ⌜ Writes (columns.sum (now (index .entry)) (now (first .entry)) (now (second .entry))
+        (length (now (out .entry)))) r (now (out .entry)) (now (out .exit)) ⌝ }
 {
     reply::written(zvonurel::sum(index, first, second, out))
 }

@@ -25,55 +25,44 @@ good-first e = sym (e .before .column-is-bad .ensures) ∙ e .if1 .left
 good-second : (e : tie.Else2) → badColumn (now (e .before .before .before .before .before .before .before .before .args .index)) mostColumn (now (e .before .before .before .before .before .before .before .before .args .second)) ≡ false
 good-second e = sym (e .before .column-is-bad2 .ensures) ∙ e .if2 .left
 
--- src/ask.rt:121:8
 column-is-bad-requires : tie.Need-column-is-bad-requires
 column-is-bad-requires c κs = search needs
 
--- src/ask.rt:122:33
 bad-argument-requires : tie.Need-bad-argument-requires
 bad-argument-requires c κs = search needs
 
--- src/ask.rt:122:9
 returns : tie.Need-returns
 returns c =
     let a = c .before .before .before .before .before .before .before .args in
     sum-bad-first (now (a .index)) (now (a .first)) (now (a .second)) (now (a .out)) (sym (c .before .before .column-is-bad .ensures) ∙ c .before .if1 .taken) (c .bad-argument .result) (c .bad-argument .ensures)
 
--- src/ask.rt:124:8
 column-is-bad-requires-2 : tie.Need-column-is-bad-requires-2
 column-is-bad-requires-2 c κs = search needs
 
--- src/ask.rt:125:33
 bad-argument-requires-2 : tie.Need-bad-argument-requires-2
 bad-argument-requires-2 c κs = search needs
 
--- src/ask.rt:125:9
 returns-2 : tie.Need-returns-2
 returns-2 c =
     let a = c .before .before .before .before .before .before .before .before .before .args in
     sum-bad-second (now (a .index)) (now (a .first)) (now (a .second)) (now (a .out)) (good-first (c .before .before .before)) (sym (c .before .before .column-is-bad2 .ensures) ∙ c .before .if2 .taken) (c .bad-argument2 .result) (c .bad-argument2 .ensures)
 
--- src/ask.rt:127:9
 strays-requires : tie.Need-strays-requires
 strays-requires c κs =
     let g = good-column _ _ _ (good-first (c .before .before)) in
     (c .before .before .before .before .before .before .before .before .pre, (g .0, omega (arith, g .1), g .2))
 
--- src/ask.rt:129:26
 enum-known-checked : tie.Need-enum-known-checked
 enum-known-checked c = search needs
 
--- src/ask.rt:130:60
 enum-told : tie.Need-enum-told
 enum-told c = search needs
 
--- src/ask.rt:130:27
 sum-second-requires : tie.Need-sum-second-requires
 sum-second-requires c κs =
     let e = c .before .before .before .before in
     (e .before .before .before .before .before .before .before .before .pre, (good-first (e .before .before), good-second e))
 
--- src/ask.rt:116:1
 returns-3 : tie.Need-returns-3
 returns-3 c =
     let k = c .before .before .before in
@@ -82,11 +71,9 @@ returns-3 c =
     (refuses (k .strays .result) _ (k .strays .ensures) (strays (now (a .index)) (now (a .second)) then writing (now (a .index)) (now (a .first)) (now (a .second)) (length (now (a .out)))) _ (c .before .checked .given .1)
     ∙ sum-rest (now (a .index)) (now (a .first)) (now (a .second)) (now (a .out)) (good-first (k .before .before .before)) (good-second (k .before)))
 
--- src/ask.rt:116:1
 same-length : tie.Need-same-length
 same-length c = search needs
 
--- src/ask.rt:116:1
 returns-4 : tie.Need-returns-4
 returns-4 c =
     let w = c .before .before in

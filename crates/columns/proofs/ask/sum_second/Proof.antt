@@ -10,37 +10,30 @@ use borrow.Author.Needs.{needs}
 use Rattle.columns.proofs.ask.sum_second.Statement.{statement}
 use Rattle.columns.proofs.ask.sum_second.Tie as tie
 
--- src/ask.rt:108:9
 strays-requires : tie.Need-strays-requires
 strays-requires c κs =
     let s = c .before .before .before .before in
     let g = good-column _ _ _ (s .pre .1 .1) in
     (s .pre .0, (g .0, omega (arith, g .1), g .2))
 
--- src/ask.rt:110:26
 enum-known-checked : tie.Need-enum-known-checked
 enum-known-checked c = search needs
 
--- src/ask.rt:111:59
 enum-told : tie.Need-enum-told
 enum-told c = search needs
 
--- src/ask.rt:111:27
 write-sum-requires : tie.Need-write-sum-requires
 write-sum-requires c κs = search needs
 
--- src/ask.rt:98:1
 returns : tie.Need-returns
 returns c =
     let k = c .before .before .before in
     let a = k .before .before .before .before .before .args in
     wrote-refused (now (a .out)) _ _ (refuses (k .strays .result) _ (k .strays .ensures) (writing (now (a .index)) (now (a .first)) (now (a .second)) (length (now (a .out)))) _ (c .before .checked .given .1))
 
--- src/ask.rt:98:1
 same-length : tie.Need-same-length
 same-length c = search needs
 
--- src/ask.rt:98:1
 returns-2 : tie.Need-returns-2
 returns-2 c =
     let w = c .before .before in

@@ -9,7 +9,6 @@ use Rattle.meaning.specs.Columns.{badColumn, badRow}
 use Rattle.answers.specs.Told.{refusedBy, valueTold}
 use Rattle.answers.proofs.Checks.{refuses, answers}
 use Rattle.columns.proofs.Asking.{good-column, good-row, value-bad-list, value-bad-row, value-rest}
-use native.Mathlib.Omega.{arith}
 use borrow.Author.Needs.{needs}
 use Rattle.columns.proofs.ask.value.Statement.{statement}
 use Rattle.columns.proofs.ask.value.Tie as tie
@@ -21,57 +20,46 @@ good-list e = sym (e .before .column-is-bad .ensures) ∙ e .if1 .left
 row-good : (e : tie.Else2) → badRow (now (e .before .before .before .before .before .before .args .index)) (now (e .before .before .before .before .before .before .args .list)) (e .before .before .before .before .before .before .args .row) ≡ false
 row-good e = sym (e .before .row-is-bad .ensures) ∙ e .if2 .left
 
--- src/ask.rt:55:8
 column-is-bad-requires : tie.Need-column-is-bad-requires
 column-is-bad-requires c κs = search needs
 
--- src/ask.rt:56:31
 bad-argument-requires : tie.Need-bad-argument-requires
 bad-argument-requires c κs = search needs
 
--- src/ask.rt:56:9
 returns : tie.Need-returns
 unfolding valueTold
 returns c =
     ap refusedBy (c .bad-argument .ensures) ∙ value-bad-list _ _ _ (sym (c .before .before .column-is-bad .ensures) ∙ c .before .if1 .taken)
 
--- src/ask.rt:58:8
 row-is-bad-requires : tie.Need-row-is-bad-requires
 row-is-bad-requires c κs =
     (c .before .before .before .before .pre, sym (c .before .column-is-bad .ensures) ∙ c .if1 .left)
 
--- src/ask.rt:59:31
 bad-argument-requires-2 : tie.Need-bad-argument-requires-2
 bad-argument-requires-2 c κs = search needs
 
--- src/ask.rt:59:9
 returns-2 : tie.Need-returns-2
 unfolding valueTold
 returns-2 c =
     ap refusedBy (c .bad-argument2 .ensures)
     ∙ value-bad-row _ _ _ (good-list (c .before .before .before)) (sym (c .before .before .row-is-bad .ensures) ∙ c .before .if2 .taken)
 
--- src/ask.rt:61:9
 strays-requires : tie.Need-strays-requires
 strays-requires c κs =
     let g = good-column _ _ _ (good-list (c .before .before)) in
     (c .before .before .before .before .before .before .pre, (g .0, g .1, g .2))
 
--- src/ask.rt:63:26
 enum-known-checked : tie.Need-enum-known-checked
 enum-known-checked c = search needs
 
--- src/ask.rt:64:37
 enum-told : tie.Need-enum-told
 enum-told c = search needs
 
--- src/ask.rt:64:37
 value-requires : tie.Need-value-requires
 value-requires c κs =
     let g = good-column _ _ _ (good-list (c .before .before .before .before .before)) in
     (c .before .before .before .before .before .before .before .before .before .pre, (g .0, g .1, g .2, good-row _ _ _ (row-good (c .before .before .before))))
 
--- src/ask.rt:51:1
 returns-3 : tie.Need-returns-3
 unfolding valueTold
 returns-3 c =
@@ -79,7 +67,6 @@ returns-3 c =
     refuses (k .strays .result) _ (k .strays .ensures) _ _ (c .before .checked .given .1)
     ∙ value-rest _ _ _ (good-list (k .before .before .before)) (row-good (k .before))
 
--- src/ask.rt:51:1
 returns-4 : tie.Need-returns-4
 unfolding valueTold
 returns-4 c =

@@ -13,29 +13,23 @@ use Rattle.columns.proofs.ask.write_sum.Tie as tie
 columns : (w : tie.After-wider) → Columns (now (w .before .before .before .before .before .args .index)) (now (w .before .before .before .before .before .args .first)) (now (w .before .before .before .before .before .args .second)) (w .wider .result + 1)
 columns w = let p = w .before .before .before .before .before .pre in two-columns _ _ _ (p .0) (p .1 .0) (p .1 .1) _ (w .wider .ensures)
 
--- src/ask.rt:89:13
 wider-requires : tie.Need-wider-requires
 wider-requires c κs =
     let s = c .before .before .before .before in
     (omega (arith, good-column _ _ _ (s .pre .1 .0) .0), omega (arith, good-column _ _ _ (s .pre .1 .1) .0))
 
--- src/ask.rt:89:13
 add-n : tie.Need-add-n
 add-n c = omega (arith, columns c .few)
 
--- src/ask.rt:90:9
 sum-requires : tie.Need-sum-requires
 sum-requires c κs = columns (c .before)
 
--- src/ask.rt:92:33
 no-room-requires : tie.Need-no-room-requires
 no-room-requires c κs = search needs
 
--- src/ask.rt:92:9
 same-length : tie.Need-same-length
 same-length c = search needs
 
--- src/ask.rt:92:9
 returns : tie.Need-returns
 returns c =
     let k = c .before .before .before .before in
@@ -43,11 +37,9 @@ returns c =
     wrote-no-room (now (a .index)) (now (a .first)) (now (a .second)) (now (a .out)) _ _ (k .sum .result) (k .before .before .wider .ensures) (k .sum .ensures)
     (omega (arith, c .before .if1 .taken, k .sum .kept .1 .1 .1 .1 .0)) (c .no-room .result) (c .no-room .ensures)
 
--- src/ask.rt:80:1
 same-length-2 : tie.Need-same-length-2
 same-length-2 c = search needs
 
--- src/ask.rt:80:1
 returns-2 : tie.Need-returns-2
 returns-2 c =
     let k = c .before .before .before in

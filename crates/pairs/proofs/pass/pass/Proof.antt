@@ -1,27 +1,27 @@
 -- `pairs::pass::pass` meets its contract: block by block, by `Passing`.
 -- Assumes nothing.
 use Prim.Native.Nat.{ℕ, _+_, _-_, _≤_, _<_, min}
-use mathlib.Core.Bool.{Bool, true, false}
-use mathlib.Core.Path.{_≡_, refl, sym, ap, _∙_, subst}
+use mathlib.Core.Bool.{Bool}
+use mathlib.Core.Path.{_≡_, refl, ap, _∙_, subst}
 use mathlib.Core.List.{List}
-use lib.ListN.{length, getD, replicate}
+use lib.ListN.{length}
 use denote.Ref.{now}
 use native.Mathlib.Omega.{arith}
 use borrow.Author.Needs.{needs}
-use Rattle.meaning.specs.Limits.{mostSegments, queryNumbers, blockSegments, blockWords, writersNumbers}
+use Rattle.meaning.specs.Limits.{mostSegments, blockWords}
 use Rattle.meaning.specs.Segment.{segmentCount}
 use Rattle.meaning.specs.Index.{rowCount}
 use Rattle.meaning.specs.Column.{sumValue}
 use Rattle.ewah.specs.Cursors.{leftOf}
 use Rattle.adder.specs.Digits.{Paired}
-use Rattle.walk.specs.Queries.{cursorOf, Standing}
+use Rattle.walk.specs.Queries.{cursorOf}
 use Rattle.merge.specs.Parts.{MaskOf}
 use Rattle.merge.proofs.Along.{segments-few}
 use Rattle.new_index.specs.Writers.{rowLength}
 use Rattle.pairs.specs.Passes.{Columns, Chosen}
 use Rattle.new_index.proofs.RowParts.{row-low}
 use Rattle.pairs.proofs.Rows.{BlockOf, row-some, zeros}
-use Rattle.pairs.proofs.Passing.{Walking, before, walking-on, block-of, Passing, passing-none, used-low, writing, m-low, cleans, room, passing-more, passing-all}
+use Rattle.pairs.proofs.Passing.{before, walking-on, block-of, Passing, passing-none, used-low, writing, m-low, cleans, room, passing-more, passing-all}
 use Rattle.pairs.proofs.pass.pass.Statement.{statement}
 use Rattle.pairs.proofs.pass.pass.Tie as tie
 

@@ -1,8 +1,7 @@
 -- `pairs::sum::sum` meets its contract: measured, laid out, and written where it fits.
 -- Assumes nothing.
-use Prim.Native.Nat.{ℕ, _+_, _*_, _≤_, _<_}
-use mathlib.Core.Bool.{true, true≢false}
-use mathlib.Core.Path.{_≡_, sym, ap, _∙_, subst}
+use Prim.Native.Nat.{ℕ, _+_, _*_, _≤_}
+use mathlib.Core.Path.{_≡_, ap, subst}
 use mathlib.Core.List.{List}
 use lib.ListN.{length, getD, replicate}
 use denote.Ref.{now}
@@ -15,7 +14,7 @@ use Rattle.new_index.specs.Writers.{writerOf, Laid}
 use Rattle.pairs.specs.Passes.{Columns, bodyOf}
 use Rattle.pairs.specs.Sums.{sumIndex}
 use Rattle.pairs.proofs.Rows.{zeros}
-use Rattle.pairs.proofs.Summing.{nowhere-laid, nothing-kept, body-low, need-is, laid, contents-fit, small, exact, written}
+use Rattle.pairs.proofs.Summing.{nowhere-laid, nothing-kept, none-stored, body-low, need-is, laid, contents-fit, small, exact, written}
 use Rattle.pairs.proofs.sum.sum.Statement.{statement}
 use Rattle.pairs.proofs.sum.sum.Tie as tie
 
@@ -76,7 +75,7 @@ pass-requires c κs =
       a .pre,
       (
         nowhere-laid (replicate mostStarts 0) (a .args .n + 1) _ (omega (arith, a .pre .few)) (zeros mostStarts),
-        λ e. absurd (true≢false (sym e)),
+        none-stored (now (a .args .index)) (now (a .args .first)) (now (a .args .second)) (a .args .n) (replicate mostStarts 0) (now (a .args .out)),
       ),
     )
 
