@@ -8,7 +8,7 @@ ghost use Prim.Native.Nat.{_+_, _<_, _≤_, _^_};
 ghost use lib.ListN.{length, getD, replicate};
 ghost use lib.Seq.{paste};
 ghost use Rattle.meaning.specs.Limits.{mostClean, mostDirty, blockSegments};
-ghost use Rattle.meaning.specs.Segment.{mixed, kind};
+ghost use Rattle.meaning.specs.Segment.{clean, mixed, kind};
 ghost use Rattle.ewah_write.specs.Drafts.{Writing, RoomFor, Grown, Pushed};
 ghost use Rattle.merge.specs.Emitted.{Emitted};
 ghost use Rattle.block_write.specs.Rowed.{rowSegments, CleanWord, Joined};
@@ -17,8 +17,17 @@ use ewah::marker::Marker;
 use ewah_write::writer;
 use ewah_write::writer::Writer;
 use meaning::MOST_DIRTY;
-use merge::emit;
-use merge::evaluate::Part;
+
+// The value of the clean segments whose word is x.
+fn clean_value(x: u32) -> u32
+    requires { ⌜ CleanWord x ⌝ }
+    ensures { λ r. ⌜ (r < 2) × (kind 32 32 x ≡ clean r) ⌝ }
+{
+    if x == 0 {
+        return 0;
+    }
+    1
+}
 
 // n clean segments, all of the word x.
 fn emit_even(out: &mut [u32], w: Writer, x: u32, n: u32, store: bool) -> Writer
@@ -27,10 +36,11 @@ fn emit_even(out: &mut [u32], w: Writer, x: u32, n: u32, store: bool) -> Writer
     requires { ⌜ (store ≡ true → RoomFor (replicate n (kind 32 32 x)) w (length (now out))) ⌝ }
     ensures { λ r. ⌜ Emitted (now (out .entry)) (now (out .exit)) w (replicate n (kind 32 32 x)) store r ⌝ }
 {
-    if x == 0 {
-        return emit::emit(out, w, Part::Run(0, n), store);
+    let value = clean_value(x);
+    if store {
+        return writer::push_run(out, w, value, n);
     }
-    emit::emit(out, w, Part::Run(1, n), store)
+    writer::grow_run(w, value, n)
 }
 
 // No word is all zeros or all ones.

@@ -21,6 +21,17 @@ module _ (near R o : ℕ) where
     in-block = λ t. absurd (true≢false t);
   }
 
+  -- one segment
+  pub chosen-one : (segments : ℕ) → segments ≡ segmentCount 32 R → o < segments → Chosen near R o 1 false
+  chosen-one segments s l = record {
+    some = omega arith;
+    within = omega arith;
+    in-pieces = λ t. absurd (true≢false (sym t));
+    in-runs = λ t. absurd (true≢false (sym t));
+    in-rows = λ t. absurd (true≢false (sym t));
+    in-block = λ t. omega arith;
+  }
+
   -- a block, or what is left
   pub chosen-block : (segments n : ℕ) → segments ≡ segmentCount 32 R → o < segments → n ≡ min blockSegments (segments - o) → Chosen near R o n false
   chosen-block segments n s l e = record {

@@ -28,7 +28,7 @@ use Rattle.new_index.specs.Writers.{writerOf, region, Laid, rowLength, rowOf, E
 use Rattle.new_index.proofs.Regions.{region-length}
 use Rattle.pairs.specs.Passes.{Columns, Chosen, bodyOf, PassedTo}
 use Rattle.pairs.proofs.Blocks.{sets, segs, segs-length}
-use Rattle.pairs.proofs.Rows.{BlockOf, row-part}
+use Rattle.pairs.proofs.Rows.{BlockOf, Cleared, row-part}
 use Rattle.pairs.proofs.Evenly.{AllAlike, alike, clean-words}
 
 -- ---- the places of one list
@@ -50,8 +50,11 @@ module _ (index list : List ℕ) (facts : IndexFacts index) (listed : Listed ind
     pub walking-on : Walking index list ns′ (o + n)
     walking-on = record { standing = gd .on o (g .standing); long = gd .long }
 
-    pub block-of : ((i : ℕ) → getD x i 0 ≡ 0) → BlockOf index list o n even x′
-    block-of z = record { has = gd .words o (g .standing); rest = λ i h. gd .rest i h ∙ z i }
+    pub still-cleared : Cleared list x → Cleared list x′
+    still-cleared z = record { long = gd .rows-long; past = λ i h. gd .rest i h ∙ z .past i h }
+
+    pub block-of : Cleared list x → BlockOf index list o n even x′
+    block-of z = record { has = gd .words o (g .standing); rest = still-cleared z .past }
 
   pub all-alike : (x : List ℕ) → 1 ≤ n → o + n ≤ segmentCount 32 (rowCount index) → BlockOf index list o n true x
       → ((k : ℕ) → k < length list → 2 ≤ leftOf (cursorOf ns k .piece)) → AllAlike x

@@ -10,7 +10,7 @@ use lib.Seq.{getD-take, getD-drop, length-take-le}
 use native.Mathlib.Decide.{decLe}
 use native.Mathlib.Omega.{arith}
 use borrow.Author.Tests.{lt-ltb}
-use Rattle.meaning.specs.Limits.{blockSegments}
+use Rattle.meaning.specs.Limits.{blockSegments, blockWords}
 use Rattle.meaning.specs.Segment.{Segment, clean, kind, allSet, isSet}
 use Rattle.meaning.specs.Ewah.{segments}
 use Rattle.meaning.specs.Index.{rowCount}
@@ -38,6 +38,11 @@ place even i = cond even 0 i
 place-low : (even : Bool) (i n : ℕ) → i < n → place even i < rowLength n even
 place-low true i n h = omega arith
 place-low false i n h = h
+
+-- a block whose rows past a list's are empty
+pub record Cleared (list x : List ℕ) : Type 0 where
+  pub long : length x ≡ blockWords
+  pub past : (i : ℕ) → length list * blockSegments ≤ i → getD x i 0 ≡ 0
 
 -- a row has a word
 pub row-some : (n : ℕ) (even : Bool) → 1 ≤ n → 1 ≤ rowLength n even

@@ -15,8 +15,8 @@ pub struct Step {
 }
 
 // The next segments from segment o on, where no piece ends within the next `near`. A segment with pad bits is never part of a
-// run.
-pub fn choose(near: u32, o: u32, rows: u32, segments: u32) -> Step
+// run. Behind a run comes one segment alone: often the next run begins behind it, and a block would cut that.
+pub fn choose(near: u32, o: u32, rows: u32, segments: u32, behind_run: bool) -> Step
     requires { ⌜ (segments ≡ segmentCount 32 rows) × (o < segments) × (rows ≤ mostRows) ⌝ }
     ensures { λ r. ⌜ Chosen near rows o (r .n) (r .even) ⌝ }
 {
@@ -28,6 +28,9 @@ pub fn choose(near: u32, o: u32, rows: u32, segments: u32) -> Step
                 even: true,
             };
         }
+    }
+    if behind_run {
+        return Step { n: 1, even: false };
     }
     Step {
         n: survey::smaller(BLOCK_SEGMENTS as u32, segments - o),

@@ -35,21 +35,23 @@ pub fn pass(
     let mut p = survey::open(index, first);
     let mut q = survey::open(index, second);
     let mut ws = writers::start();
+    let mut x: [u32; BLOCK_WORDS] = [0; BLOCK_WORDS];
+    let mut y: [u32; BLOCK_WORDS] = [0; BLOCK_WORDS];
     let mut z: [u32; BLOCK_WORDS] = [0; BLOCK_WORDS];
+    let mut run = false;
     let mut o: u32 = 0;
     while o < segments {
         let near = gather::nearest(&p.numbers, first.len());
         let close = gather::nearest(&q.numbers, second.len());
-        let s = choose::choose(survey::smaller(near, close), o, rows, segments);
+        let s = choose::choose(survey::smaller(near, close), o, rows, segments, run);
         let m = s.n;
         let even = s.even;
         let mask = evaluate::mask_before(rows, segments, o + m);
-        let mut x: [u32; BLOCK_WORDS] = [0; BLOCK_WORDS];
-        let mut y: [u32; BLOCK_WORDS] = [0; BLOCK_WORDS];
         gather::gather(index, first, &mut p.numbers, m, even, &mut x);
         gather::gather(index, second, &mut q.numbers, m, even, &mut y);
         adder::sum(&x, &y, &mut z, n, writers::row_length(m, even), mask);
         writers::emit_all(out, starts, &mut ws.numbers, &z, n + 1, m, even, store);
+        run = even;
         o += m;
     }
     ws

@@ -1,8 +1,9 @@
--- `pairs::choose::choose` meets its contract. Assumes nothing.
-use Rattle.pairs.proofs.Choosing.{chosen-run, chosen-block}
+-- `pairs::choose::choose` meets its contract: each way is a law of `Choosing`.
+-- Assumes nothing.
 use mathlib.Core.Path.{refl}
 use native.Mathlib.Omega.{arith}
 use borrow.Author.Needs.{needs}
+use Rattle.pairs.proofs.Choosing.{chosen-run, chosen-one, chosen-block}
 use Rattle.pairs.proofs.choose.choose.Statement.{statement}
 use Rattle.pairs.proofs.choose.choose.Tie as tie
 
@@ -20,6 +21,9 @@ returns c =
     let t = c .before .before .before in
     chosen-run _ _ _ _ _ refl (c .before .if2 .taken) (omega (arith, c .before .before .if1 .taken, t .wide .ensures .0)) (c .smaller .ensures)
 
+returns-2 : tie.Need-returns-2
+returns-2 c = let s = c .before .before .before in chosen-one _ _ _ _ (s .pre .0) (s .pre .1)
+
 cast-smaller : tie.Need-cast-smaller
 cast-smaller c = search needs
 
@@ -29,10 +33,8 @@ sub-smaller-2 c = search needs
 smaller-requires-2 : tie.Need-smaller-requires-2
 smaller-requires-2 c κs = search needs
 
-returns-2 : tie.Need-returns-2
-returns-2 c =
-    let s = c .before .before .before in
-    chosen-block _ _ _ _ _ (s .pre .0) (s .pre .1) (c .smaller2 .ensures)
+returns-3 : tie.Need-returns-3
+returns-3 c = let s = c .before .before .before .before in chosen-block _ _ _ _ _ (s .pre .0) (s .pre .1) (c .smaller2 .ensures)
 
 pub choose-spec : {M : Type 1} → statement M
 choose-spec =
@@ -42,7 +44,8 @@ choose-spec =
     sub-smaller
     smaller-requires
     returns
+    returns-2
     cast-smaller
     sub-smaller-2
     smaller-requires-2
-    returns-2)
+    returns-3)

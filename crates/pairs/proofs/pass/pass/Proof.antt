@@ -20,17 +20,17 @@ use Rattle.merge.proofs.Along.{segments-few}
 use Rattle.new_index.specs.Writers.{rowLength}
 use Rattle.pairs.specs.Passes.{Columns, Chosen}
 use Rattle.new_index.proofs.RowParts.{row-low}
-use Rattle.pairs.proofs.Rows.{BlockOf, row-some, zeros}
-use Rattle.pairs.proofs.Passing.{before, walking-on, block-of, Passing, passing-none, used-low, writing, m-low, cleans, room, passing-more, passing-all}
+use Rattle.pairs.proofs.Rows.{BlockOf, Cleared, row-some, zeros}
+use Rattle.pairs.proofs.Passing.{before, walking-on, still-cleared, block-of, Passing, passing-none, used-low, writing, m-low, cleans, room, passing-more, passing-all}
 use Rattle.pairs.proofs.pass.pass.Statement.{statement}
 use Rattle.pairs.proofs.pass.pass.Tie as tie
 
 abbrev Inv-loop : tie.InvT-loop
-Inv-loop index first second n out₀ starts store rows segments p₀ q₀ ws₀ z₀ o₀ out p q ws z o =
-    Passing index first second n starts out₀ store out (p .numbers) (q .numbers) (ws .numbers) o × (length z ≡ blockWords)
+Inv-loop index first second n out₀ starts store rows segments p₀ q₀ ws₀ x₀ y₀ z₀ run₀ o₀ out p q ws x y z run o =
+    Passing index first second n starts out₀ store out (p .numbers) (q .numbers) (ws .numbers) o × (length z ≡ blockWords) × Cleared first x × Cleared second y
 
 abbrev μ-loop : tie.MeasureT-loop
-μ-loop index first second n out₀ starts store rows segments p₀ q₀ ws₀ z₀ o₀ out p q ws z o = segments - o
+μ-loop index first second n out₀ starts store rows segments p₀ q₀ ws₀ x₀ y₀ z₀ run₀ o₀ out p q ws x y z run o = segments - o
 
 -- ---- at the loop's test
 module _ (i : tie.In-loop Inv-loop μ-loop) where
@@ -147,10 +147,10 @@ module _ (s : tie.After-sum Inv-loop μ-loop) where
   masked = subst (λ (r : ℕ). MaskOf r (o h + m chosen) mask) (rows-are h) (s .before .before .before .before .before .before .before .before .before .before .before .mask-before .ensures)
 
   blocks1 : BlockOf (index h) (first h) (o h) (m chosen) (even chosen) x
-  blocks1 = block-of (index h) (first h) (cs h .facts) (cs h .first-listed) (ns1 h) (o h) (m chosen) (g h .first-walking) (even chosen) _ _ x (s .before .before .before .before .before .before .before .before .gather .ensures) (zeros blockWords)
+  blocks1 = block-of (index h) (first h) (cs h .facts) (cs h .first-listed) (ns1 h) (o h) (m chosen) (g h .first-walking) (even chosen) _ _ x (s .before .before .before .before .before .before .before .before .gather .ensures) (h .before .loop .inv .2)
 
   blocks2 : BlockOf (index h) (second h) (o h) (m chosen) (even chosen) y
-  blocks2 = block-of (index h) (second h) (cs h .facts) (cs h .second-listed) (ns2 h) (o h) (m chosen) (g h .second-walking) (even chosen) _ _ y (s .before .before .before .before .before .gather2 .ensures) (zeros blockWords)
+  blocks2 = block-of (index h) (second h) (cs h .facts) (cs h .second-listed) (ns2 h) (o h) (m chosen) (g h .second-walking) (even chosen) _ _ y (s .before .before .before .before .before .gather2 .ensures) (h .before .loop .inv .3)
 
   added : Paired sumValue x y (n h) (rowLength (m chosen) (even chosen)) mask z
   added = subst (λ (k : ℕ). Paired sumValue x y (n h) k mask z) (s .before .row-length .ensures) (s .sum .ensures)
@@ -179,6 +179,8 @@ loop-holds c =
       passing-none (now (a .index)) (now (a .first)) (now (a .second)) (a .n) (now (a .starts)) (now (a .out)) (a .store) (t .pre .0) _ _ _
           (record { standing = e .2; long = e .1 }) (record { standing = f .2; long = f .1 }) (c .start .ensures .0) (c .start .ensures .1),
       refl,
+      record { long = refl; past = λ i l. zeros blockWords i },
+      record { long = refl; past = λ i l. zeros blockWords i },
     )
 
 nearest-requires : tie.Need-nearest-requires Inv-loop μ-loop
@@ -216,7 +218,7 @@ gather-requires c κs =
             before (index i) (first i) (cs i .facts) (cs i .first-listed) (ns1 i) (o i) (m w) (g i .first-walking) (ch w .within),
             (
               g i .first-walking .long,
-              refl,
+              i .before .loop .inv .2 .long,
               omega (arith, cs i .first-fits, cs i .few),
               ch w .some,
               λ e k l. omega (arith, ch w .in-pieces e, near1 w k l),
@@ -240,7 +242,7 @@ gather-requires-2 c κs =
             before (index i) (second i) (cs i .facts) (cs i .second-listed) (ns2 i) (o i) (m w) (g i .second-walking) (ch w .within),
             (
               g i .second-walking .long,
-              refl,
+              i .before .loop .inv .3 .long,
               omega (arith, cs i .second-fits, cs i .few),
               ch w .some,
               λ e k l. omega (arith, ch w .in-pieces e, near2 w k l),
@@ -308,6 +310,8 @@ loop-again c =
           (walking-on (index i) (first i) (cs i .facts) (cs i .first-listed) (ns1 i) (o i) (m w) (g i .first-walking) (even w) _ _ (x s) (s .before .before .before .before .before .before .before .before .gather .ensures))
           (walking-on (index i) (second i) (cs i .facts) (cs i .second-listed) (ns2 i) (o i) (m w) (g i .second-walking) (even w) _ _ (y s) (s .before .before .before .before .before .gather2 .ensures)),
       added s .long,
+      still-cleared (index i) (first i) (cs i .facts) (cs i .first-listed) (ns1 i) (o i) (m w) (g i .first-walking) (even w) _ _ (x s) (s .before .before .before .before .before .before .before .before .gather .ensures) (i .before .loop .inv .2),
+      still-cleared (index i) (second i) (cs i .facts) (cs i .second-listed) (ns2 i) (o i) (m w) (g i .second-walking) (even w) _ _ (y s) (s .before .before .before .before .before .gather2 .ensures) (i .before .loop .inv .3),
     )
 
 same-length : tie.Need-same-length Inv-loop μ-loop
