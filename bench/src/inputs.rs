@@ -29,10 +29,10 @@ pub const TANKS: usize = 12;
 pub const ENOUGH: usize = 5;
 
 /// splitmix64
-struct Random(u64);
+pub struct Random(pub u64);
 
 impl Random {
-    fn next(&mut self) -> u64 {
+    pub fn next(&mut self) -> u64 {
         self.0 = self.0.wrapping_add(0x9E37_79B9_7F4A_7C15);
         let mut z = self.0;
         z = (z ^ (z >> 30)).wrapping_mul(0xBF58_476D_1CE4_E5B9);
@@ -40,12 +40,12 @@ impl Random {
         z ^ (z >> 31)
     }
 
-    fn between(&mut self, low: u64, high: u64) -> usize {
+    pub fn between(&mut self, low: u64, high: u64) -> usize {
         (low + self.next() % (high - low + 1)) as usize
     }
 
     /// About half of the bits set, never clean: bit 0 is set and bit 1 is not.
-    fn mixed(&mut self) -> u32 {
+    pub fn mixed(&mut self) -> u32 {
         (self.next() as u32 & !2) | 1
     }
 }
@@ -137,17 +137,22 @@ pub fn mask_last(words: &mut [u32], rows: u32) {
     }
 }
 
+/// How many segments stay the same next, and how many mixed ones come behind them.
+pub fn run_and_mixed(kind: Kind, random: &mut Random, segments: usize) -> (usize, usize) {
+    match kind {
+        Kind::Quiet => (random.between(1_000, 8_000), random.between(0, 1)),
+        Kind::Calm => (random.between(10, 100), random.between(1, 4)),
+        Kind::Dense => (0, segments),
+    }
+}
+
 /// Plain words of one bitmap.
-fn bitmap(kind: Kind, rows: u32, seed: u64) -> Vec<u32> {
+pub fn bitmap(kind: Kind, rows: u32, seed: u64) -> Vec<u32> {
     let segments = segments(rows);
     let mut random = Random(seed);
     let mut words = Vec::with_capacity(segments);
     while words.len() < segments {
-        let (run, mixed) = match kind {
-            Kind::Quiet => (random.between(1_000, 8_000), random.between(0, 1)),
-            Kind::Calm => (random.between(10, 100), random.between(1, 4)),
-            Kind::Dense => (0, segments),
-        };
+        let (run, mixed) = run_and_mixed(kind, &mut random, segments);
         let value = if random.next().is_multiple_of(2) { 0 } else { u32::MAX };
         let run = run.min(segments - words.len());
         words.extend(std::iter::repeat_n(value, run));

@@ -2,6 +2,9 @@
 
 mod baseline;
 mod calls;
+mod column_baseline;
+mod column_inputs;
+mod columns;
 mod growth;
 mod inputs;
 mod timing;
@@ -28,21 +31,31 @@ const QUICK_BITMAPS: usize = TANKS;
 fn help() -> ExitCode {
     println!(
         "\
-bench            {ROWS:?} rows, {BITMAPS:?} bitmaps (minutes)
-bench --quick    {QUICK_ROWS} rows, {QUICK_BITMAPS} bitmaps
+bench            {ROWS:?} rows, {BITMAPS:?} bitmaps (minutes); columns
+bench --quick    {QUICK_ROWS} rows, {QUICK_BITMAPS} bitmaps; columns
+bench --columns  the calls on columns alone
 bench --one CALL KIND ROWS BITMAPS REPEATS
                  one call so many times, nothing else timed
+bench --one COLUMN-CALL COLUMN-KIND ROWS SLICES REPEATS
+                 the same of two columns of so many slices each
 
 CALL   check count body_count expand expand_bitmap compress and threshold
        symmetric histogram
 KIND   quiet (runs of 1,000 to 8,000 segments), calm (runs of 10 to 100
        segments, one to four mixed ones between them), dense (all mixed)
 
+COLUMN-CALL  sum value
+COLUMN-KIND  quiet, calm (values that stay as long as such runs, segments in
+             which each row differs between them; some gaps in which no row
+             exists), apart (each slice quiet by itself), dense (each row
+             differs), halved (dense, and half of the rows exist)
+
 T is {ENOUGH} for {TANKS} bitmaps, else half of them. The table of symmetric says yes at
 1, 4, 7 and so on. Each figure is the best of several runs; `x` is the plain
 program's time divided by the library's, so above 1 the library is faster. The
 library checks the whole index in every call that takes one; plain programs
-check nothing.
+check nothing. Those beside `sum` begin with arrays of values (row by row,
+transposed) or plain words of slices (bit-sliced), and leave existence out.
 
 Instruction counts of one call (build with --release):
   valgrind --tool=callgrind --toggle-collect='*measured_call*' \\
@@ -58,8 +71,10 @@ fn main() -> ExitCode {
     match args[..] {
         [] => table(&ROWS, &BITMAPS),
         ["--quick"] => table(&[QUICK_ROWS], &[QUICK_BITMAPS]),
-        ["--one", call, kind, rows, bitmaps, repeats] => {
-            if one(call, kind, rows, bitmaps, repeats).is_none() {
+        ["--columns"] => columns::table(),
+        ["--one", call, kind, rows, of, repeats] => {
+            let done = one(call, kind, rows, of, repeats).or_else(|| columns::one(call, kind, rows, of, repeats));
+            if done.is_none() {
                 return help();
             }
         }
@@ -115,6 +130,7 @@ fn table(rows: &[u32], bitmaps: &[usize]) {
         }
     }
     growth(&figures);
+    columns::table();
 }
 
 /// Times one call and its plain programs, and prints the line.

@@ -2,6 +2,8 @@
 //!
 //! Days are counted from 1 January of year 1, which was a Monday.
 
+use crate::text::printable;
+
 const WEEKDAYS: [&str; 7] = ["Mon", "Tue", "Wed", "Thu", "Fri", "Sat", "Sun"];
 const MONTHS: [&str; 12] = ["Jan", "Feb", "Mar", "Apr", "May", "Jun", "Jul", "Aug", "Sep", "Oct", "Nov", "Dec"];
 
@@ -21,6 +23,14 @@ pub struct Date {
 /// When a half hour begins: how many half hours after the first day's 00:00.
 #[derive(Clone, Copy, Debug, PartialEq, Eq)]
 pub struct Moment(usize);
+
+/// Half hours one behind the other: the rows of a log.
+#[derive(Clone, Copy)]
+pub struct Span {
+    pub from: Moment,
+    /// How many there are.
+    pub rows: usize,
+}
 
 fn is_leap(year: usize) -> bool {
     year % 4 == 0 && (year % 100 != 0 || year % 400 == 0)
@@ -48,7 +58,7 @@ fn digits(text: &str, width: usize) -> Option<usize> {
 
 impl Date {
     /// The day that `YYYY-MM-DD` names, if there is one; the years begin with 0001.
-    pub fn read(text: &str) -> Option<Date> {
+    fn read(text: &str) -> Option<Date> {
         let (year, rest) = text.split_once('-')?;
         let (month, day) = rest.split_once('-')?;
         let year = digits(year, 4).filter(|year| *year >= 1)?;
@@ -90,7 +100,7 @@ impl Date {
 }
 
 /// Which half hour of its day `HH:MM` begins, from 00:00 to 23:30.
-pub fn half_hour(text: &str) -> Option<usize> {
+fn half_hour(text: &str) -> Option<usize> {
     let (hour, minute) = text.split_once(':')?;
     let hour = digits(hour, 2).filter(|hour| *hour < 24)?;
     let half = ["00", "30"].iter().position(|half| *half == minute)?;
@@ -98,8 +108,12 @@ pub fn half_hour(text: &str) -> Option<usize> {
 }
 
 impl Moment {
-    pub fn new(date: Date, half_hour: usize) -> Moment {
-        Moment(date.number() * DAY + half_hour)
+    /// The half hour that begins at a date and a time of day, or what is wrong with one of them.
+    pub fn read(date: &str, time: &str) -> Result<Moment, String> {
+        let day = Date::read(date).ok_or_else(|| format!("`{}` is no date", printable(date)))?;
+        let half_hour = half_hour(time)
+            .ok_or_else(|| format!("`{}` is none of the times 00:00, 00:30 and so on to 23:30", printable(time)))?;
+        Ok(Moment(day.number() * DAY + half_hour))
     }
 
     /// So many half hours later.
@@ -124,6 +138,33 @@ impl Moment {
     /// `Wed 4 Mar 22:30`, or `Wed 4 Mar 2026 22:30`.
     pub fn shown(self, with_year: bool) -> String {
         format!("{} {}", self.date().shown(1, with_year), self.clock())
+    }
+}
+
+impl Span {
+    /// When half hour `row` begins, or the last is over.
+    pub fn moment(self, row: usize) -> Moment {
+        self.from.after(row)
+    }
+
+    /// When the last half hour is over.
+    pub fn end(self) -> Moment {
+        self.moment(self.rows)
+    }
+
+    /// Which half hour begins then, if one does.
+    pub fn row(self, moment: Moment) -> Option<usize> {
+        moment.0.checked_sub(self.from.0).filter(|row| *row < self.rows)
+    }
+
+    /// On how many days its half hours begin.
+    pub fn days(self) -> usize {
+        (self.from.half_hour() + self.rows).div_ceil(DAY)
+    }
+
+    /// Whether dates need their year: it begins in one and ends in another.
+    pub fn with_year(self) -> bool {
+        self.from.date().year != self.end().date().year
     }
 }
 
@@ -213,11 +254,46 @@ mod tests {
 
     #[test]
     fn half_hours_go_on_past_midnight() {
-        let from = Moment::new(Date::read("2024-02-28").expect("a date"), 47);
+        let from = Moment::read("2024-02-28", "23:30").expect("a half hour");
         assert_eq!(from.shown(true), "Wed 28 Feb 2024 23:30");
         assert_eq!(from.after(1).shown(false), "Thu 29 Feb 00:00");
         assert_eq!(from.after(1 + DAY).shown(true), "Fri 1 Mar 2024 00:00");
         assert_eq!(from.date().tomorrow().shown(2, true), "Thu 29 Feb 2024");
         assert_eq!(from.after(2 + DAY).date().shown(2, false), "Fri  1 Mar");
+    }
+
+    #[test]
+    fn what_is_no_half_hour_is_told() {
+        for (date, time, what) in [
+            ("2026-02-29", "24:00", "`2026-02-29` is no date"),
+            ("\u{1b}", "00:00", "`\\u{1b}` is no date"),
+            ("2026-02-28", "24:00", "`24:00` is none of the times 00:00, 00:30 and so on to 23:30"),
+            ("2026-02-28", "\0", "`\\0` is none of the times 00:00, 00:30 and so on to 23:30"),
+        ] {
+            assert_eq!(Moment::read(date, time), Err(what.to_string()));
+        }
+    }
+
+    #[test]
+    fn a_span_has_the_half_hours_from_its_first_to_its_end() {
+        let moment = |text: &str| text.split_once(' ').map(|(date, time)| Moment::read(date, time).expect(text));
+        let from = moment("2025-12-31 23:00").expect("a half hour");
+        let span = Span { from, rows: 51 };
+        assert_eq!((span.days(), span.with_year()), (3, true));
+        assert_eq!(span.end().shown(true), "Fri 2 Jan 2026 00:30");
+        for (text, row) in [
+            ("2025-12-31 22:30", None),
+            ("2025-12-31 23:00", Some(0)),
+            ("2026-01-01 00:00", Some(2)),
+            ("2026-01-02 00:00", Some(50)),
+            ("2026-01-02 00:30", None),
+            ("2027-01-01 00:00", None),
+        ] {
+            assert_eq!(span.row(moment(text).expect("a half hour")), row, "{text}");
+        }
+        let span = Span { from, rows: 1 };
+        assert_eq!((span.days(), span.with_year(), span.end().shown(false)), (1, false, "Wed 31 Dec 23:30".into()));
+        let span = Span { from, rows: 2 };
+        assert_eq!((span.days(), span.with_year(), span.end().shown(false)), (1, true, "Thu 1 Jan 00:00".into()));
     }
 }

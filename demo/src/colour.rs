@@ -1,5 +1,11 @@
 //! The colour classes: their letters in a log, and their names in a question.
 
+use zvonurel::{MOST_BITMAPS, MOST_ROWS};
+
+use crate::log::Entry;
+use crate::number::grouped;
+use crate::text::{joined, printable};
+
 #[derive(Clone, Copy, Debug, PartialEq, Eq)]
 pub enum Colour {
     Green,
@@ -19,7 +25,7 @@ impl Colour {
     }
 
     /// The colour that a log writes so.
-    pub fn of_letter(letter: char) -> Option<Colour> {
+    fn of_letter(letter: char) -> Option<Colour> {
         match letter {
             'g' => Some(Colour::Green),
             'a' => Some(Colour::Amber),
@@ -47,12 +53,37 @@ pub fn asked(text: &str) -> Result<Vec<Colour>, String> {
     Ok(colours)
 }
 
-/// The colours as a sentence has them: `amber`, `amber or red`, `green, amber or red`.
-pub fn joined(colours: &[Colour]) -> String {
-    let names: Vec<&str> = colours.iter().map(|colour| colour.name()).collect();
-    match names.split_last() {
-        Some((last, before)) if !before.is_empty() => format!("{} or {last}", before.join(", ")),
-        _ => names.concat(),
+/// The colours as a sentence has them.
+pub fn any_of(colours: &[Colour]) -> String {
+    joined(&colours.iter().map(|colour| colour.name()).collect::<Vec<_>>(), "or")
+}
+
+impl Entry for Colour {
+    const NAME: &'static str = "letter";
+    const EXAMPLE: &'static str = "gga";
+    const EACH: &'static str = "a letter";
+    const TANKS: usize = 12;
+    /// An index has room for a bitmap of each colour of so many tanks.
+    const MOST_TANKS: usize = MOST_BITMAPS as usize / Colour::ALL.len();
+    const MOST_ROWS: usize = MOST_ROWS as usize;
+    const MOST_BYTES: usize = 1;
+    const GOES_ON: bool = false;
+
+    /// Letters are one word: those that were parted are no shorter log.
+    fn read(tank: &str, text: &str) -> Result<Vec<Colour>, String> {
+        let words: Vec<&str> = text.split_whitespace().collect();
+        if words.len() > 1 {
+            return Err(format!("the letters of `{tank}` stand in {} parts: write them as one word.", words.len()));
+        }
+        let letters = words.iter().flat_map(|word| word.chars()).zip(1..);
+        letters
+            .map(|(letter, place)| {
+                Colour::of_letter(letter).ok_or_else(|| {
+                    let (place, letter) = (grouped(place), printable(&letter.to_string()));
+                    format!("in `{tank}` letter {place} is `{letter}`: write g, a or r for each half hour.")
+                })
+            })
+            .collect()
     }
 }
 
@@ -90,9 +121,28 @@ mod tests {
     }
 
     #[test]
-    fn names_are_joined_by_or() {
-        assert_eq!(joined(&[Red]), "red");
-        assert_eq!(joined(&[Amber, Red]), "amber or red");
-        assert_eq!(joined(&[Green, Amber, Red]), "green, amber or red");
+    fn a_sentence_has_any_of_them() {
+        assert_eq!(any_of(&[Red]), "red");
+        assert_eq!(any_of(&[Green, Amber, Red]), "green, amber or red");
+    }
+
+    #[test]
+    fn letters_are_one_word() {
+        assert_eq!(Colour::read("t1", " gar\t"), Ok(vec![Green, Amber, Red]));
+        assert_eq!(Colour::read("t1", " "), Ok(Vec::new()));
+        for (letters, parts) in [("ggg aag", 2), ("ggg, aag", 2), ("ggg? aaa", 2), ("x g\u{a0}g  g", 4), (": g", 2)] {
+            let what = format!("the letters of `t1` stand in {parts} parts: write them as one word.");
+            assert_eq!(Colour::read("t1", letters), Err(what), "{letters}");
+        }
+    }
+
+    #[test]
+    fn letters_are_g_a_and_r() {
+        for (letters, shown) in
+            [("x", "x"), ("Gx", "G"), ("\u{1b}", "\\u{1b}"), ("\u{200b}g", "\\u{200b}"), ("ä", "ä"), (":g", ":")]
+        {
+            let what = format!("in `t1` letter 17 is `{shown}`: write g, a or r for each half hour.");
+            assert_eq!(Colour::read("t1", &format!("{}{letters}", "g".repeat(16))), Err(what));
+        }
     }
 }

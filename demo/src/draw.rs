@@ -1,10 +1,12 @@
-//! The answer for the eye: a line for each day, a sign for two hours, and then each spell with its times.
+//! An answer for the eye: a line for each day, a sign for two hours, and each spell with its times.
+
+use std::cmp::Reverse;
 
 use zvonurel::Spell;
 
-use crate::calendar::DAY;
-use crate::log::Log;
+use crate::calendar::{Span, DAY};
 use crate::number::{count, grouped};
+use crate::reading::milligrams;
 
 /// Half hours that a sign stands for.
 const SIGN: usize = 4;
@@ -12,17 +14,12 @@ const SIGNS_A_DAY: usize = DAY / SIGN;
 /// The hours of a day, each over the sign that begins then.
 const HOURS: &str = "0  6  12 18 24";
 
-/// Whether dates need their year: the log begins in one and ends in another.
-fn with_year(log: &Log) -> bool {
-    log.from.date().year != log.end().date().year
-}
-
-/// The signs of the log's days, from its first day's 00:00 on: `#` where all of the two hours was so, `+` where part of
-/// them was, `.` where none was, and a blank where none is in the log.
-fn signs(log: &Log, rows: &[u32]) -> Vec<char> {
-    let begins = log.from.half_hour();
-    let ends = begins + log.rows();
-    let mut held = vec![0; ends.div_ceil(DAY) * SIGNS_A_DAY];
+/// The signs of the days, from the first day's 00:00 on: `#` where all of the two hours was so, `+` where part of them
+/// was, `.` where none was, and a blank where none is in the log.
+fn signs(span: Span, rows: &[u32]) -> Vec<char> {
+    let begins = span.from.half_hour();
+    let ends = begins + span.rows;
+    let mut held = vec![0; span.days() * SIGNS_A_DAY];
     for row in rows {
         held[(begins + *row as usize) / SIGN] += 1;
     }
@@ -35,18 +32,58 @@ fn signs(log: &Log, rows: &[u32]) -> Vec<char> {
     held.into_iter().enumerate().map(sign).collect()
 }
 
-/// The days of the log, a line each, below what the signs mean.
-pub fn picture(log: &Log, rows: &[u32]) -> String {
-    let signs = signs(log, rows);
-    let blank = if signs.contains(&' ') { ", blank not in the log" } else { "" };
-    let mut day = log.from.date();
-    let margin = " ".repeat(day.shown(2, with_year(log)).len() + " |".len());
-    let mut text = format!("# all of two hours, + part, . none{blank}\n\n{margin}{HOURS}\n");
-    for signs in signs.chunks(SIGNS_A_DAY) {
-        text += &format!("{} |{}|\n", day.shown(2, with_year(log)), signs.iter().collect::<String>());
+/// The days, a line each: its signs, and behind them what is beside. The first line has the hours and a heading.
+fn days(span: Span, signs: &[char], heading: &str, beside: &[String]) -> String {
+    let mut day = span.from.date();
+    let margin = " ".repeat(day.shown(2, span.with_year()).len() + " |".len());
+    let mut text = format!("{margin}{HOURS}{heading}\n");
+    for (signs, beside) in signs.chunks(SIGNS_A_DAY).zip(beside) {
+        let signs: String = signs.iter().collect();
+        text += &format!("{} |{signs}|{beside}\n", day.shown(2, span.with_year()));
         day = day.tomorrow();
     }
     text
+}
+
+/// When it was so, below what the signs mean.
+pub fn picture(span: Span, rows: &[u32]) -> String {
+    let signs = signs(span, rows);
+    let blank = if signs.contains(&' ') { ", blank not in the log" } else { "" };
+    let days = days(span, &signs, "", &vec![String::new(); span.days()]);
+    format!("# all of two hours, + part, . none{blank}\n\n{days}")
+}
+
+/// The highest sum of each part of the days, from the first day's 00:00 on, and the first half hour that has it.
+fn highest(span: Span, sums: &[Option<u64>], part: usize) -> Vec<Option<(u64, Reverse<usize>)>> {
+    let mut parts = vec![None; span.days() * DAY / part];
+    for (row, sum) in sums.iter().enumerate() {
+        let highest = &mut parts[(span.from.half_hour() + row) / part];
+        *highest = (*highest).max(sum.map(|sum| (sum, Reverse(row))));
+    }
+    parts
+}
+
+/// How high the sums were in each two hours, below what the signs mean, and the highest of each day with its time.
+pub fn sums(span: Span, sums: &[Option<u64>]) -> String {
+    let Some(top) = sums.iter().copied().flatten().max() else { return String::new() };
+    let sign = |highest: Option<(u64, _)>| match highest {
+        None => ' ',
+        Some((sum, _)) if 2 * sum > top => '#',
+        Some((sum, _)) if 4 * sum > top => '+',
+        Some(_) => '.',
+    };
+    let signs: Vec<char> = highest(span, sums, SIGN).into_iter().map(sign).collect();
+    let top = milligrams(top);
+    let beside = |highest: Option<(u64, Reverse<usize>)>| match highest {
+        None => format!("   {:>width$}", "none", width = top.len()),
+        Some((sum, Reverse(row))) => {
+            format!("   {:>width$} at {}", milligrams(sum), span.moment(row).clock(), width = top.len())
+        }
+    };
+    let beside: Vec<String> = highest(span, sums, DAY).into_iter().map(beside).collect();
+    let blank = if signs.contains(&' ') { ", blank no sum" } else { "" };
+    let days = days(span, &signs, "  highest sum", &beside);
+    format!("Two hours at their highest: # over half of {top}, + over a quarter, . less{blank}\n\n{days}\n")
 }
 
 /// So many half hours: `10 h 30 min`, `4 h`, `30 min`.
@@ -60,19 +97,19 @@ fn length(half_hours: usize) -> String {
 }
 
 /// A spell from its first half hour to the end of its last. Its end has a date where that is another day.
-fn spell_line(log: &Log, spell: &Spell) -> String {
+fn spell_line(span: Span, spell: &Spell) -> String {
     let (first, half_hours) = (spell.first as usize, spell.length as usize);
-    let (from, to) = (log.from.after(first), log.from.after(first + half_hours));
-    let end = if from.date() == to.date() { to.clock() } else { to.shown(with_year(log)) };
-    format!("  {} to {end}, {}\n", from.shown(with_year(log)), length(half_hours))
+    let (from, to) = (span.moment(first), span.moment(first + half_hours));
+    let end = if from.date() == to.date() { to.clock() } else { to.shown(span.with_year()) };
+    format!("  {} to {end}, {}\n", from.shown(span.with_year()), length(half_hours))
 }
 
 /// Each spell on a line, and the time of all together.
-pub fn spells(log: &Log, spells: &[Spell]) -> String {
+pub fn spells(span: Span, spells: &[Spell]) -> String {
     if spells.is_empty() {
         return "At no time.\n".to_string();
     }
-    let lines: String = spells.iter().map(|spell| spell_line(log, spell)).collect();
+    let lines: String = spells.iter().map(|spell| spell_line(span, spell)).collect();
     let all: usize = spells.iter().map(|spell| spell.length as usize).sum();
     format!("{lines}\nIn all {} in {}.\n", length(all), count(spells.len(), "spell"))
 }
@@ -80,29 +117,63 @@ pub fn spells(log: &Log, spells: &[Spell]) -> String {
 #[cfg(test)]
 mod tests {
     use super::*;
+    use crate::calendar::Moment;
 
-    /// One tank, from a date and time on.
-    fn log(from: &str, rows: usize) -> Log {
-        let text = format!("tanks 1\nfrom {from}\npond: {}\n", "g".repeat(rows));
-        Log::read(&text).unwrap_or_else(|fault| panic!("{}", fault.what))
+    /// So many half hours, from a date and time on.
+    fn span(from: &str, rows: usize) -> Span {
+        let (date, time) = from.split_once(' ').expect("a date and a time");
+        Span { from: Moment::read(date, time).expect(from), rows }
     }
 
     #[test]
     fn a_sign_is_two_hours() {
-        let log = log("2026-03-02 00:00", 2 * DAY);
+        let span = span("2026-03-02 00:00", 2 * DAY);
         let rows: Vec<u32> = [0, 1, 2, 3, 7, 45].into_iter().chain(48..96).collect();
         let expected = "# all of two hours, + part, . none\n\n            0  6  12 18 24\n\
                         Mon  2 Mar |#+.........+|\nTue  3 Mar |############|\n";
-        assert_eq!(picture(&log, &rows), expected);
+        assert_eq!(picture(span, &rows), expected);
     }
 
     #[test]
     fn what_is_not_in_the_log_is_blank_and_never_counts_as_so() {
-        let log = log("2024-12-31 21:30", 10);
+        let span = span("2024-12-31 21:30", 10);
         let expected = "# all of two hours, + part, . none, blank not in the log\n\n                 0  6  12 18 24\n\
                         Tue 31 Dec 2024 |          .#|\nWed  1 Jan 2025 |#+          |\n";
-        assert_eq!(picture(&log, &[1, 2, 3, 4, 5, 6, 7, 8, 9]), expected);
-        assert!(picture(&log, &[0]).contains("|          +.|"));
+        assert_eq!(picture(span, &[1, 2, 3, 4, 5, 6, 7, 8, 9]), expected);
+        assert!(picture(span, &[0]).contains("|          +.|"));
+    }
+
+    #[test]
+    fn a_sign_is_the_highest_sum_of_two_hours() {
+        let mut found = vec![Some(50); 2 * DAY];
+        // over half, half, over a quarter, and a quarter
+        (found[0], found[5], found[8], found[15]) = (Some(101), Some(100), Some(51), Some(200));
+        found[16..20].fill(None);
+        found[21..24].fill(None);
+        found[DAY..].fill(None);
+        let expected = "Two hours at their highest: # over half of 2.00, + over a quarter, . less, blank no sum\n\n\
+                        \x20           0  6  12 18 24  highest sum\n\
+                        Mon  2 Mar |#++# .......|   2.00 at 07:30\nTue  3 Mar |            |   none\n\n";
+        assert_eq!(sums(span("2026-03-02 00:00", 2 * DAY), &found), expected);
+        assert!(!sums(span("2026-03-02 00:00", DAY), &[Some(0); DAY]).contains("blank"));
+        assert_eq!(sums(span("2026-03-02 00:00", 3), &[None; 3]), "");
+    }
+
+    /// A day begins at 00:00, whenever the log does, and of equal sums the first is told.
+    #[test]
+    fn the_highest_sum_of_a_day_has_its_time() {
+        let text = sums(span("2025-12-31 22:30", 6), &[Some(1), Some(7), Some(7), Some(131_070), None, Some(131_070)]);
+        let expected = "\x20                0  6  12 18 24  highest sum\n\
+                        Wed 31 Dec 2025 |           .|       0.07 at 23:00\n\
+                        Thu  1 Jan 2026 |#           |   1,310.70 at 00:00\n\n";
+        assert!(text.ends_with(expected), "{text}");
+    }
+
+    /// Nothing is over half of a highest sum of 0.
+    #[test]
+    fn sums_of_nothing_are_low() {
+        let text = sums(span("2026-03-02 00:00", 8), &[Some(0); 8]);
+        assert!(text.ends_with("\nMon  2 Mar |..          |   0.00 at 00:00\n\n"), "{text}");
     }
 
     #[test]
@@ -114,22 +185,22 @@ mod tests {
 
     #[test]
     fn spells_have_dates_and_a_sum() {
-        let log = log("2026-03-02 00:00", 4 * DAY);
+        let span = span("2026-03-02 00:00", 4 * DAY);
         let found = [(4, 4), (47, 1), (93, 21), (144, 48)].map(|(first, length)| Spell { first, length });
         let expected = "  Mon 2 Mar 02:00 to 04:00, 2 h\n  Mon 2 Mar 23:30 to Tue 3 Mar 00:00, 30 min\n\
                         \x20 Tue 3 Mar 22:30 to Wed 4 Mar 09:00, 10 h 30 min\n\
                         \x20 Thu 5 Mar 00:00 to Fri 6 Mar 00:00, 24 h\n\nIn all 37 h in 4 spells.\n";
-        assert_eq!(spells(&log, &found), expected);
-        assert!(spells(&log, &found[..1]).ends_with("In all 2 h in 1 spell.\n"));
-        assert_eq!(spells(&log, &[]), "At no time.\n");
+        assert_eq!(spells(span, &found), expected);
+        assert!(spells(span, &found[..1]).ends_with("In all 2 h in 1 spell.\n"));
+        assert_eq!(spells(span, &[]), "At no time.\n");
     }
 
     #[test]
     fn years_are_shown_where_the_end_is_in_another() {
         let spell = [Spell { first: 0, length: 2 }];
-        let text = spells(&log("2025-12-31 23:00", 2), &spell);
+        let text = spells(span("2025-12-31 23:00", 2), &spell);
         assert!(text.starts_with("  Wed 31 Dec 2025 23:00 to Thu 1 Jan 2026 00:00, 1 h\n"), "{text}");
-        let text = spells(&log("2025-12-31 22:30", 2), &spell);
+        let text = spells(span("2025-12-31 22:30", 2), &spell);
         assert!(text.starts_with("  Wed 31 Dec 22:30 to 23:30, 1 h\n"), "{text}");
     }
 }

@@ -4,32 +4,32 @@ use std::fs::File;
 use std::io::{self, ErrorKind, Read};
 use std::path::Path;
 
-use zvonurel::MOST_ROWS;
+use crate::log::{Entry, Fault, Log};
 
-use crate::log::{Fault, Log, MOST_TANKS};
+/// The entries of the most tanks and half hours, and a mebibyte for names and remarks.
+fn most_bytes<E: Entry>() -> u64 {
+    (E::MOST_TANKS * E::MOST_ROWS * E::MOST_BYTES) as u64 + (1 << 20)
+}
 
-/// The letters of the most tanks and half hours, and a mebibyte for names and remarks.
-const MOST_BYTES: u64 = MOST_TANKS as u64 * MOST_ROWS as u64 + (1 << 20);
-
-pub fn read(path: &Path) -> Result<Log, String> {
-    text(path).and_then(|text| Log::read(&text)).map_err(|Fault { line, what }| {
+pub fn read<E: Entry>(path: &Path) -> Result<Log<E>, String> {
+    text(path, most_bytes::<E>()).and_then(|text| Log::read(&text)).map_err(|Fault { line, what }| {
         let line = line.map_or(String::new(), |line| format!(", line {line}"));
         format!("{}{line}: {what}", path.display())
     })
 }
 
-/// All of a file, unless it goes on without end.
-fn bytes(path: &Path) -> io::Result<Vec<u8>> {
+/// All of a file, unless it has more bytes.
+fn bytes(path: &Path, most: u64) -> io::Result<Vec<u8>> {
     let mut bytes = Vec::new();
-    let read = File::open(path)?.take(MOST_BYTES + 1).read_to_end(&mut bytes)?;
-    match read as u64 > MOST_BYTES {
+    let read = File::open(path)?.take(most + 1).read_to_end(&mut bytes)?;
+    match read as u64 > most {
         true => Err(ErrorKind::FileTooLarge.into()),
         false => Ok(bytes),
     }
 }
 
-fn text(path: &Path) -> Result<String, Fault> {
-    let bytes = bytes(path).map_err(|why| Fault {
+fn text(path: &Path, most: u64) -> Result<String, Fault> {
+    let bytes = bytes(path, most).map_err(|why| Fault {
         line: None,
         what: match why.kind() {
             _ if !path.exists() => "there is no such file: mend its name or its folder.".to_string(),

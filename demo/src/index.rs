@@ -1,4 +1,4 @@
-//! The question to the library.
+//! The question on colours to the library.
 
 use zvonurel::{IndexBuilder, Refusal, Spell};
 
@@ -26,13 +26,13 @@ pub struct Answer {
 }
 
 impl Asked {
-    pub fn new(log: &Log, colours: &[Colour], t: usize) -> Result<Asked, Refusal> {
+    pub fn new(log: &Log<Colour>, colours: &[Colour], t: usize) -> Result<Asked, Refusal> {
         // neither number passes what a log may have
-        let (rows, t) = (log.rows() as u32, t as u32);
+        let (rows, t) = (log.span().rows as u32, t as u32);
         let mut builder = IndexBuilder::new(rows);
         let mut list = Vec::new();
         for (tank, colour) in log.tanks.iter().flat_map(|tank| Colour::ALL.map(|colour| (tank, colour))) {
-            let held = (0..rows).zip(&tank.letters).filter(|(_, letter)| **letter == colour);
+            let held = (0..rows).zip(&tank.entries).filter(|(_, letter)| **letter == colour);
             let bitmap = builder.add_rows(held.map(|(row, _)| row))?;
             if colours.contains(&colour) {
                 list.push(bitmap);

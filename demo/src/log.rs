@@ -9,37 +9,54 @@
 //! ```
 //!
 //! First the number of tanks and the date and time of the first half hour, each once; then a line for each tank: its
-//! name, a colon, and a letter for each half hour, g, a or r, as one word. White space at a line's ends is passed over,
-//! as is a byte order mark before the first line. Every tank has another name, and times are those of a clock that is
-//! never put forward or back.
+//! name, a colon, and an entry for each half hour. Entries are letters, as one word, or readings with white space
+//! between them, which may go on in the lines below. White space at a line's ends is passed over, as is a byte order
+//! mark before the first line. Every tank has another name, and times are those of a clock that is never put forward or
+//! back.
 
 use std::ops::RangeInclusive;
 
-use zvonurel::{MOST_BITMAPS, MOST_ROWS};
-
-use crate::calendar::{half_hour, Date, Moment};
-use crate::colour::Colour;
+use crate::calendar::{Moment, Span};
 use crate::name::Name;
 use crate::number::{count, from_one_to, grouped};
 use crate::text::printable;
 
-/// An index has room for a bitmap of each colour of so many tanks.
-pub const MOST_TANKS: usize = MOST_BITMAPS as usize / Colour::ALL.len();
-
 /// A year before or behind these was typed wrongly.
 const YEARS: RangeInclusive<usize> = 1900..=2199;
 
-/// When the log begins, and its tanks: one or more, all with as many letters, one or more.
-pub struct Log {
-    pub from: Moment,
-    pub tanks: Vec<Tank>,
+/// What a log says of a tank in a half hour.
+pub trait Entry: Sized {
+    /// What one is called, and several with an s.
+    const NAME: &'static str;
+    /// Some, as a line has them.
+    const EXAMPLE: &'static str;
+    /// One for a half hour, or what stands for none.
+    const EACH: &'static str;
+    /// A number of tanks for an example.
+    const TANKS: usize;
+    const MOST_TANKS: usize;
+    /// The most half hours.
+    const MOST_ROWS: usize;
+    /// The most bytes that one takes, with what parts it from the next.
+    const MOST_BYTES: usize;
+    /// Whether a line without a colon goes on with the entries of the tank above it.
+    const GOES_ON: bool;
+
+    /// The entries of a tank that stand in a line, or what is wrong with one.
+    fn read(tank: &str, text: &str) -> Result<Vec<Self>, String>;
 }
 
-pub struct Tank {
-    name: Name,
-    /// The line of the log that it stands on.
+/// When the log begins, and its tanks: one or more, all with as many entries, one or more.
+pub struct Log<E> {
+    from: Moment,
+    pub tanks: Vec<Tank<E>>,
+}
+
+pub struct Tank<E> {
+    pub name: Name,
+    /// The line of the log that its name stands on.
     line: usize,
-    pub letters: Vec<Colour>,
+    pub entries: Vec<E>,
 }
 
 /// What is wrong and what to do, and the line where there is one.
@@ -49,24 +66,19 @@ pub struct Fault {
     pub what: String,
 }
 
-impl Log {
-    pub fn read(text: &str) -> Result<Log, Fault> {
-        let mut draft = Draft::default();
+impl<E: Entry> Log<E> {
+    pub fn read(text: &str) -> Result<Log<E>, Fault> {
+        let mut draft = Draft { count: None, from: None, tanks: Vec::new() };
         let text = text.strip_prefix('\u{feff}').unwrap_or(text);
         for (line, number) in text.lines().zip(1..) {
-            draft.take(number, line).map_err(|what| Fault { line: Some(number), what })?;
+            draft.take(number, line)?;
         }
         draft.finish()
     }
 
-    /// How many half hours there are.
-    pub fn rows(&self) -> usize {
-        self.tanks[0].letters.len()
-    }
-
-    /// When the last half hour is over.
-    pub fn end(&self) -> Moment {
-        self.from.after(self.rows())
+    /// Its half hours.
+    pub fn span(&self) -> Span {
+        Span { from: self.from, rows: self.tanks[0].entries.len() }
     }
 }
 
@@ -78,31 +90,43 @@ struct Head<T> {
 }
 
 /// What was taken of a log's lines so far.
-#[derive(Default)]
-struct Draft {
+struct Draft<E> {
     count: Option<Head<usize>>,
     from: Option<Head<Moment>>,
-    tanks: Vec<Tank>,
+    tanks: Vec<Tank<E>>,
 }
 
-impl Draft {
-    fn take(&mut self, line: usize, text: &str) -> Result<(), String> {
+impl<E: Entry> Draft<E> {
+    /// A tank has all its entries once a line comes that does not go on with them.
+    fn take(&mut self, line: usize, text: &str) -> Result<(), Fault> {
         let words: Vec<&str> = text.split_whitespace().collect();
-        match words.as_slice() {
+        let taken = match words.as_slice() {
             [] => Ok(()),
             [first, ..] if first.starts_with('#') => Ok(()),
-            ["tanks", rest @ ..] => self.take_count(line, &rest.join(" ")),
-            ["from", rest @ ..] => self.take_from(line, rest),
-            _ => self.take_tank(line, text),
-        }
+            [first, ..] if self.goes_on(first, text) => self.take_more(text),
+            words => {
+                self.check_last()?;
+                match words {
+                    ["tanks", rest @ ..] => self.take_count(line, &rest.join(" ")),
+                    ["from", rest @ ..] => self.take_from(line, rest),
+                    _ => self.take_tank(line, text),
+                }
+            }
+        };
+        taken.map_err(|what| Fault { line: Some(line), what })
+    }
+
+    /// Whether a line has more entries of the last tank: it is no head line, and has no colon.
+    fn goes_on(&self, first: &str, text: &str) -> bool {
+        E::GOES_ON && !self.tanks.is_empty() && !["tanks", "from"].contains(&first) && !text.contains(':')
     }
 
     fn take_count(&mut self, line: usize, text: &str) -> Result<(), String> {
         once("tanks", &self.count)?;
-        let said = from_one_to(MOST_TANKS, text).ok_or_else(|| {
-            let text = printable(text);
+        let said = from_one_to(E::MOST_TANKS, text).ok_or_else(|| {
+            let (text, most, tanks) = (printable(text), E::MOST_TANKS, E::TANKS);
             format!(
-                "`{text}` is no number of tanks from 1 to {MOST_TANKS}: write it as `tanks 12`, and share more tanks \
+                "`{text}` is no number of tanks from 1 to {most}: write it as `tanks {tanks}`, and share more tanks \
                  among several logs."
             )
         })?;
@@ -114,24 +138,22 @@ impl Draft {
         const FORM: &str = "write it as `from 2026-03-02 00:00`";
         once("from", &self.from)?;
         let [date, time] = words else { return Err(format!("`from` takes a date and a time: {FORM}.")) };
-        let day = Date::read(date).ok_or_else(|| format!("there is no date `{}`: {FORM}.", printable(date)))?;
-        if !YEARS.contains(&day.year) {
+        let said = Moment::read(date, time).map_err(|what| format!("{what}: {FORM}."))?;
+        if !YEARS.contains(&said.date().year) {
             let (first, last) = (YEARS.start(), YEARS.end());
             return Err(format!("the year of `{date}` is not one from {first} to {last}: {FORM}."));
         }
-        let half_hour = half_hour(time).ok_or_else(|| {
-            format!("`{}` is none of the times 00:00, 00:30 and so on to 23:30: {FORM}.", printable(time))
-        })?;
-        self.from = Some(Head { line, said: Moment::new(day, half_hour) });
+        self.from = Some(Head { line, said });
         Ok(())
     }
 
     /// No tank is taken before both head lines are there.
     fn take_tank(&mut self, line: usize, text: &str) -> Result<(), String> {
         let (count, _) = self.heads()?;
-        let (name, letters) = text
-            .split_once(':')
-            .ok_or("this line has no colon: write a tank's name, a colon and its letters, as `tank 1: gga`.")?;
+        let (name, entries) = text.split_once(':').ok_or_else(|| {
+            let (entry, example) = (E::NAME, E::EXAMPLE);
+            format!("this line has no colon: write a tank's name, a colon and its {entry}s, as `tank 1: {example}`.")
+        })?;
         let name = Name::read(name)?;
         if self.tanks.len() == count.said {
             let (extra, Head { line, said }) = (count.said + 1, count);
@@ -147,35 +169,56 @@ impl Draft {
                 name.text
             ));
         }
-        let letters = colours(&name.text, one_word(&name.text, letters)?)?;
-        self.same_length(&name.text, letters.len())?;
-        self.tanks.push(Tank { name, line, letters });
+        let entries = E::read(&name.text, entries)?;
+        self.tanks.push(Tank { name, line, entries });
         Ok(())
     }
 
-    /// A tank has as many letters as the first.
-    fn same_length(&self, name: &str, length: usize) -> Result<(), String> {
-        match self.tanks.first() {
-            Some(first) if first.letters.len() != length => Err(format!(
-                "`{name}` has {}, and `{}` on line {} has {}: give each tank a letter for every half hour.",
-                count(length, "letter"),
+    fn take_more(&mut self, text: &str) -> Result<(), String> {
+        if let Some(Tank { name, entries, .. }) = self.tanks.last_mut() {
+            entries.extend(E::read(&name.text, text)?);
+        }
+        Ok(())
+    }
+
+    /// The last tank has entries, no more of them than can be asked, and as many as the first.
+    fn check_last(&self) -> Result<(), Fault> {
+        let Some((last, first)) = self.tanks.last().zip(self.tanks.first()) else { return Ok(()) };
+        let (name, length) = (&last.name.text, last.entries.len());
+        let (entry, shown) = (E::NAME, count(length, E::NAME));
+        let what = match length {
+            0 => format!(
+                "`{name}` has no {entry}s: write one for each half hour behind the colon, as `{name}: {}`.",
+                E::EXAMPLE
+            ),
+            _ if length > E::MOST_ROWS => format!(
+                "`{name}` has {shown}, and {} are the most that can be asked: split the log by time.",
+                grouped(E::MOST_ROWS)
+            ),
+            _ if length != first.entries.len() => format!(
+                "`{name}` has {shown}, and `{}` on line {} has {}: give each tank {} for every half hour.",
                 first.name.text,
                 first.line,
-                grouped(first.letters.len())
-            )),
-            _ => Ok(()),
-        }
+                grouped(first.entries.len()),
+                E::EACH
+            ),
+            _ => return Ok(()),
+        };
+        Err(Fault { line: Some(last.line), what })
     }
 
     fn heads(&self) -> Result<(Head<usize>, Head<Moment>), String> {
-        let count = self.count.ok_or("no line says how many tanks there are: add one at the top, as `tanks 12`.")?;
+        let count = self.count.ok_or_else(|| {
+            format!("no line says how many tanks there are: add one at the top, as `tanks {}`.", E::TANKS)
+        })?;
         let from = self
             .from
             .ok_or("no line says when the first half hour begins: add one at the top, as `from 2026-03-02 00:00`.")?;
         Ok((count, from))
     }
 
-    fn finish(self) -> Result<Log, Fault> {
+    fn finish(self) -> Result<Log<E>, Fault> {
+        self.check_last()?;
         let (Head { line, said }, from) = self.heads().map_err(|what| Fault { line: None, what })?;
         if self.tanks.len() < said {
             let there = count(self.tanks.len(), "tank");
@@ -195,50 +238,22 @@ fn once<T>(word: &str, before: &Option<Head<T>>) -> Result<(), String> {
     }
 }
 
-/// Letters that were parted are no shorter log.
-fn one_word<'a>(name: &str, letters: &'a str) -> Result<&'a str, String> {
-    let mut words = letters.split_whitespace();
-    match (words.next(), words.count()) {
-        (None, _) => {
-            Err(format!("`{name}` has no letters: write one for each half hour behind the colon, as `{name}: gga`."))
-        }
-        (Some(word), 0) => Ok(word),
-        (_, more) => Err(format!("the letters of `{name}` stand in {} parts: write them as one word.", more + 1)),
-    }
-}
-
-/// A tank's letters, no more of them than a bitmap has rows.
-fn colours(name: &str, letters: &str) -> Result<Vec<Colour>, String> {
-    let length = letters.chars().count();
-    if length > MOST_ROWS as usize {
-        let (length, most) = (count(length, "letter"), grouped(MOST_ROWS as usize));
-        return Err(format!(
-            "`{name}` has {length}, and {most} are the most that can be asked: split the log by time."
-        ));
-    }
-    let mut colours = Vec::with_capacity(length);
-    for (letter, place) in letters.chars().zip(1..) {
-        colours.push(Colour::of_letter(letter).ok_or_else(|| {
-            let (place, letter) = (grouped(place), printable(&letter.to_string()));
-            format!("in `{name}` letter {place} is `{letter}`: write g, a or r for each half hour.")
-        })?);
-    }
-    Ok(colours)
-}
-
 #[cfg(test)]
 mod tests {
     use super::*;
+    use crate::colour::Colour;
+
+    type Letters = Log<Colour>;
 
     const HEAD: &str = "tanks 2\nfrom 2026-03-02 23:30\n";
 
-    fn log(tanks: &str) -> Result<Log, Fault> {
+    fn log(tanks: &str) -> Result<Letters, Fault> {
         Log::read(&format!("{HEAD}{tanks}"))
     }
 
     /// A refusal at this line that begins so.
     fn refused(text: &str, line: Option<usize>, begins: &str) {
-        let fault = Log::read(text).err().unwrap_or_else(|| panic!("{text:?} was taken"));
+        let fault = Letters::read(text).err().unwrap_or_else(|| panic!("{text:?} was taken"));
         assert_eq!(fault.line, line, "{text:?}: {}", fault.what);
         assert!(fault.what.starts_with(begins), "{text:?}: {}", fault.what);
         assert!(fault.what.ends_with('.'), "{text:?}: {}", fault.what);
@@ -247,17 +262,17 @@ mod tests {
     #[test]
     fn names_letters_and_times_are_read() {
         let log = log("tank 1: gar\n# a remark\n\n tank\t2\u{a0} : rrg \r\n").expect("a log");
-        assert_eq!((log.rows(), log.tanks.len()), (3, 2));
-        assert_eq!(log.tanks[0].letters, Colour::ALL);
+        assert_eq!((log.span().rows, log.tanks.len()), (3, 2));
+        assert_eq!(log.tanks[0].entries, Colour::ALL);
         assert_eq!((log.tanks[1].name.text.as_str(), log.tanks[1].line), ("tank 2", 6));
         assert_eq!(log.from.shown(true), "Mon 2 Mar 2026 23:30");
-        assert_eq!(log.end().shown(true), "Tue 3 Mar 2026 01:00");
+        assert_eq!(log.span().end().shown(true), "Tue 3 Mar 2026 01:00");
     }
 
     #[test]
     fn head_lines_may_stand_in_either_order_and_behind_a_mark() {
-        let log = Log::read("\u{feff}# remark\r\nfrom 2026-03-02 00:00\r\n  tanks   1\r\npond:g").expect("a log");
-        assert_eq!((log.rows(), log.tanks[0].name.text.as_str()), (1, "pond"));
+        let log = Letters::read("\u{feff}# remark\r\nfrom 2026-03-02 00:00\r\n  tanks   1\r\npond:g").expect("a log");
+        assert_eq!((log.span().rows, log.tanks[0].name.text.as_str()), (1, "pond"));
         refused("tanks 1\n\u{feff}from 2026-03-02 00:00\npond: g\n", Some(2), "no line says when");
     }
 
@@ -282,7 +297,7 @@ mod tests {
         for text in ["", " Mon", " 2026-03-02", " 2026-03-02 00:00 h"] {
             refused(&format!("from{text}"), Some(1), "`from` takes a date and a time: write it as `from 2026-03-02");
         }
-        refused("from 2026-02-30 00:00", Some(1), "there is no date `2026-02-30`");
+        refused("from 2026-02-30 00:00", Some(1), "`2026-02-30` is no date: write it as `from 2026-03-02");
         for year in ["0026", "1899", "2200"] {
             let begins = format!("the year of `{year}-03-02` is not one from 1900 to 2199");
             refused(&format!("from {year}-03-02 00:00"), Some(1), &begins);
@@ -308,28 +323,6 @@ mod tests {
     }
 
     #[test]
-    fn letters_are_one_word() {
-        for line in ["tank1:", "tank1 : "] {
-            refused(&format!("{HEAD}{line}\n"), Some(3), "`tank1` has no letters: write one");
-        }
-        for (letters, parts) in [("ggg aag", 2), ("ggg, aag", 2), ("ggg? aaa", 2), ("x g\u{a0}g  g", 4), (": g", 2)] {
-            let begins = format!("the letters of `t1` stand in {parts} parts: write them as one word");
-            refused(&format!("{HEAD}t1: {letters}\n"), Some(3), &begins);
-        }
-    }
-
-    #[test]
-    fn letters_are_g_a_and_r() {
-        let line = format!("{HEAD}t1: {}", "g".repeat(16));
-        refused(&format!("{line}x"), Some(3), "in `t1` letter 17 is `x`: write g, a or r");
-        refused(&format!("{line}Gx"), Some(3), "in `t1` letter 17 is `G`");
-        refused(&format!("{line}\u{1b}"), Some(3), "in `t1` letter 17 is `\\u{1b}`");
-        refused(&format!("{line}\u{200b}g"), Some(3), "in `t1` letter 17 is `\\u{200b}`");
-        refused(&format!("{line}ä"), Some(3), "in `t1` letter 17 is `ä`");
-        refused(&format!("{line}:g"), Some(3), "in `t1` letter 17 is `:`");
-    }
-
-    #[test]
     fn every_tank_has_as_many_letters() {
         let what = "`t2` has 2 letters, and `t1` on line 3 has 3: give each tank";
         refused(&format!("{HEAD}t1: ggg\nt2: gg"), Some(4), what);
@@ -338,9 +331,30 @@ mod tests {
     }
 
     #[test]
+    fn every_tank_has_letters() {
+        for line in ["tank1:", "tank1 : "] {
+            refused(&format!("{HEAD}{line}\n"), Some(3), "`tank1` has no letters: write one");
+            refused(&format!("{HEAD}{line}\ntank 2: x\n"), Some(3), "`tank1` has no letters: write one");
+        }
+    }
+
+    #[test]
     fn letters_are_no_more_than_a_bitmap_has_rows() {
-        let most = "g".repeat(MOST_ROWS as usize);
-        assert_eq!(colours("t1", &most).map(|letters| letters.len()), Ok(most.len()));
+        let most = "g".repeat(Colour::MOST_ROWS);
+        let log = Letters::read(&format!("tanks 1\nfrom 2026-03-02 23:30\nt1: {most}")).expect("a log");
+        assert_eq!(log.span().rows, most.len());
         refused(&format!("{HEAD}t1: {most}g"), Some(3), "`t1` has 16,777,217 letters, and 16,777,216 are the most");
+    }
+
+    /// A line without a colon is no part of a tank's letters, and what is wrong above it is told first.
+    #[test]
+    fn letters_do_not_go_on() {
+        refused(
+            &format!("{HEAD}t1: gg\ngg\n"),
+            Some(4),
+            "this line has no colon: write a tank's name, a colon and its",
+        );
+        refused(&format!("{HEAD}t1:\ngg\n"), Some(3), "`t1` has no letters");
+        refused(&format!("{HEAD}t1: gg\nt2: g\ntanks 2\n"), Some(4), "`t2` has 1 letter");
     }
 }

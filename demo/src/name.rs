@@ -24,7 +24,7 @@ impl Name {
         }
         let parts = parts(&text);
         if parts.is_empty() {
-            return Err("this tank has no name: write one before the colon, as `tank 1: gga`.".to_string());
+            return Err("this tank has no name: write one before the colon, as `tank 1`.".to_string());
         }
         Ok(Name { text, parts })
     }

@@ -1,11 +1,11 @@
-//! A question from its arguments to its whole answer, or to the sentence that refuses it.
+//! A question on colours from its arguments to its whole answer, or to the sentence that refuses it.
 
 use std::ffi::{OsStr, OsString};
 use std::path::Path;
 
 use crate::colour::{self, Colour};
 use crate::index::{told, Asked};
-use crate::log::Log;
+use crate::log::{Entry, Log};
 use crate::number::{count, from_one_to};
 use crate::{draw, file, program};
 
@@ -17,7 +17,7 @@ pub fn report(log: &OsStr, colours: &OsStr, t: &OsStr, program: Option<&OsString
     let answer = asked.answer().map_err(told)?;
     let compared = program.map_or(Ok(String::new()), |program| program::compare(program, &asked, &answer))?;
     let (read, counted) = (read_line(&log), counted_line(log.tanks.len(), &colours, t));
-    let (picture, spells) = (draw::picture(&log, &answer.rows), draw::spells(&log, &answer.spells));
+    let (picture, spells) = (draw::picture(log.span(), &answer.rows), draw::spells(log.span(), &answer.spells));
     Ok(format!("{read}\n{counted}\n\n{picture}\n{spells}{compared}"))
 }
 
@@ -29,13 +29,15 @@ fn threshold(text: &str, tanks: usize) -> Result<usize, String> {
     })
 }
 
-fn read_line(log: &Log) -> String {
-    let (tanks, half_hours) = (count(log.tanks.len(), "tank"), count(log.rows(), "half hour"));
-    format!("Read: {tanks}, {half_hours} from {} to {}.", log.from.shown(true), log.end().shown(true))
+/// What was read of a log.
+pub fn read_line<E: Entry>(log: &Log<E>) -> String {
+    let span = log.span();
+    let (tanks, half_hours) = (count(log.tanks.len(), "tank"), count(span.rows, "half hour"));
+    format!("Read: {tanks}, {half_hours} from {} to {}.", span.from.shown(true), span.end().shown(true))
 }
 
 fn counted_line(tanks: usize, colours: &[Colour], t: usize) -> String {
-    let colours = colour::joined(colours);
+    let colours = colour::any_of(colours);
     match tanks {
         1 => format!("Counted: whether the 1 tank was {colours} in a half hour; shown: when it was."),
         _ => {

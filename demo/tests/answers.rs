@@ -3,11 +3,15 @@
 mod common;
 #[path = "common/days.rs"]
 mod days;
+#[path = "common/drawn.rs"]
+mod drawn;
+#[path = "common/numbers.rs"]
+mod numbers;
 #[path = "common/read.rs"]
 mod read;
 
 use common::{log_text, repository, tanks, Folder};
-use days::Day;
+use numbers::{Numbers, BEGINNINGS};
 
 /// A question, and what counting says.
 struct Case {
@@ -38,44 +42,19 @@ impl Case {
         let log = folder.write("log", log_text(&self.from, &self.letters));
         let out = tanks(&[log.as_os_str(), self.colours.as_ref(), self.t.to_string().as_ref()]).answered();
         let whole = days::half_hours(&self.from, self.rows(), true);
-        assert_eq!(out.lines().next(), Some(self.first_line(&whole).as_str()));
+        assert_eq!(out.lines().next(), Some(drawn::first_line(self.letters.len(), &whole).as_str()));
         let with_year = !whole[self.rows()].0.ends_with(&self.from[..4]);
         let set = self.counted();
         assert_eq!(read::spells(&out, &days::half_hours(&self.from, self.rows(), with_year)), set, "{out}");
-        let starts = (0..set.len()).filter(|row| set[*row] && (*row == 0 || !set[*row - 1])).count();
-        assert_eq!(read::sum(&out), (set.iter().filter(|held| **held).count(), starts), "{out}");
+        assert_eq!(read::sum(&out), read::counted(&set), "{out}");
         let picture = self.picture(&set, with_year);
         assert!(out.contains(&picture), "{out}\n{picture}");
     }
 
-    /// What was read. `whole` has dates with their years.
-    fn first_line(&self, whole: &[(String, String)]) -> String {
-        let s = |n: usize| if n == 1 { "" } else { "s" };
-        let (tanks, rows) = (self.letters.len(), self.rows());
-        let shown = if rows < 1000 { rows.to_string() } else { format!("{},{:03}", rows / 1000, rows % 1000) };
-        let ((first, first_time), (last, last_time)) = (&whole[0], &whole[rows]);
-        let (tanks, rows) = (format!("{tanks} tank{}", s(tanks)), format!("{shown} half hour{}", s(rows)));
-        format!("Read: {tanks}, {rows} from {first} {first_time} to {last} {last_time}.")
-    }
-
     /// The lines of the days, sign by sign.
     fn picture(&self, set: &[bool], with_year: bool) -> String {
-        let (date, time) = self.from.split_once(' ').expect("date and time");
-        let before: usize = time[..2].parse::<usize>().expect("an hour") * 2 + usize::from(time.ends_with("30"));
-        let mut padded: Vec<Option<bool>> = vec![None; before];
-        padded.extend(set.iter().map(|held| Some(*held)));
-        padded.resize(padded.len().div_ceil(48) * 48, None);
-        let mut day = Day::of(date);
-        let mut text = String::from("            0  6  12 18 24\n");
-        if with_year {
-            text.insert_str(0, "     ");
-        }
-        for line in padded.chunks(48) {
-            let signs: String = line.chunks(4).map(sign).collect();
-            text += &format!("{} |{signs}|\n", day.shown(with_year, true));
-            day = day.next();
-        }
-        let blank = if text.contains("| ") || text.contains(" |\n") { ", blank not in the log" } else { "" };
+        let text = drawn::days(&self.from, set, with_year, "", sign, |_| String::new());
+        let blank = if drawn::has_blank(&text) { ", blank not in the log" } else { "" };
         format!("# all of two hours, + part, . none{blank}\n\n{text}\n")
     }
 }
@@ -92,54 +71,32 @@ fn sign(two_hours: &[Option<bool>]) -> char {
     }
 }
 
-/// A small source of numbers, the same in every run.
-struct Numbers(u64);
-
-impl Numbers {
-    /// From 0 to `below - 1`.
-    fn below(&mut self, below: usize) -> usize {
-        self.0 = self.0.wrapping_mul(6_364_136_223_846_793_005).wrapping_add(1_442_695_040_888_963_407);
-        (self.0 >> 33) as usize % below
-    }
-
-    /// Letters that mostly stay as they are.
-    fn letters(&mut self, rows: usize) -> String {
-        let mut letter = 'g';
-        let mut letters = String::new();
-        for _ in 0..rows {
-            if self.below(6) == 0 {
-                letter = ['g', 'a', 'r'][self.below(3)];
-            }
-            letters.push(letter);
+/// Letters that mostly stay as they are.
+fn letters(numbers: &mut Numbers, rows: usize) -> String {
+    let mut letter = 'g';
+    let mut letters = String::new();
+    for _ in 0..rows {
+        if numbers.below(6) == 0 {
+            letter = ['g', 'a', 'r'][numbers.below(3)];
         }
-        letters
+        letters.push(letter);
     }
+    letters
+}
 
-    fn tanks(&mut self, tanks: usize, rows: usize) -> Vec<String> {
-        (0..tanks).map(|_| self.letters(rows)).collect()
-    }
+fn tanks_of(numbers: &mut Numbers, tanks: usize, rows: usize) -> Vec<String> {
+    (0..tanks).map(|_| letters(numbers, rows)).collect()
 }
 
 const COLOURS: [&str; 8] =
     ["green", "amber", "red", "amber+red", "red+amber", "green+red", "green+amber+red", "red+green+amber"];
-
-const BEGINNINGS: [&str; 8] = [
-    "2026-03-02 00:00",
-    "2026-03-02 23:30",
-    "2024-02-28 13:00",
-    "2023-02-28 22:30",
-    "2025-12-31 23:30",
-    "2000-02-29 00:30",
-    "2099-12-30 12:00",
-    "2100-02-27 06:30",
-];
 
 #[test]
 fn random_logs() {
     let mut numbers = Numbers(10);
     for i in 0..160 {
         let (tank_count, rows) = (1 + numbers.below(21), 1 + numbers.below(400));
-        let letters = numbers.tanks(tank_count, rows);
+        let letters = tanks_of(&mut numbers, tank_count, rows);
         let colours = COLOURS[numbers.below(COLOURS.len())];
         Case::new(BEGINNINGS[i % BEGINNINGS.len()], letters, colours, 1 + numbers.below(tank_count)).verify();
     }
@@ -149,7 +106,7 @@ fn random_logs() {
 fn every_length_around_the_segments_of_32() {
     let mut numbers = Numbers(11);
     for rows in 1..=98 {
-        let letters = numbers.tanks(3, rows);
+        let letters = tanks_of(&mut numbers, 3, rows);
         Case::new("2026-03-02 07:30", letters, "amber+red", 2).verify();
     }
 }
@@ -177,7 +134,7 @@ fn one_tank_and_one_half_hour() {
 #[test]
 fn as_many_tanks_as_there_can_be() {
     let mut numbers = Numbers(12);
-    let letters = numbers.tanks(21, 336);
+    let letters = tanks_of(&mut numbers, 21, 336);
     for colours in COLOURS {
         for t in [1, 2, 7, 20, 21] {
             Case::new("2026-03-02 00:00", letters.clone(), colours, t).verify();
@@ -189,7 +146,7 @@ fn as_many_tanks_as_there_can_be() {
 fn four_hundred_days_and_several_years() {
     let mut numbers = Numbers(13);
     for (from, days) in [("2023-12-30 23:30", 400), ("2026-03-02 00:00", 400), ("2099-02-27 12:00", 1100)] {
-        let letters = numbers.tanks(3, days * 48);
+        let letters = tanks_of(&mut numbers, 3, days * 48);
         Case::new(from, letters, "amber+red", 2).verify();
     }
 }

@@ -1,4 +1,5 @@
-//! The script `example/run`: what it refuses before anything is built, and what it prints where all was built.
+//! The scripts `example/run` and `example/ammonia`: what they refuse before anything is built, and what they print
+//! where all was built.
 
 mod common;
 #[path = "common/mock.rs"]
@@ -9,19 +10,31 @@ use std::os::unix::fs::symlink;
 use std::path::Path;
 use std::process::Command;
 
-use common::{log_text, repository, run, Folder, Told, TANKS};
+use common::{log_text, readings_text, repository, run, Folder, Told, AMMONIA, TANKS};
 use mock::Mock;
 
-/// The repository's own script, where `rt` and `cargo` fail loudly.
 fn unbuilt(folder: &Folder, arguments: &[&str]) -> Told {
+    unbuilt_script(folder, "example/run", arguments)
+}
+
+/// The repository's own script, where `rt` and `cargo` fail loudly.
+fn unbuilt_script(folder: &Folder, script: &str, arguments: &[&str]) -> Told {
     for tool in ["rt", "cargo"] {
         folder.script(&format!("tools/{tool}"), "echo \"$0 WAS RUN\" >&2\nexit 99");
     }
     let path = format!("{}:{}", folder.path("tools").display(), std::env::var("PATH").expect("a PATH"));
-    run(Command::new(repository("example/run")).args(arguments).env("PATH", path).current_dir(&folder.0))
+    run(Command::new(repository(script)).args(arguments).env("PATH", path).current_dir(&folder.0))
 }
 
-/// Both refuse, in the same words.
+/// Both refuse, in the same words, and the script before anything is built.
+fn refused_alike(folder: &Folder, script: &str, demo: &str, arguments: &[&str]) {
+    let demo = run(Command::new(demo).args(arguments).current_dir(&folder.0));
+    let script = unbuilt_script(folder, script, arguments);
+    assert!(demo.err.ends_with("Nothing was answered.\n"), "{arguments:?}: {demo:?}");
+    assert_eq!((script.status, script.out.as_str()), (Some(1), ""), "{arguments:?}: {script:?}");
+    assert_eq!(script.err, demo.err, "{arguments:?}");
+}
+
 #[test]
 fn wrong_arguments_are_refused_in_the_words_of_the_demo() {
     let folder = Folder::new();
@@ -59,11 +72,31 @@ fn wrong_arguments_are_refused_in_the_words_of_the_demo() {
         ["one.txt", "amber", "2"],
         ["marked.txt", "amber", "3"],
     ] {
-        let demo = run(Command::new(TANKS).args(arguments).current_dir(&folder.0));
-        let script = unbuilt(&folder, &arguments);
-        assert!(demo.err.ends_with("Nothing was answered.\n"), "{arguments:?}: {demo:?}");
-        assert_eq!((script.status, script.out.as_str()), (Some(1), ""), "{arguments:?}: {script:?}");
-        assert_eq!(script.err, demo.err, "{arguments:?}");
+        refused_alike(&folder, "example/run", TANKS, &arguments);
+    }
+}
+
+#[test]
+fn a_wrong_time_is_refused_in_the_words_of_the_demo() {
+    let folder = Folder::new();
+    folder.write("log.txt", readings_text("2026-03-09 00:00", &[vec![None; 48], vec![None; 48]], 12));
+    let dates =
+        ",x,Mon,2026-3-9,26-03-09,2026-02-29,2026-02-30,2026-04-31,2026-13-01,2026-00-01,2026-01-00,1900-02-29,\
+                 0000-01-01,2026-03-09 , 2026-03-09,+2026-03-09,2026/03/09,20260309,tomorrow,-h-,*";
+    for date in dates.split(',') {
+        refused_alike(&folder, "example/ammonia", AMMONIA, &["log.txt", date, "00:00"]);
+        refused_alike(&folder, "example/ammonia", AMMONIA, &["none.txt", date, "00:15", "pond", "pond"]);
+    }
+    for time in ",x,24:00,29:00,00:10,00:15,7:30,00:3,00:300,00.30,0030,00:30:00,-1:00,noon".split(',') {
+        refused_alike(&folder, "example/ammonia", AMMONIA, &["log.txt", "2026-03-09", time]);
+    }
+    for log in ["none.txt", "none/log.txt", "log.txt/log", ".", ""] {
+        refused_alike(&folder, "example/ammonia", AMMONIA, &[log, "2026-03-09", "00:00"]);
+        refused_alike(&folder, "example/ammonia", AMMONIA, &[log]);
+    }
+    let usage = "Usage: example/ammonia [LOG [DATE TIME [FIRST SECOND]]].";
+    for arguments in [&["log.txt", "2026-03-09"][..], &["log.txt", "2026-03-09", "00:00", "tank 1"], &["1"; 6]] {
+        unbuilt_script(&folder, "example/ammonia", arguments).refused(usage);
     }
 }
 
@@ -92,6 +125,8 @@ fn help_builds_nothing() {
     for arguments in [&["-h"][..], &["--help"], &["none.txt", "blue", "0", "more", "-h"]] {
         let out = unbuilt(&folder, arguments).answered();
         assert!(out.starts_with("Usage: example/run [LOG [COLOURS [T]]].\n"), "{out}");
+        let out = unbuilt_script(&folder, "example/ammonia", arguments).answered();
+        assert!(out.starts_with("Usage: example/ammonia [LOG [DATE TIME [FIRST SECOND]]].\n"), "{out}");
     }
 }
 
@@ -100,8 +135,18 @@ fn help_builds_nothing() {
 fn what_is_right_is_built() {
     let folder = Folder::new();
     folder.write("log.txt", log_text("2026-03-02 00:00", &["gar"; 2]));
-    for arguments in [&[][..], &["log.txt", "red", "2"], &["log.txt", "red+amber+green", "1"]] {
-        let told = unbuilt(&folder, arguments);
+    for (script, arguments) in [
+        ("example/run", &[][..]),
+        ("example/run", &["log.txt", "red", "2"]),
+        ("example/run", &["log.txt", "red+amber+green", "1"]),
+        ("example/ammonia", &[]),
+        ("example/ammonia", &["log.txt"]),
+        ("example/ammonia", &["log.txt", "2024-02-29", "23:30"]),
+        ("example/ammonia", &["log.txt", "0001-01-01", "00:00", "tank 1", "tank 2"]),
+        // what can't be seen is shown by the demo
+        ("example/ammonia", &["log.txt", "2026-03-09\u{200b}", "00:00"]),
+    ] {
+        let told = unbuilt_script(&folder, script, arguments);
         assert!(told.status != Some(0) && told.out.is_empty() && told.err.contains("WAS RUN"), "{told:?}");
     }
 }
@@ -138,6 +183,31 @@ fn the_answer_stands_alone_on_standard_output() {
     assert_eq!(calls[4..], [cargo, "ZVONUREL_LIB=target/staticlib"]);
     run(&mut mock.command(mock.path("example/run")));
     assert!(!mock.calls().contains(&"rt staticlib zvonurel_c".to_string()), "it is proved once");
+}
+
+/// Where neither a log nor a time is named the example is asked, and else what is named.
+#[test]
+fn readings_stand_alone_on_standard_output() {
+    let mock = Mock::new();
+    let week = mock.path("example/ammonia.txt").display().to_string();
+    let expected = fs::read_to_string(repository("example/ammonia-1-2.txt")).expect("the expected answer");
+    let log = mock.folder.write("else where/my log.txt", fs::read(&week).expect("the week"));
+    let told = run(mock.command(mock.path("example/ammonia")).env("ZVONUREL_LIB", "elsewhere"));
+    assert_eq!((told.status, told.out.as_str()), (Some(0), expected.as_str()), "{}", told.err);
+    let calls = mock.calls();
+    assert!(calls.contains(&"rt staticlib zvonurel_c".to_string()), "{calls:?}");
+    assert_eq!(calls.last().map(String::as_str), Some("ZVONUREL_LIB=target/staticlib"));
+    let (folder, script) = (log.parent().expect("a folder"), mock.path("example/ammonia"));
+    for words in [&["2026-03-15", "23:30"][..], &["2026-03-12", "22:00", "tank 3", "tank 1"]] {
+        let told = run(mock.command(&script).arg("my log.txt").args(words).current_dir(folder));
+        let demo = run(Command::new(AMMONIA).arg(&week).args(words));
+        assert_eq!((told.status, told.out), (Some(0), demo.out), "{}", told.err);
+    }
+    let piped = "cat \"$1\" | \"$2\" /dev/stdin";
+    let told = run(mock.command("sh").args(["-c", piped, "sh"]).arg(&week).arg(&script));
+    assert_eq!((told.status, told.out.as_str()), (Some(0), expected.as_str()), "{}", told.err);
+    let told = run(mock.command(&script).arg(&week).args(["2026-03-16", "00:00"]));
+    assert!(told.status == Some(1) && told.out.is_empty() && told.err.ends_with("Nothing was answered.\n"), "{told:?}");
 }
 
 /// A relative log is the caller's, and a relative script too.

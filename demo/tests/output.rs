@@ -7,7 +7,7 @@ use std::os::fd::OwnedFd;
 use std::os::unix::net::UnixStream;
 use std::process::{Command, Stdio};
 
-use common::{repository, run, tanks, TANKS};
+use common::{ammonia, repository, run, tanks, TANKS};
 
 fn week() -> Command {
     let mut command = Command::new(TANKS);
@@ -21,6 +21,11 @@ fn help_is_no_fault() {
         let out = tanks(arguments).answered();
         assert!(out.starts_with("Usage: tanks LOG COLOURS T [--program PROGRAM].\n"), "{out}");
         assert!(["LOG", "COLOURS", "T ", "PROGRAM"].iter().all(|word| out.contains(&format!("\n  {word}"))), "{out}");
+    }
+    for arguments in [&["-h"][..], &["--help"], &["log", "-h"], &["log", "x", "x", "x", "x", "x", "--help"]] {
+        let out = ammonia(arguments).answered();
+        assert!(out.starts_with("Usage: ammonia LOG [DATE TIME [FIRST SECOND]].\n"), "{out}");
+        assert!(["LOG", "DATE TIME", "FIRST SECOND"].iter().all(|word| out.contains(&format!("\n  {word}"))), "{out}");
     }
 }
 

@@ -56,7 +56,7 @@ fn a_date_or_a_time_that_there_is_not() {
     let form = "write it as `from 2026-03-02 00:00`.";
     for date in ["2026-02-30", "2026-02-29", "2100-02-29", "2026-13-01", "2026-04-31", "0000-01-01", "Mon", "26-03-02"]
     {
-        log_refused(format!("tanks 1\nfrom {date} 00:00\n"), &format!(", line 2: there is no date `{date}`: {form}"));
+        log_refused(format!("tanks 1\nfrom {date} 00:00\n"), &format!(", line 2: `{date}` is no date: {form}"));
     }
     for date in ["0026-03-02", "1899-12-31", "2200-01-01"] {
         let words = format!(", line 2: the year of `{date}` is not one from 1900 to 2199: {form}");
@@ -111,7 +111,7 @@ fn a_name_that_can_be_mistaken() {
 fn a_line_without_a_name_a_colon_or_letters() {
     log_refused(
         format!("{HEAD}: ggaar\n"),
-        ", line 3: this tank has no name: write one before the colon, as `tank 1: gga`.",
+        ", line 3: this tank has no name: write one before the colon, as `tank 1`.",
     );
     log_refused(
         format!("{HEAD}tank 1 ggaar\n"),

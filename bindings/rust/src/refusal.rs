@@ -89,7 +89,9 @@ impl fmt::Display for Refusal {
                 None => write!(f, "a bad argument")?,
             },
             Refusal::NO_ROOM => write!(f, "the buffer is too short for an answer of {word} words")?,
-            Refusal::STRAY_ROW => write!(f, "bitmap {bitmap}: this slice has row {word}, which is not in the existence bitmap")?,
+            Refusal::STRAY_ROW => {
+                write!(f, "bitmap {bitmap}: this slice has row {word}, which is not in the existence bitmap")?
+            }
             _ => write!(f, "bitmap {bitmap}, word {word}")?,
         }
         write!(f, " (refusal {number})")

@@ -108,7 +108,10 @@ fn strays() {
     assert_eq!(out, [UNTOUCHED; 20]);
 
     let refusal = value(&EIGHT, &STRAY, 0).unwrap_err();
-    assert_eq!(refusal.to_string(), "bitmap 5: this slice has row 5, which is not in the existence bitmap (refusal 11)");
+    assert_eq!(
+        refusal.to_string(),
+        "bitmap 5: this slice has row 5, which is not in the existence bitmap (refusal 11)"
+    );
     assert_eq!(refusal.argument, None);
 }
 

@@ -1,5 +1,8 @@
 //! Days one behind the other, counted from one that is known: a second calendar, beside the demo's.
 
+// each file of tests uses a part of it
+#![allow(dead_code)]
+
 pub struct Day {
     pub year: u32,
     month: u32,
@@ -22,10 +25,15 @@ impl Day {
     /// The day of `YYYY-MM-DD`, from 2000 on. 1 January 2000 was a Saturday.
     pub fn of(date: &str) -> Day {
         let mut day = Day { year: 2000, month: 1, day: 1, weekday: 5 };
-        while format!("{}-{:02}-{:02}", day.year, day.month, day.day) != date {
+        while day.written() != date {
             day = day.next();
         }
         day
+    }
+
+    /// `2026-03-02`.
+    fn written(&self) -> String {
+        format!("{}-{:02}-{:02}", self.year, self.month, self.day)
     }
 
     pub fn next(self) -> Day {
@@ -52,6 +60,15 @@ impl Day {
 
 /// The half hours of a log and the one behind it: its date, and then its time of day.
 pub fn half_hours(from: &str, rows: usize, with_year: bool) -> Vec<(String, String)> {
+    each(from, rows, |day| day.shown(with_year, false))
+}
+
+/// The same, with dates as a question has them.
+pub fn asked(from: &str, rows: usize) -> Vec<(String, String)> {
+    each(from, rows, Day::written)
+}
+
+fn each(from: &str, rows: usize, shown: impl Fn(&Day) -> String) -> Vec<(String, String)> {
     let (date, time) = from.split_once(' ').expect("date and time");
     let mut day = Day::of(date);
     let clocks = (0..24).flat_map(|hour| ["00", "30"].map(|minute| format!("{hour:02}:{minute}")));
@@ -59,7 +76,7 @@ pub fn half_hours(from: &str, rows: usize, with_year: bool) -> Vec<(String, Stri
     let mut at = clocks.iter().position(|clock| clock == time).expect("a half hour");
     let mut found = Vec::new();
     while found.len() <= rows {
-        found.push((day.shown(with_year, false), clocks[at].clone()));
+        found.push((shown(&day), clocks[at].clone()));
         at += 1;
         if at == clocks.len() {
             (at, day) = (0, day.next());

@@ -9,8 +9,9 @@ use std::process::{Command, Output};
 use std::sync::atomic::{AtomicUsize, Ordering};
 use std::{env, fs, process};
 
-/// The demo.
+/// The demo: its command on colours, and that on readings.
 pub const TANKS: &str = env!("CARGO_BIN_EXE_tanks");
+pub const AMMONIA: &str = env!("CARGO_BIN_EXE_ammonia");
 
 /// What every refusal ends with.
 pub const REFUSED: &str = "Nothing was answered.\n";
@@ -68,6 +69,20 @@ pub fn log_text<S: AsRef<str>>(from: &str, letters: &[S]) -> String {
     format!("tanks {}\nfrom {from}\n{}", letters.len(), tanks.collect::<String>())
 }
 
+/// Hundredths of a milligram, or none.
+pub type Reading = Option<u32>;
+
+/// A log of tanks `tank 1`, `tank 2` and so on, with these readings, so many to a line.
+pub fn readings_text(from: &str, tanks: &[Vec<Reading>], line: usize) -> String {
+    let written = |reading: &Reading| reading.map_or("-".to_string(), |n| format!("{}.{:02}", n / 100, n % 100));
+    let mut text = format!("tanks {}\nfrom {from}\n", tanks.len());
+    for (readings, n) in tanks.iter().zip(1..) {
+        let lines = readings.chunks(line).map(|part| part.iter().map(written).collect::<Vec<_>>().join(" "));
+        text += &format!("tank {n}: {}\n", lines.collect::<Vec<_>>().join("\n"));
+    }
+    text
+}
+
 /// How a command ended, and what it said.
 #[derive(Debug)]
 pub struct Told {
@@ -98,4 +113,8 @@ pub fn run(command: &mut Command) -> Told {
 
 pub fn tanks<S: AsRef<OsStr>>(arguments: &[S]) -> Told {
     run(Command::new(TANKS).args(arguments))
+}
+
+pub fn ammonia<S: AsRef<OsStr>>(arguments: &[S]) -> Told {
+    run(Command::new(AMMONIA).args(arguments))
 }

@@ -44,3 +44,9 @@ pub fn sum(out: &str) -> (usize, usize) {
     let spells = spells.strip_suffix(" spell.").or(spells.strip_suffix(" spells.")).expect(line);
     (half_hours_of(length), spells.replace(',', "").parse().expect(line))
 }
+
+/// How many half hours are set, and in how many spells.
+pub fn counted(set: &[bool]) -> (usize, usize) {
+    let starts = (0..set.len()).filter(|row| set[*row] && (*row == 0 || !set[*row - 1])).count();
+    (set.iter().filter(|held| **held).count(), starts)
+}

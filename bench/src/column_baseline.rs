@@ -1,0 +1,131 @@
+//! The plain programs beside the questions on columns.
+
+use zvonurel::WORD_BITS;
+
+use crate::column_inputs::Columns;
+
+/// The slices of each column that is measured, and of their sum.
+pub const SLICES: usize = 16;
+const DIGITS: usize = SLICES + 1;
+
+/// Writes the plain words of the sum's slices, one slice behind the other. Rows that do not exist are added as well.
+pub type Adds = fn(&Columns, &mut [u32]);
+
+/// The programs, with their names.
+pub const SUMS: [(&str, Adds); 4] =
+    [("bit by bit", bit_by_bit), ("row by row", row_by_row), ("transposed", transposed), ("bit-sliced", bit_sliced)];
+
+/// The words that they write.
+pub fn sum_words(data: &Columns) -> usize {
+    DIGITS * data.segments()
+}
+
+/// The digits of one segment go to their slices, each of so many segments. Inlined, since a call costs the programs time.
+#[inline(always)]
+fn store(out: &mut [u32], segments: usize, at: usize, digits: [u32; DIGITS]) {
+    for (i, word) in digits.into_iter().enumerate() {
+        out[i * segments + at] = word;
+    }
+}
+
+/// The straightforward program: two arrays of values, row by row, each digit's bit set in its plain word where it lies.
+fn bit_by_bit(data: &Columns, out: &mut [u32]) {
+    let segments = data.segments();
+    let [first, second] = &data.values;
+    out.fill(0);
+    for (row, (x, y)) in first.iter().zip(second).enumerate() {
+        let sum = x + y;
+        for (i, slice) in out.chunks_exact_mut(segments).enumerate() {
+            slice[row / WORD_BITS] |= (sum >> i & 1) << (row % WORD_BITS);
+        }
+    }
+}
+
+/// The same with the words of a segment kept at hand until it is whole, so that `out` need not be cleared.
+fn row_by_row(data: &Columns, out: &mut [u32]) {
+    let segments = data.segments();
+    let [first, second] = data.values.each_ref().map(|values| values.chunks(WORD_BITS));
+    for (at, (first, second)) in first.zip(second).enumerate() {
+        let mut digits = [0; DIGITS];
+        let mut bit = 1;
+        for (x, y) in first.iter().zip(second) {
+            let sum = x + y;
+            for (i, word) in digits.iter_mut().enumerate() {
+                *word |= if sum & (1 << i) != 0 { bit } else { 0 };
+            }
+            bit <<= 1;
+        }
+        store(out, segments, at, digits);
+    }
+}
+
+// Each word of the square below has two rows.
+const _: () = assert!(2 * SLICES == WORD_BITS);
+
+/// The same arrays, 32 rows at once, transposed.
+fn transposed(data: &Columns, out: &mut [u32]) {
+    let segments = data.segments();
+    let [first, second] = data.values.each_ref().map(|values| values.as_chunks());
+    for (at, (first, second)) in first.0.iter().zip(second.0).enumerate() {
+        store(out, segments, at, transpose(first, second));
+    }
+    if !first.1.is_empty() {
+        store(out, segments, segments - 1, transpose(&padded(first.1), &padded(second.1)));
+    }
+}
+
+/// The last rows, and zeros.
+fn padded(values: &[u32]) -> [u32; WORD_BITS] {
+    std::array::from_fn(|k| values.get(k).copied().unwrap_or(0))
+}
+
+/// The digits of a segment's sums. The low ones are two squares of bits side by side, in which rows and columns change
+/// places; the highest is by itself.
+#[inline(always)]
+fn transpose(first: &[u32; WORD_BITS], second: &[u32; WORD_BITS]) -> [u32; DIGITS] {
+    let sums: [u32; WORD_BITS] = std::array::from_fn(|k| first[k] + second[k]);
+    let mut square: [u32; SLICES] = std::array::from_fn(|k| (sums[k] & 0xFFFF) | sums[k + SLICES] << SLICES);
+    swap::<8>(&mut square, 0x00FF_00FF);
+    swap::<4>(&mut square, 0x0F0F_0F0F);
+    swap::<2>(&mut square, 0x3333_3333);
+    swap::<1>(&mut square, 0x5555_5555);
+    let mut digits = [0; DIGITS];
+    digits[..SLICES].copy_from_slice(&square);
+    for (bit, sum) in sums.into_iter().enumerate() {
+        digits[SLICES] |= if sum & (1 << SLICES) != 0 { 1 << bit } else { 0 };
+    }
+    digits
+}
+
+/// Of each two words `J` apart, the high groups of `J` bits of the one go where the low ones of the other are.
+fn swap<const J: usize>(words: &mut [u32; SLICES], low: u32) {
+    for base in (0..SLICES).step_by(2 * J) {
+        for k in base..base + J {
+            let both = (words[k] >> J ^ words[k + J]) & low;
+            words[k + J] ^= both;
+            words[k] ^= both << J;
+        }
+    }
+}
+
+/// Segments worked on at once.
+const LANES: usize = 16;
+
+/// A full adder over the plain words of the slices: for a program that keeps columns as they are kept here, uncompressed.
+fn bit_sliced(data: &Columns, out: &mut [u32]) {
+    let segments = data.segments();
+    for at in (0..segments).step_by(LANES) {
+        let block = at..segments.min(at + LANES);
+        let mut carries = [0; LANES];
+        for i in 0..SLICES {
+            let words = data.plain(0, i + 1)[block.clone()].iter().zip(&data.plain(1, i + 1)[block.clone()]);
+            let sums = out[i * segments..][block.clone()].iter_mut().zip(&mut carries);
+            for ((sum, carry), (x, y)) in sums.zip(words) {
+                let odd = x ^ y;
+                *sum = odd ^ *carry;
+                *carry = (x & y) | (odd & *carry);
+            }
+        }
+        out[SLICES * segments..][block.clone()].copy_from_slice(&carries[..block.len()]);
+    }
+}

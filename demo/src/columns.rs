@@ -1,0 +1,94 @@
+//! The questions on columns to the library.
+
+use zvonurel::{BadArgument, IndexBuilder, Refusal, Spell};
+
+use crate::log::Log;
+use crate::reading::{Reading, SLICES};
+
+/// An index, and the lists that name its columns.
+pub struct Columns {
+    rows: u32,
+    index: Vec<u32>,
+    lists: Vec<Vec<u32>>,
+}
+
+impl Columns {
+    /// A column for each tank, in hundredths of a milligram. A half hour without a reading does not exist in it.
+    pub fn new(log: &Log<Reading>) -> Result<Columns, Refusal> {
+        // no more than a log may have
+        let rows = log.span().rows as u32;
+        let mut builder = IndexBuilder::new(rows);
+        let lists = log.tanks.iter().map(|tank| builder.add_column(&tank.entries, SLICES));
+        let lists = lists.collect::<Result<_, _>>()?;
+        Ok(Columns { rows, index: builder.build()?, lists })
+    }
+
+    /// The sum of two columns of that many slices, as the one column of a new index.
+    pub fn sum(&self, [first, second]: [usize; 2]) -> Result<Columns, Refusal> {
+        let mut index = vec![0; zvonurel::most_sum_words(self.rows, SLICES)];
+        let words = zvonurel::sum(&self.index, &self.lists[first], &self.lists[second], &mut index)?;
+        index.truncate(words);
+        let bitmaps = index[2];
+        Ok(Columns { rows: self.rows, index, lists: vec![(0..bitmaps).collect()] })
+    }
+
+    /// What a column has at a row, or none where the row does not exist in it.
+    pub fn value(&self, column: usize, row: usize) -> Result<Option<u64>, Refusal> {
+        match zvonurel::value(&self.index, &self.lists[column], row as u32) {
+            Err(Refusal { argument: Some(BadArgument::NoValue { .. }), .. }) => Ok(None),
+            told => told.map(Some),
+        }
+    }
+
+    /// What a column has at each row.
+    pub fn values(&self, column: usize) -> Result<Vec<Option<u64>>, Refusal> {
+        (0..self.rows as usize).map(|row| self.value(column, row)).collect()
+    }
+
+    /// The spells in which the rows of a column exist.
+    pub fn spells(&self, column: usize) -> Result<Vec<Spell>, Refusal> {
+        let existence = zvonurel::bitmap(&self.index, self.lists[column][0])?;
+        Ok(zvonurel::spells(existence, self.rows)?.collect())
+    }
+}
+
+#[cfg(test)]
+mod tests {
+    use super::*;
+
+    fn columns(tanks: &[&str]) -> Columns {
+        let lines: String = tanks.iter().zip(1..).map(|(readings, n)| format!("tank {n}: {readings}\n")).collect();
+        let text = format!("tanks {}\nfrom 2026-03-09 00:00\n{lines}", tanks.len());
+        let log = Log::read(&text).unwrap_or_else(|fault| panic!("{}", fault.what));
+        Columns::new(&log).expect("columns")
+    }
+
+    /// Three columns of 16 slices with existence are 51 bitmaps.
+    #[test]
+    fn every_tank_has_a_column() {
+        let columns = columns(&["0.00 0.01 655.35", "- - -", "- 1.00 -"]);
+        assert_eq!(columns.index[2], 51);
+        assert_eq!(columns.lists[1], (17..34).collect::<Vec<_>>());
+        assert_eq!(columns.values(0), Ok(vec![Some(0), Some(1), Some(65_535)]));
+        assert_eq!(columns.values(1), Ok(vec![None; 3]));
+        assert_eq!(columns.values(2), Ok(vec![None, Some(100), None]));
+        assert_eq!(columns.spells(2), Ok(vec![Spell { first: 1, length: 1 }]));
+        assert_eq!(columns.spells(1), Ok(Vec::new()));
+    }
+
+    #[test]
+    fn a_sum_is_where_both_are() {
+        let columns = columns(&["655.35 0.01 - 0.00 -", "655.35 - 0.02 0.00 -"]);
+        let sum = columns.sum([0, 1]).expect("a sum");
+        assert_eq!(sum.lists, [(0..18).collect::<Vec<_>>()]);
+        assert_eq!(sum.values(0), Ok(vec![Some(131_070), None, None, Some(0), None]));
+        assert_eq!(sum.spells(0), Ok(vec![Spell { first: 0, length: 1 }, Spell { first: 3, length: 1 }]));
+        assert_eq!(columns.sum([0, 0]).and_then(|sum| sum.value(0, 1)), Ok(Some(2)));
+    }
+
+    #[test]
+    fn any_other_refusal_is_one() {
+        let columns = columns(&["0.21 0.20"]);
+        assert_eq!(columns.value(0, 2).map_err(|refusal| refusal.number), Err(Refusal::BAD_ARGUMENT));
+    }
+}
