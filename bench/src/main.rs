@@ -54,7 +54,7 @@ T is {ENOUGH} for {TANKS} bitmaps, else half of them. The table of symmetric say
 1, 4, 7 and so on. Each figure is the best of several runs; `x` is the plain
 program's time divided by the library's, so above 1 the library is faster. The
 library checks the whole index in every call that takes one; plain programs
-check nothing. Those beside `sum` begin with arrays of values (row by row,
+check nothing. Those beside `sum` begin with arrays of values (bit by bit, row by row,
 transposed) or plain words of slices (bit-sliced), and leave existence out.
 
 Instruction counts of one call (build with --release):
