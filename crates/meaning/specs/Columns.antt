@@ -56,7 +56,7 @@ module _ (index : List ℕ) where
   unfolding rowCount existing
   badRow list r = leb (rowCount index) r || not (existing list r)
 
-  -- a slice has a row that does not exist
+  -- the rows that bitmap k, as a slice, has and that do not exist
   unfoldable pub strayRows : (exists : ℕ → Bool) (k : ℕ) → ℕ → Bool
   unfolding difference rowsAt
   strayRows exists k = difference (rowsAt index k) exists
