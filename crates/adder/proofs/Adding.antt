@@ -1,10 +1,9 @@
 -- Digits of sums: the digits of a number that digits by their weights make, those of the sum of two such numbers,
--- a full adder on words, and the carries from row to row.
+-- and the carries from row to row.
 -- Assumes nothing.
-use Prim.Native.Nat.{ℕ, zero, suc, _+_, _*_, _/_, _%_, _^_, _<_, max}
+use Prim.Native.Nat.{ℕ, zero, suc, _+_, _*_, _/_, _%_, _^_, _<_}
 use mathlib.Core.Path.{_≡_, sym, ap, ap₂, _∙_, subst}
 use mathlib.Core.List.{List}
-use lib.Bits.{bitAnd, bitOr, bitXor}
 use lib.Dec.{eqb, lit<}
 use lib.ListN.{getD, replicate, getD-replicate}
 use lib.Pow.{high}
@@ -16,11 +15,10 @@ use Rattle.meaning.specs.Limits.{blockSegments}
 use Rattle.meaning.specs.Rows.{bit, sumBelow}
 use Rattle.meaning.specs.Segment.{bitAt, isSet}
 use Rattle.meaning.specs.Column.{sumValue}
-use Rattle.words.proofs.BitLaws.{bit-lt, bit-set, half-sum, or-set, or-table}
-use Rattle.words.proofs.Entries.{Filled}
+use Rattle.words.proofs.BitLaws.{bit-lt}
 use Rattle.adder.specs.Digits.{numberAt}
 use Rattle.adder.specs.Blocks.{RowOf}
-use Rattle.adder.specs.Sums.{Added}
+use Rattle.words.specs.Sums.{Added}
 
 -- ---- digits by their weights
 
@@ -84,48 +82,6 @@ sum-digit f g n i l =
     ap (λ (k : ℕ). bitAt k i) (sum-weighed f g n)
     ∙ digit-of (λ i. addedAt f g i % 2) (λ i. mod-lt (addedAt f g i) (lit< tt)) n (carryInto f g n) i l
 
--- ---- a full adder
-
-or-max : (a b j : ℕ) → bitAt (bitOr a b) j ≡ max (bitAt a j) (bitAt b j)
-or-max a b j =
-    bit-set (bitOr a b) j ∙ ap bit (or-set a b j) ∙ sym (or-table (isSet a j) (isSet b j))
-    ∙ sym (ap₂ max (bit-set a j) (bit-set b j))
-
--- the digit and the carry of three bits
-abbrev pub digitWord : (a b c : ℕ) → ℕ
-digitWord a b c = bitXor (bitXor a b) c
-
-abbrev pub carryWord : (a b c : ℕ) → ℕ
-carryWord a b c = bitOr (bitAnd a b) (bitAnd (bitXor a b) c)
-
--- at each bit they are the sum of the three
-pub full-sum : (a b c j : ℕ)
-    → bitAt (digitWord a b c) j + 2 * bitAt (carryWord a b c) j ≡ bitAt a j + bitAt b j + bitAt c j
-full-sum a b c j =
-    omega (
-      arith,
-      half-sum a b j,
-      half-sum (bitXor a b) c j,
-      or-max (bitAnd a b) (bitAnd (bitXor a b) c) j,
-      bit-lt a j,
-      bit-lt b j,
-      bit-lt c j,
-      bit-lt (bitXor (bitXor a b) c) j,
-    )
-
--- word w of what f makes of three rows
-abbrev pub wordwise : (f : (a b c : ℕ) → ℕ) (a b c : List ℕ) (w : ℕ) → ℕ
-wordwise f a b c w = f (getD a w 0) (getD b w 0) (getD c w 0)
-
--- rows filled word by word by such an adder
-pub added-all : (a b c was digits carries : List ℕ)
-    → Filled (wordwise digitWord a b c) was digits blockSegments
-    → Filled (wordwise carryWord a b c) was carries blockSegments → Added a b c digits carries
-added-all a b c was digits carries d e = record {
-  sums = λ w j l.
-      rw (d .done w l, e .done w l) (full-sum (getD a w 0) (getD b w 0) (getD c w 0) j);
-}
-
 -- ---- from row to row
 
 -- the digits that the rows behind the first have at bit j of their word w
@@ -146,7 +102,7 @@ carrying-none x y = record { bits = λ w j l. rw (getD-replicate {A = ℕ} block
 
 module _ {x y a b c digits carries : List ℕ} {i : ℕ} (g : Carrying x y i c)
     (p : RowOf x ((i + 1) * blockSegments) a) (q : RowOf y ((i + 1) * blockSegments) b)
-    (s : Added a b c digits carries) where
+    (s : Added blockSegments a b c digits carries) where
   -- what is added up at digit i, at bit j of word w
   abbrev total : (w j : ℕ) → ℕ
   total w j = addedAt (digitsAt x w j) (digitsAt y w j) i

@@ -8,11 +8,11 @@ use lib.Bits.{bitAnd}
 use lib.ListN.{length, getD}
 use Rattle.meaning.specs.Limits.{blockSegments, blockWords}
 use Rattle.meaning.specs.Segment.{isSet}
+use Rattle.words.specs.Sums.{PartOf}
 
 -- r is the row of x that begins at `at`
-pub record RowOf (x : List ℕ) (at : ℕ) (r : List ℕ) : Type 0 where
-  pub long : length r ≡ blockSegments
-  pub words : (w : ℕ) → w < blockSegments → getD r w 0 ≡ getD x (at + w) 0
+abbrev pub RowOf : (x : List ℕ) (at : ℕ) (r : List ℕ) → Type 0
+RowOf = PartOf blockSegments
 
 -- the row of z that begins at `at` became the common bits of a and b, and all other words stay
 pub record PutBoth (a b z : List ℕ) (at : ℕ) (z′ : List ℕ) : Type 0 where

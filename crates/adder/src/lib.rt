@@ -7,7 +7,7 @@ ghost use lib.ListN.{length};
 ghost use Rattle.meaning.specs.Limits.{mostValueColumn, blockSegments, blockWords};
 ghost use Rattle.meaning.specs.Column.{sumValue};
 ghost use Rattle.adder.specs.Digits.{Paired};
-ghost use Rattle.adder.specs.Sums.{Added};
+ghost use Rattle.words.specs.Sums.{Added};
 use meaning::BLOCK_SEGMENTS;
 use meaning::BLOCK_WORDS;
 
@@ -21,7 +21,7 @@ struct Sums {
 
 // A full adder for each bit.
 fn add(a: [u32; BLOCK_SEGMENTS], b: [u32; BLOCK_SEGMENTS], c: [u32; BLOCK_SEGMENTS]) -> Sums
-    ensures { λ r. ⌜ Added a b c (r .digits) (r .carries) ⌝ }
+    ensures { λ r. ⌜ Added blockSegments a b c (r .digits) (r .carries) ⌝ }
 {
     let mut digits: [u32; BLOCK_SEGMENTS] = [0; BLOCK_SEGMENTS];
     let mut carries: [u32; BLOCK_SEGMENTS] = [0; BLOCK_SEGMENTS];

@@ -88,6 +88,15 @@ ones-take-suc w (x ∷ xs) (suc i) = omega (arith, ones-take-suc w xs i)
 pub ones-next : (w : ℕ) (xs : List ℕ) (i : ℕ) → ones w (take (i + 1) xs) ≡ ones w (take i xs) + countBelow w (isSet (getD xs i 0))
 ones-next w xs i = rw (add-one i) (ones-take-suc w xs i)
 
+-- THE LAW OF BLOCKS: the set bits of n segments from `at` on are the sum of what each of them has
+pub ones-block : (w : ℕ) (xs : List ℕ) (at n : ℕ)
+    → ones w (take (at + n) xs) ≡ ones w (take at xs) + sumBelow n (λ i. countBelow w (isSet (getD xs (at + i) 0)))
+unfolding sumBelow
+ones-block w xs at zero = let e : at + 0 ≡ at = omega arith in rw e (omega arith)
+ones-block w xs at (suc n) =
+    let e : at + suc n ≡ suc (at + n) = omega arith in
+    rw e (omega (arith, ones-take-suc w xs (at + n), ones-block w xs at n))
+
 pub ones-le : (w : ℕ) (xs : List ℕ) → ones w xs ≤ length xs * w
 unfolding ones
 ones-le w [] = omega arith

@@ -2,3 +2,4 @@ pub mod BitLaws
 pub mod Tests
 pub mod CounterLaws
 pub mod Entries
+pub mod Adders

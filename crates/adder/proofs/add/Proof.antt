@@ -6,7 +6,7 @@ use Prim.Native.Nat.{ℕ, _-_, _≤_}
 use lib.ListN.{replicate}
 use Rattle.meaning.specs.Limits.{blockSegments}
 use Rattle.words.proofs.Entries.{Filled, filled-from, filled-more}
-use Rattle.adder.proofs.Adding.{digitWord, carryWord, wordwise, added-all}
+use Rattle.words.proofs.Adders.{digitWord, carryWord, wordwise, added-all}
 use borrow.Author.Needs.{needs}
 use native.Mathlib.Omega.{arith}
 use Rattle.adder.proofs.add.Statement.{statement}
@@ -99,7 +99,7 @@ returns c =
     let h = c .before .loop in
     let a = c .before .before .args in
     let w-is : h .w ≡ blockSegments = omega arith in
-    added-all (a .t1) (a .t2) (a .t3) (replicate blockSegments 0) (h .digits) (h .carries)
+    added-all blockSegments (a .t1) (a .t2) (a .t3) (replicate blockSegments 0) (h .digits) (h .carries)
     (rw w-is at (h .inv .1)) (rw w-is at (h .inv .2))
 
 pub add-spec : {M : Type 1} → statement M
