@@ -3,7 +3,9 @@
 use std::hint::black_box;
 
 use crate::baseline::{bit_sliced, counters, row_by_row, Ask, Plain};
+use crate::bitwise::body_count_bitwise;
 use crate::inputs::Data;
+use crate::ones::count_ones;
 
 #[derive(Debug, Clone, Copy, PartialEq, Eq)]
 pub enum Call {
@@ -74,9 +76,11 @@ pub fn baselines(call: Call) -> Vec<Baseline> {
         Call::Check => vec![("add up the index", |d, out| {
             out.tally[0] = d.index.iter().fold(0, |sum, w| sum ^ w.wrapping_mul(3));
         })],
-        Call::Count | Call::BodyCount => vec![("count_ones", |d, out| {
-            out.tally[0] = d.plain(0).iter().map(|w| w.count_ones()).sum();
-        })],
+        Call::Count => vec![("count_ones", |d, out| out.tally[0] = count_ones(d.plain(0)))],
+        Call::BodyCount => vec![
+            ("count_ones", |d, out| out.tally[0] = count_ones(d.plain(0))),
+            ("bitwise", |d, out| out.tally[0] = body_count_bitwise(d.body(0), d.rows)),
+        ],
         Call::Expand | Call::ExpandBitmap | Call::Compress => vec![("copy", |d, out| {
             out.words.copy_from_slice(d.plain(0));
         })],

@@ -1,12 +1,15 @@
 //! Times of the library's calls beside plain programs over plain words.
 
 mod baseline;
+mod bitwise;
 mod calls;
 mod column_baseline;
 mod column_inputs;
 mod columns;
+mod counting;
 mod growth;
 mod inputs;
+mod ones;
 mod timing;
 
 use std::hint::black_box;
@@ -34,13 +37,17 @@ fn help() -> ExitCode {
 bench            {ROWS:?} rows, {BITMAPS:?} bitmaps (minutes); columns
 bench --quick    {QUICK_ROWS} rows, {QUICK_BITMAPS} bitmaps; columns
 bench --columns  the calls on columns alone
+bench --counting body_count and body_nth alone, beside more programs
 bench --one CALL KIND ROWS BITMAPS REPEATS
                  one call so many times, nothing else timed
 bench --one COLUMN-CALL COLUMN-KIND ROWS SLICES REPEATS
                  the same of two columns of so many slices each
 
 CALL   check count body_count expand expand_bitmap compress and threshold
-       symmetric histogram
+       symmetric histogram; body_nth nth (the last set row);
+       body_count_bitwise (body_count with the 32 bits of each dirty word
+       tested one by one, proved to the same contract), count_ones (Rust's,
+       over the plain words of bitmap 0)
 KIND   quiet (runs of 1,000 to 8,000 segments), calm (runs of 10 to 100
        segments, one to four mixed ones between them), dense (all mixed)
 
@@ -56,6 +63,9 @@ program's time divided by the library's, so above 1 the library is faster. The
 library checks the whole index in every call that takes one; plain programs
 check nothing. Those beside `sum` begin with arrays of values (bit by bit, row by row,
 transposed) or plain words of slices (bit-sliced), and leave existence out.
+`bitwise` beside `body_count` is body_count_bitwise. --counting has Rust's
+`count_ones` as the program is built, and built for popcnt, for avx2 and for
+avx512 (vpopcntdq), each where the machine has it.
 
 Instruction counts of one call (build with --release):
   valgrind --tool=callgrind --toggle-collect='*measured_call*' \\
@@ -72,9 +82,10 @@ fn main() -> ExitCode {
         [] => table(&ROWS, &BITMAPS),
         ["--quick"] => table(&[QUICK_ROWS], &[QUICK_BITMAPS]),
         ["--columns"] => columns::table(),
+        ["--counting"] => counting::table(),
         ["--one", call, kind, rows, of, repeats] => {
-            let done = one(call, kind, rows, of, repeats).or_else(|| columns::one(call, kind, rows, of, repeats));
-            if done.is_none() {
+            let ones = [one, counting::one, columns::one];
+            if ones.iter().all(|one| one(call, kind, rows, of, repeats).is_none()) {
                 return help();
             }
         }

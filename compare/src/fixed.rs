@@ -5,6 +5,7 @@ use zvonurel::{index_of, segments, INDEX_KIND, MOST_BITMAPS, MOST_INDEX_WORDS, M
 
 use crate::ask::words_needed;
 use crate::choose::ask_all;
+use crate::counting;
 use crate::encode::{entry_place, one_run, settled};
 use crate::generate::{Effort, Form, Input};
 use crate::question::{Call, Question};
@@ -95,6 +96,7 @@ pub fn run(session: &mut Session) {
     for (case, input) in inputs().iter().enumerate() {
         ask_all(session, input, &mut Random::for_case(0, case as u64));
     }
+    counting::run(session);
     column_corners(session);
     column_lengths(session);
     late_strays(session);

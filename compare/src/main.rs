@@ -4,6 +4,7 @@ mod ask;
 mod choose;
 mod choose_columns;
 mod columns;
+mod counting;
 mod encode;
 mod fixed;
 mod generate;
@@ -40,7 +41,7 @@ refusals that were reached. Exit code 1: a difference, or a refusal never
 reached.
 
 --mutate     builds one mistake after another into the reference; each has to
-             show as a difference within CASES cases
+             show as a difference within CASES cases, or in the fixed ones
 --long       indexes with the most bitmaps and some hundred thousand rows (some
              seconds each)
 --only CASE  this one case alone, without the fixed ones and the table
@@ -124,15 +125,20 @@ fn first_difference(session: &mut Session, options: &Options) -> Option<u64> {
     })
 }
 
+/// The same for the fixed cases, which have no number.
+fn in_fixed(session: &mut Session, options: &Options) -> Option<String> {
+    if !options.only {
+        fixed::run(session);
+    }
+    session.difference.as_ref().map(|_| "fixed".to_string())
+}
+
 fn compare(options: &Options) -> bool {
     let begun = Instant::now();
     let mut session = Session::new(None);
     let mut found = first_difference(&mut session, options).map(|case| case.to_string());
     let ordinary = begun.elapsed().as_secs_f64();
-    if found.is_none() && !options.only {
-        fixed::run(&mut session);
-        found = session.difference.as_ref().map(|_| "fixed".to_string());
-    }
+    found = found.or_else(|| in_fixed(&mut session, options));
     if let Some(case) = found {
         let difference = session.difference.take().expect("there is one");
         println!("DIFFERENCE  seed {}, case {case}", options.seed);
@@ -155,7 +161,8 @@ fn mutate(options: &Options) -> bool {
     let mut all = true;
     for &mistake in Mistake::ALL {
         let mut session = Session::new(Some(mistake));
-        match first_difference(&mut session, options) {
+        let shown = first_difference(&mut session, options).map(|case| case.to_string());
+        match shown.or_else(|| in_fixed(&mut session, options)) {
             Some(case) => {
                 let difference = session.difference.expect("there is one");
                 let call = difference.question.call;

@@ -5,9 +5,10 @@ use std::io::Write;
 use std::process::{Command, Stdio};
 use std::time::Instant;
 
-use zvonurel::{index_of, segments, Refusal, MOST_ROWS};
+use zvonurel::{index_of, segments, Refusal, MOST_ROWS, WORD_BITS};
 
-use crate::encode::{entry_place, one_run};
+use crate::counting::mixed_words;
+use crate::encode::{entry_place, marker, one_run};
 use crate::fixed::LOOPED;
 use crate::generate::{generate, Form};
 use crate::random::Random;
@@ -58,6 +59,13 @@ fn all_rows() -> Vec<u8> {
     question(1, &single(MOST_ROWS, &one_run(true, segments(MOST_ROWS))))
 }
 
+/// One bitmap of so many mixed segments: as many set rows as the program says before it lists them.
+fn mixed(segments: usize) -> Vec<u8> {
+    let words = mixed_words(&mut Random::for_case(0, segments as u64), segments);
+    let body = [&[marker(false, 0, segments)], &words[..]].concat();
+    question(1, &single((WORD_BITS * segments) as u32, &body))
+}
+
 /// Inputs that every run tries.
 fn fixed() -> Vec<Vec<u8>> {
     let mut inputs: Vec<Vec<u8>> = (0..=5).map(|n| vec![1; n]).collect();
@@ -80,6 +88,7 @@ fn fixed() -> Vec<Vec<u8>> {
     inputs.extend([MOST_BYTES + 1, MOST_BYTES + WORD_BYTES, FAR_BYTES].map(|n| vec![0; n]));
     inputs.extend([MOST_BYTES - 1, MOST_BYTES - 2].map(|n| padded(MOST_BYTES)[..n].to_vec()));
     inputs.push(all_rows());
+    inputs.extend([63, 64, 65, 127, 128, 129, 511, 512, 513, 1_024, 16_000].map(mixed));
     inputs
 }
 

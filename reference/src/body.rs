@@ -1,5 +1,8 @@
 //! One body: checking, reading, writing.
 
+use std::ops::Range;
+
+use crate::blocks;
 use crate::limits::{CLEAN_SHIFT, DIRTY_SHIFT, MOST_CLEAN, MOST_DIRTY, MOST_ROWS, WORD_BITS};
 use crate::mistakes::{mistaken, Mistake};
 use crate::refusal::{bad_argument, must_fit, refusal, too_many_rows, Refusal};
@@ -110,12 +113,15 @@ pub(crate) struct Body {
     /// One bool a row.
     pub rows: Vec<bool>,
     pub pieces: Vec<Piece>,
+    /// The segments under each marker's dirty words, for mistakes only.
+    pub dirties: Vec<Range<usize>>,
 }
 
 /// Takes a sound body apart.
 pub(crate) fn read(body: &[u32], rows: u32) -> Body {
     let mut bits = Vec::new();
     let mut pieces = Vec::new();
+    let mut dirties = Vec::new();
     let mut segment = 0;
     let mut at = 0;
     while at < body.len() {
@@ -126,6 +132,7 @@ pub(crate) fn read(body: &[u32], rows: u32) -> Body {
             segment += marker.clean;
             pieces.push(Piece { last: segment - 1, dirty: false });
         }
+        dirties.push(segment..segment + marker.dirty);
         for _ in 0..marker.dirty {
             let word = body[at];
             at += 1;
@@ -138,7 +145,7 @@ pub(crate) fn read(body: &[u32], rows: u32) -> Body {
     if !mistaken(Mistake::OnesRunOverPads) {
         bits.truncate(rows as usize);
     }
-    Body { rows: bits, pieces }
+    Body { rows: bits, pieces, dirties }
 }
 
 /// A lone body, checked and then taken apart.
@@ -159,16 +166,23 @@ pub(crate) fn row_in(bits: &[bool], rows: u32, row: u32) -> Result<bool, Refusal
     Ok(bits[row as usize])
 }
 
-pub(crate) fn count_in(bits: &[bool]) -> u32 {
-    bits.iter().filter(|&&set| set).count() as u32
+/// How many of these rows are set.
+pub(crate) fn set_in(bits: &[bool]) -> usize {
+    bits.iter().filter(|&&set| set).count()
 }
 
-pub(crate) fn nth_in(bits: &[bool], n: u32) -> Result<u32, Refusal> {
-    let mut set = (0..bits.len()).filter(|&row| bits[row]);
-    if mistaken(Mistake::NthPastGivesLast) && n >= count_in(bits) {
+pub(crate) fn count_in(body: &Body) -> u32 {
+    (set_in(&body.rows) - blocks::left_out(body)) as u32
+}
+
+pub(crate) fn nth_in(body: &Body, n: u32) -> Result<u32, Refusal> {
+    let mut set = (0..body.rows.len()).filter(|&row| body.rows[row]);
+    if mistaken(Mistake::NthPastGivesLast) && n >= count_in(body) {
         return set.next_back().map(|row| row as u32).ok_or(bad_argument());
     }
-    set.nth(n as usize).map(|row| row as u32).ok_or(bad_argument())
+    let n = n as usize + blocks::kept_on(body, n as usize);
+    let row = set.nth(n).ok_or(bad_argument())?;
+    Ok((row - blocks::told_short(body, row)) as u32)
 }
 
 /// Plain words of rows; bits past the last row are zero.
@@ -189,12 +203,12 @@ pub fn body_row(body: &[u32], rows: u32, row: u32) -> Result<bool, Refusal> {
 
 /// How many rows a lone body has.
 pub fn body_count(body: &[u32], rows: u32) -> Result<u32, Refusal> {
-    Ok(count_in(&read_alone(body, rows)?.rows))
+    Ok(count_in(&read_alone(body, rows)?))
 }
 
 /// The nth set row of a lone body, from 0.
 pub fn body_nth(body: &[u32], rows: u32, n: u32) -> Result<u32, Refusal> {
-    nth_in(&read_alone(body, rows)?.rows, n)
+    nth_in(&read_alone(body, rows)?, n)
 }
 
 /// A lone body as plain words.

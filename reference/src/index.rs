@@ -123,12 +123,12 @@ pub fn row(index: &[u32], k: u32, row: u32) -> Result<bool, Refusal> {
 
 /// How many rows bitmap `k` has.
 pub fn count(index: &[u32], k: u32) -> Result<u32, Refusal> {
-    Ok(count_in(&open(index)?.body(k)?.rows))
+    Ok(count_in(&open(index)?.body(k)?))
 }
 
 /// The nth set row of bitmap `k`, from 0.
 pub fn nth(index: &[u32], k: u32, n: u32) -> Result<u32, Refusal> {
-    nth_in(&open(index)?.body(k)?.rows, n)
+    nth_in(&open(index)?.body(k)?, n)
 }
 
 /// Bitmap `k` as plain words.

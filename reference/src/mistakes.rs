@@ -91,6 +91,16 @@ pub enum Mistake {
     SumCutAtWord,
     /// The last slice of a list of `MOST_VALUED` numbers isn't searched for strays.
     LastSliceUnsearched,
+    /// The words behind a marker's last whole block of 64 dirty ones aren't counted.
+    WordsPastBlocksMissed,
+    /// Of a marker's whole blocks only the first is counted.
+    LaterBlocksMissed,
+    /// A bit column of a block with its 16 bits set counts 0: the last carry is lost.
+    FullColumnsMissed,
+    /// Nth passes a block of 512 dirty words without taking its set rows off.
+    PassedBlockKept,
+    /// An nth row in a later block of 512 is told as if it lay in its marker's first.
+    NthInFirstBlock,
 }
 
 impl Mistake {
@@ -138,6 +148,11 @@ impl Mistake {
         Mistake::NeedWithoutContents,
         Mistake::SumCutAtWord,
         Mistake::LastSliceUnsearched,
+        Mistake::WordsPastBlocksMissed,
+        Mistake::LaterBlocksMissed,
+        Mistake::FullColumnsMissed,
+        Mistake::PassedBlockKept,
+        Mistake::NthInFirstBlock,
     ];
 }
 

@@ -2,7 +2,7 @@
 
 mod common;
 use common::*;
-use reference::limits::{MOST_CLEAN, MOST_DIRTY, MOST_SUMMED, MOST_VALUED, WORD_BITS};
+use reference::limits::{DIRTY_SHIFT, MOST_CLEAN, MOST_DIRTY, MOST_SUMMED, MOST_VALUED, WORD_BITS};
 use reference::*;
 
 const ANY: usize = usize::MAX;
@@ -61,6 +61,33 @@ fn bodies_of(sum: &[u32]) -> Vec<&[u32]> {
     (0..sum[2]).map(|k| &sum[bitmap(sum, k).unwrap()]).collect()
 }
 
+/// So many segments under one marker's dirty words, each with its lowest row set.
+fn lowest_rows(segments: usize) -> (Vec<u32>, u32) {
+    let mut body = vec![(segments as u32) << DIRTY_SHIFT];
+    body.resize(1 + segments, 1);
+    (body, (WORD_BITS * segments) as u32)
+}
+
+/// The same for the mistakes about blocks of dirty words.
+fn block_case(m: Mistake) -> String {
+    let counted = |segments| {
+        let (body, rows) = lowest_rows(segments);
+        format!("{:?}", body_count(&body, rows))
+    };
+    let nth_of = |segments, n| {
+        let (body, rows) = lowest_rows(segments);
+        format!("{:?}", body_nth(&body, rows, n))
+    };
+    match m {
+        Mistake::WordsPastBlocksMissed => counted(130),
+        Mistake::LaterBlocksMissed => counted(193),
+        Mistake::FullColumnsMissed => counted(67),
+        Mistake::PassedBlockKept => nth_of(1_100, 1_030),
+        Mistake::NthInFirstBlock => nth_of(1_100, 1_025),
+        _ => column_case(m),
+    }
+}
+
 /// A result in words, the case chosen for this mistake.
 fn case(m: Mistake) -> String {
     let list = [0, 1, 2];
@@ -92,7 +119,7 @@ fn case(m: Mistake) -> String {
         Mistake::HighThresholdEmpty => format!("{:x?}", threshold(&LOOPED, &list, 4, ANY)),
         Mistake::IdleMarkerRefused => format!("{:?}", check(&index_of(32, &[&[0, 2]]))),
         Mistake::NoRoomTellsBuffer => format!("{:?}", threshold(&LOOPED, &list, 2, 1)),
-        _ => column_case(m),
+        _ => block_case(m),
     }
 }
 
@@ -151,6 +178,24 @@ fn column_expected(m: Mistake) -> (String, String) {
     }
 }
 
+/// The same for the mistakes about blocks of dirty words.
+fn block_expected(m: Mistake) -> (String, String) {
+    let text = |s: &str| s.to_string();
+    match m {
+        // Two blocks of 64 and 2 words.
+        Mistake::WordsPastBlocksMissed => (text("Ok(130)"), text("Ok(128)")),
+        // Three blocks and a word.
+        Mistake::LaterBlocksMissed => (text("Ok(193)"), text("Ok(65)")),
+        // Four columns of 16.
+        Mistake::FullColumnsMissed => (text("Ok(67)"), text("Ok(3)")),
+        // Two blocks of 512 are passed, and 1,030 rows are still to pass in 76.
+        Mistake::PassedBlockKept => (text("Ok(32960)"), refused(8, 0, 0)),
+        // Row 0 of segment 1,025, told as of segment 1.
+        Mistake::NthInFirstBlock => (text("Ok(32800)"), text("Ok(32)")),
+        _ => column_expected(m),
+    }
+}
+
 /// (without, with) as they should be.
 fn expected(m: Mistake) -> (String, String) {
     let bad = || refused(8, 0, 0);
@@ -179,13 +224,13 @@ fn expected(m: Mistake) -> (String, String) {
         Mistake::HighThresholdEmpty => (bad(), answer("2", 1)),
         Mistake::IdleMarkerRefused => (text("Ok(())"), refused(6, 0, 5)),
         Mistake::NoRoomTellsBuffer => (refused(9, 0, 2), refused(9, 0, 1)),
-        _ => column_expected(m),
+        _ => block_expected(m),
     }
 }
 
 #[test]
 fn each_mistake_shows() {
-    assert_eq!(Mistake::ALL.len(), 43);
+    assert_eq!(Mistake::ALL.len(), 48);
     for (place, &m) in Mistake::ALL.iter().enumerate() {
         assert!(!Mistake::ALL[..place].contains(&m));
         let before = case(m);

@@ -1,4 +1,4 @@
-// The nth set row, in one pass: markers are passed by their counts until one has it.
+// The nth set row, in one pass: markers, and blocks of their dirty words, are passed by their counts until one has it.
 ghost use mathlib.Core.Path.{_≡_};
 ghost use mathlib.Core.List.{_++_};
 ghost use Prim.Native.Nat.{ℕ, _*_, _≤_, _<_};
@@ -13,6 +13,9 @@ ghost use Rattle.ewah_read.specs.Found.{foundOf, SoughtIn};
 use crate::count;
 use ewah::marker;
 use words::bits;
+
+// The words of a block: they are counted together, and one by one only where the block has the bit.
+const SKIP_WORDS: usize = 512;
 
 // The set bit of the words that has k set bits before it, as a row of theirs.
 fn find(ws: &[u32], k: u32) -> u32
@@ -32,13 +35,60 @@ fn find(ws: &[u32], k: u32) -> u32
     0
 }
 
-// What the segments of one marker say of a set row that is asked for: it is this row of theirs, or so many set rows are still to pass.
+// What the segments of one marker say of a set row that is asked for: it is this row of theirs, or so many set rows are
+// still to pass.
 pub enum Sought {
     Here(u32),
     Ahead(u32),
 }
 
-// The row of one marker's segments that has k set rows before it.
+// Where the block of words that begins at `at` ends: SKIP_WORDS further, or with the words.
+fn block_end(at: usize, len: usize) -> usize
+    requires { ⌜ (at < len) × (len ≤ mostDirty) ⌝ }
+    ensures { λ r. ⌜ (at < r) × (r ≤ len) ⌝ }
+{
+    let end = at + SKIP_WORDS;
+    if end < len {
+        return end;
+    }
+    len
+}
+
+// The set bit of the words that has k set bits before it: blocks of words are passed by their counts until one has it.
+fn seek_blocks(ws: &[u32], k: u32) -> Sought
+    requires { ⌜ length (now ws) ≤ mostDirty ⌝ }
+    ensures { λ r. ⌜ SoughtIn (now (ws .entry)) k r ⌝ }
+{
+    let mut ahead = k;
+    let mut i = 0;
+    while i < ws.len() {
+        let end = block_end(i, ws.len());
+        let inside = popcount::count(ws, i, end);
+        if ahead < inside {
+            return Sought::Here(i as u32 * 32 + find(&ws[i..end], ahead));
+        }
+        ahead -= inside;
+        i = end;
+    }
+    Sought::Ahead(ahead)
+}
+
+// The same: blocks only where there is more than one.
+fn seek_words(ws: &[u32], k: u32) -> Sought
+    requires { ⌜ length (now ws) ≤ mostDirty ⌝ }
+    ensures { λ r. ⌜ SoughtIn (now (ws .entry)) k r ⌝ }
+{
+    if SKIP_WORDS < ws.len() {
+        return seek_blocks(ws, k);
+    }
+    let here = count::count_words(ws, 0, ws.len());
+    if k < here {
+        return Sought::Here(find(ws, k));
+    }
+    Sought::Ahead(k - here)
+}
+
+// The row of one marker's segments that has k set rows before it: the clean run is passed first.
 fn seek(value: u32, clean: u32, ws: &[u32], k: u32) -> Sought
     requires { ⌜ (value < 2) × (clean ≤ mostClean) × (length (now ws) ≤ mostDirty) ⌝ }
     ensures { λ r. ⌜ SoughtIn (replicate clean (fill 32 32 value) ++ now (ws .entry)) k r ⌝ }
@@ -47,12 +97,10 @@ fn seek(value: u32, clean: u32, ws: &[u32], k: u32) -> Sought
     if k < run {
         return Sought::Here(k);
     }
-    let ahead = k - run;
-    let here = count::count_words(ws);
-    if ahead < here {
-        return Sought::Here(clean * 32 + find(ws, ahead));
+    match seek_words(ws, k - run) {
+        Sought::Here(r) => Sought::Here(clean * 32 + r),
+        Sought::Ahead(j) => Sought::Ahead(j),
     }
-    Sought::Ahead(ahead - here)
 }
 
 // The row that was asked for, or that there are not so many set rows.

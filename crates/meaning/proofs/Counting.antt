@@ -2,11 +2,11 @@
 -- Assumes nothing.
 use Prim.Native.Nat.{ℕ, zero, suc, _+_, _-_, _*_, _/_, _%_, _^_, _≤_, _<_}
 use mathlib.Core.Bool.{Bool, true, false, true≢false}
-use mathlib.Core.Path.{_≡_, refl, sym, ap, _∙_}
+use mathlib.Core.Path.{_≡_, refl, sym, ap, ap₂, _∙_}
 use mathlib.Core.List.{List, [], _∷_, _++_}
 use lib.ListN.{length, getD, take, drop, replicate, take-append-drop, length-append, length-replicate, getD-replicate, List·getD-append}
 use lib.Pow.{pow-pos, ones-split, high, ones-lt}
-use lib.Seq.{take-length, getD-append-add}
+use lib.Seq.{take-length, length-take-le, take-add, getD-append-add, getD-drop}
 use native.Mathlib.Nat.{zero-div, div-add-mod', mod-lt, div-lt-iff-lt-mul, zero-mul, one-mul, suc-mul, add-mul, mul-le-mul-right}
 use native.Mathlib.Decide.{decLe}
 use native.Mathlib.Numerals.{add-one}
@@ -88,14 +88,22 @@ ones-take-suc w (x ∷ xs) (suc i) = omega (arith, ones-take-suc w xs i)
 pub ones-next : (w : ℕ) (xs : List ℕ) (i : ℕ) → ones w (take (i + 1) xs) ≡ ones w (take i xs) + countBelow w (isSet (getD xs i 0))
 ones-next w xs i = rw (add-one i) (ones-take-suc w xs i)
 
--- THE LAW OF BLOCKS: the set bits of n segments from `at` on are the sum of what each of them has
+-- THE LAW OF BLOCKS: the set bits of the n segments from `at` on are the sum of what each of them has
 pub ones-block : (w : ℕ) (xs : List ℕ) (at n : ℕ)
-    → ones w (take (at + n) xs) ≡ ones w (take at xs) + sumBelow n (λ i. countBelow w (isSet (getD xs (at + i) 0)))
-unfolding sumBelow
-ones-block w xs at zero = let e : at + 0 ≡ at = omega arith in rw e (omega arith)
+    → ones w (take n (drop at xs)) ≡ sumBelow n (λ i. countBelow w (isSet (getD xs (at + i) 0)))
+unfolding ones sumBelow
+ones-block w xs at zero = refl
 ones-block w xs at (suc n) =
-    let e : at + suc n ≡ suc (at + n) = omega arith in
-    rw e (omega (arith, ones-take-suc w xs (at + n), ones-block w xs at n))
+    ones-take-suc w (drop at xs) n
+    ∙ ap₂ (λ (m k : ℕ). m + k) (ones-block w xs at n) (ap (λ (x : ℕ). countBelow w (isSet x)) (getD-drop at xs n 0))
+
+-- the segments up to e, as code lends those from i on
+pub ones-part : (w : ℕ) (xs : List ℕ) (i e : ℕ) → i ≤ e
+    → ones w (take e xs) ≡ ones w (take i xs) + ones w (take (e - i) (drop i xs))
+ones-part w xs i e h =
+    let k : i + (e - i) ≡ e = omega arith in
+    ap (λ (n : ℕ). ones w (take n xs)) (sym k) ∙ ap (ones w) (take-add i (e - i) xs)
+    ∙ ones-append w (take i xs) (take (e - i) (drop i xs))
 
 pub ones-le : (w : ℕ) (xs : List ℕ) → ones w xs ≤ length xs * w
 unfolding ones
@@ -170,6 +178,15 @@ module _ (w : ℕ) (pos : 0 < w) where
               a .before,
             );
       }
+
+  -- in the m segments from i on
+  pub nth-part : (xs : List ℕ) (i m n r : ℕ) → i ≤ length xs
+      → IsNth (length (take m (drop i xs)) * w) (hasRow w (take m (drop i xs))) n r
+      → IsNth (length xs * w) (hasRow w xs) (ones w (take i xs) + n) (i * w + r)
+  nth-part xs i m n r h a =
+      let rest : IsNth (length (drop i xs) * w) (hasRow w (drop i xs)) n r =
+      rw (take-append-drop m (drop i xs)) at (nth-left (take m (drop i xs)) (drop m (drop i xs)) n r a) in
+      rw (take-append-drop i xs, length-take-le i xs h) at (nth-right (take i xs) (drop i xs) n r rest)
 
   -- in segment i
   pub nth-word : (xs : List ℕ) (i n j : ℕ) → i < length xs → IsNth w (isSet (getD xs i 0)) n j → IsNth (length xs * w) (hasRow w xs) (ones w (take i xs) + n) (i * w + j)

@@ -1,15 +1,15 @@
 -- Set bits of vectors and of parts of a list of words, as sums of what each word has.
 -- Assumes nothing.
-use Prim.Native.Nat.{ℕ, zero, suc, _+_, _*_, _^_, _≤_, _<_}
+use Prim.Native.Nat.{ℕ, zero, suc, _+_, _-_, _*_, _^_, _≤_, _<_}
 use mathlib.Core.Path.{_≡_, refl, ap, _∙_}
 use mathlib.Core.List.{List}
-use lib.ListN.{length, getD, take, replicate, getD-replicate}
+use lib.ListN.{getD, take, drop, replicate, getD-replicate}
 use native.Mathlib.Numerals.{add-one}
 use native.Mathlib.Omega.{arith}
 use Rattle.meaning.specs.Rows.{bit, sumBelow, countBelow}
 use Rattle.meaning.specs.Limits.{mostSegments}
 use Rattle.meaning.specs.Segment.{bitAt, isSet, ones}
-use Rattle.meaning.proofs.Counting.{count-le, zero-count, ones-block, ones-take-le}
+use Rattle.meaning.proofs.Counting.{count-le, zero-count, ones-block}
 use Rattle.meaning.proofs.Sums.{sum-ext, sum-zero, sum-join}
 use Rattle.words.specs.Sums.{Added}
 use Rattle.words.proofs.BitLaws.{bit-set}
@@ -124,15 +124,50 @@ set-block x at =
     )
 
 -- the law of blocks, of words
-part-set : (x : List ℕ) (at n : ℕ) → ones 32 (take (at + n) x) ≡ ones 32 (take at x) + setIn x at n
+pub part-set : (x : List ℕ) (at n : ℕ) → ones 32 (take n (drop at x)) ≡ setIn x at n
 unfolding setIn
 part-set x at n = ones-block 32 x at n
 
--- a block more, of whose set bits 16 times s have left the planes
-pub block-next : (x : List ℕ) (i n s v v′ : ℕ) → v + 16 * n ≡ ones 32 (take i x)
-    → v′ + 16 * s ≡ setIn x i blockSize + v → v′ + 16 * (n + s) ≡ ones 32 (take (i + blockSize) x)
-block-next x i n s v v′ p q = omega (arith, p, q, part-set x i blockSize)
+pub set-none : (x : List ℕ) (at : ℕ) → setIn x at (at - at) ≡ 0
+unfolding setIn sumBelow
+set-none x at = let e : at - at ≡ 0 = omega arith in rw e
 
--- a part of the count fits a word
-pub part-fits : (x : List ℕ) (i m n : ℕ) → length x ≤ mostSegments → m + 16 * n ≡ ones 32 (take i x) → m + 16 * n < 2 ^ 32
-part-fits x i m n l e = omega (arith, e, ones-take-le 32 x i)
+-- a word more
+pub set-next : (x : List ℕ) (at n : ℕ) → setIn x at (n + 1) ≡ setIn x at n + setAt x (at + n)
+unfolding setIn sumBelow
+set-next x at n = rw (add-one n)
+
+pub set-le : (x : List ℕ) (at n : ℕ) → setIn x at n ≤ n * 32
+unfolding setIn sumBelow
+set-le x at zero = omega arith
+set-le x at (suc n) = omega (arith, set-le x at n, count-le 32 (isSet (getD x (at + n) 0)))
+
+-- ---- words from `from` to i, counted so far
+
+module _ (x : List ℕ) (from i : ℕ) (h : from ≤ i) where
+  -- the next word
+  pub each-next : (n : ℕ) → n ≡ setIn x from (i - from) → n + setAt x i ≡ setIn x from (i + 1 - from)
+  each-next n e =
+      let p : from + (i - from) ≡ i = omega arith in
+      let q : i + 1 - from ≡ i - from + 1 = omega arith in
+      rw (q, set-next x from (i - from), p) (omega (arith, e))
+
+  -- the next block, of whose set bits 16 times s have left the planes
+  pub block-next : (n s v v′ : ℕ) → v + 16 * n ≡ setIn x from (i - from)
+      → v′ + 16 * s ≡ setIn x i blockSize + v → v′ + 16 * (n + s) ≡ setIn x from (i + blockSize - from)
+  block-next n s v v′ p q =
+      let o : from + (i - from) ≡ i = omega arith in
+      let r : i + blockSize - from ≡ i - from + blockSize = omega arith in
+      rw (r, set-join x from (i - from) blockSize, o) (omega (arith, p, q))
+
+  -- what is counted fits a word
+  pub fits-word : i ≤ from + mostSegments → (m : ℕ) → m ≡ setIn x from (i - from) → m < 2 ^ 32
+  fits-word l m e = omega (arith, e, set-le x from (i - from))
+
+-- a part, and what is behind it up to its end
+pub set-parts : (x : List ℕ) (from mid to : ℕ) → from ≤ mid → mid ≤ to
+    → setIn x from (mid - from) + setIn x mid (to - mid) ≡ setIn x from (to - from)
+set-parts x from mid to h l =
+    let o : from + (mid - from) ≡ mid = omega arith in
+    let r : to - from ≡ mid - from + (to - mid) = omega arith in
+    rw (r, set-join x from (mid - from) (to - mid), o) refl

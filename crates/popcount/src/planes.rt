@@ -12,9 +12,6 @@ use crate::vector::Sums;
 // How many words two vectors have.
 const PAIR: usize = 2 * LANES;
 
-// How many words go through the adders together.
-pub const BLOCK: usize = 8 * PAIR;
-
 // The planes by the weight of their digits; `sixteens` are the carries of the last block.
 pub struct Planes {
     pub ones: [u32; LANES],

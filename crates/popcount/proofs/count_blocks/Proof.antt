@@ -1,51 +1,59 @@
--- `popcount::count_blocks` meets its contract. The invariant: what the planes hold and what has left them are the set bits of the first i
--- words, which are whole blocks.
+-- `popcount::count_blocks` meets its contract. The invariant: what the planes hold and what has left them are the set bits of the words
+-- from `from` to i, which are whole blocks.
 -- Assumes nothing.
 use mathlib.Core.Path.{_≡_, ap, _∙_}
 use Prim.Native.Nat.{ℕ, _+_, _-_, _*_, _%_, _^_, _≤_, _<_}
 use denote.Ref.{now}
-use lib.ListN.{take}
-use Rattle.meaning.specs.Segment.{ones}
-use Rattle.popcount.specs.Counts.{blockSize}
+use Rattle.meaning.specs.Limits.{mostSegments}
+use Rattle.popcount.specs.Counts.{blockSize, setIn}
 use Rattle.popcount.specs.Weights.{weight}
-use Rattle.popcount.proofs.Counted.{block-next, part-fits}
+use Rattle.popcount.proofs.Counted.{set-none, block-next, fits-word}
 use borrow.Author.Needs.{needs}
 use native.Mathlib.Omega.{arith}
 use Rattle.popcount.proofs.count_blocks.Tie as tie
 use Rattle.popcount.proofs.count_blocks.Statement.{statement}
 
 abbrev Inv-loop : tie.InvT-loop
-Inv-loop ws whole p₀ n₀ i₀ p n i =
-    (i ≤ whole) × (i % blockSize ≡ 0) × (weight p + 16 * n ≡ ones 32 (take i ws))
+Inv-loop ws from to p₀ n₀ i₀ p n i =
+    (from ≤ i) × (i ≤ to) × ((i - from) % blockSize ≡ 0) × (weight p + 16 * n ≡ setIn ws from (i - from))
 
 abbrev μ-loop : tie.MeasureT-loop
-μ-loop ws whole p₀ n₀ i₀ p n i = whole - i
+μ-loop ws from to p₀ n₀ i₀ p n i = to - i
 
 -- with the block that was added
 counted : (c : tie.After-set-bits Inv-loop μ-loop)
     → let q = c .before .before .add-block .result in
     let h = c .before .before .before .before .loop in
-    (weight q + 16 * (h .n + c .set-bits .result) ≡ ones 32 (take (h .i + blockSize) (now (c .before .before .before .before .before .before .before .args .ws))))
-    × (weight q + 16 * (h .n + c .set-bits .result) < 2 ^ 32)
+    let s = c .before .before .before .before .before .before .before .args in
+    let m = weight q + 16 * (h .n + c .set-bits .result) in
+    (m ≡ setIn (now (s .ws)) (s .from) (h .i + blockSize - s .from)) × (m < 2 ^ 32)
 counted c =
     let q = c .before .before .add-block .result in
     let h = c .before .before .before .before .loop in
-    let ws = now (c .before .before .before .before .before .before .before .args .ws) in
+    let s = c .before .before .before .before .before .before .before .args in
     let left = ap (λ (m : ℕ). weight q + 16 * m) (c .set-bits .ensures .0) in
-    let e = block-next ws (h .i) (h .n) (c .set-bits .result) (weight (h .p)) (weight q) (h .inv .2)
-    (left ∙ c .before .before .add-block .ensures) in
-    (e, part-fits ws (h .i + blockSize) (weight q) (h .n + c .set-bits .result) (c .before .before .before .before .before .before .before .pre .0) e)
+    let e = block-next (now (s .ws)) (s .from) (h .i) (h .inv .0) (h .n) (c .set-bits .result) (weight (h .p)) (weight q)
+    (h .inv .3) (left ∙ c .before .before .add-block .ensures) in
+    let l : h .i + blockSize ≤ s .from + mostSegments = omega arith in
+    (e, fits-word (now (s .ws)) (s .from) (h .i + blockSize) (omega arith) l _ e)
 
 -- what has been counted fits a word
 fits : (t : tie.At-loop Inv-loop μ-loop) → weight (t .loop .p) + 16 * t .loop .n < 2 ^ 32
-fits t = part-fits (now (t .before .before .before .args .ws)) (t .loop .i) (weight (t .loop .p)) (t .loop .n) (t .before .before .before .pre .0) (t .loop .inv .2)
+fits t =
+    let s = t .before .before .before in
+    let l : t .loop .i ≤ s .args .from + mostSegments = omega arith in
+    fits-word (now (s .args .ws)) (s .args .from) (t .loop .i) (t .loop .inv .0) l _ (t .loop .inv .3)
 
 empty-requires : tie.Need-empty-requires Inv-loop μ-loop
 empty-requires c κs = search needs
 
 loop-holds : tie.Need-loop-holds Inv-loop μ-loop
-unfolding ones
-loop-holds c = (omega arith, omega arith, omega (arith, c .empty .ensures))
+loop-holds c = (
+  omega arith,
+  omega arith,
+  omega arith,
+  omega (arith, c .empty .ensures, set-none (now (c .before .before .args .ws)) (c .before .before .args .from)),
+)
 
 add-block-requires : tie.Need-add-block-requires Inv-loop μ-loop
 add-block-requires c κs = search needs
@@ -63,7 +71,7 @@ loop-less : tie.Need-loop-less Inv-loop μ-loop
 loop-less c = search needs
 
 loop-again : tie.Need-loop-again Inv-loop μ-loop
-loop-again c = (omega arith, omega arith, counted c .0)
+loop-again c = (omega arith, omega arith, omega arith, counted c .0)
 
 weigh-requires : tie.Need-weigh-requires Inv-loop μ-loop
 weigh-requires c κs = search needs
@@ -78,9 +86,8 @@ returns : tie.Need-returns Inv-loop μ-loop
 returns c =
     let h = c .before .before .loop in
     let s = c .before .before .before .before .before .args in
-    let i-is : h .i ≡ s .whole = omega arith in
-    ap (λ (m : ℕ). m + 16 * h .n) (c .weigh .ensures) ∙ h .inv .2
-    ∙ ap (λ (k : ℕ). ones 32 (take k (now (s .ws)))) i-is
+    let i-is : h .i ≡ s .to = omega arith in
+    ap (λ (m : ℕ). m + 16 * h .n) (c .weigh .ensures) ∙ rw i-is at (h .inv .3)
 
 pub count-blocks-spec : {M : Type 1} → statement M
 count-blocks-spec =

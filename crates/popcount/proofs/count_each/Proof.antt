@@ -1,25 +1,39 @@
--- `popcount::count_each` meets its contract. The invariant: with those before `from`, n bits of the first i words are set.
+-- `popcount::count_each` meets its contract. The invariant: n bits of the words from `from` to i are set.
 -- Assumes nothing.
-use mathlib.Core.Path.{_≡_, ap, _∙_}
+use mathlib.Core.Path.{_≡_, sym, ap, _∙_}
 use Prim.Native.Nat.{ℕ, _+_, _-_, _≤_}
 use denote.Ref.{now}
-use lib.ListN.{length, take}
-use lib.Seq.{take-length, length-take-le}
-use Rattle.meaning.specs.Segment.{ones}
-use Rattle.meaning.proofs.Counting.{ones-next, ones-le}
+use Rattle.meaning.specs.Limits.{mostSegments}
+use Rattle.popcount.specs.Counts.{setIn}
+use Rattle.popcount.proofs.Counted.{part-set, set-none, each-next, fits-word}
 use borrow.Author.Needs.{needs}
 use native.Mathlib.Omega.{arith}
 use Rattle.popcount.proofs.count_each.Tie as tie
 use Rattle.popcount.proofs.count_each.Statement.{statement}
 
 abbrev Inv-loop : tie.InvT-loop
-Inv-loop ws from n₀ i₀ n i = (i ≤ length ws) × (ones 32 (take from ws) + n ≡ ones 32 (take i ws))
+Inv-loop ws from to n₀ i₀ n i = (from ≤ i) × (i ≤ to) × (n ≡ setIn ws from (i - from))
 
 abbrev μ-loop : tie.MeasureT-loop
-μ-loop ws from n₀ i₀ n i = length ws - i
+μ-loop ws from to n₀ i₀ n i = to - i
+
+-- with the word at i
+counted : (c : tie.After-count Inv-loop μ-loop)
+    → let h = c .before .before .before .loop in
+    let s = c .before .before .before .before .before .args in
+    h .n + c .count .result ≡ setIn (now (s .ws)) (s .from) (h .i + 1 - s .from)
+counted c =
+    let h = c .before .before .before .loop in
+    let s = c .before .before .before .before .before .args in
+    ap (λ (m : ℕ). h .n + m) (c .count .ensures)
+    ∙ each-next (now (s .ws)) (s .from) (h .i) (h .inv .0) (h .n) (h .inv .2)
 
 loop-holds : tie.Need-loop-holds Inv-loop μ-loop
-loop-holds c = search needs
+loop-holds c = (
+  omega arith,
+  omega arith,
+  sym (set-none (now (c .before .args .ws)) (c .before .args .from)),
+)
 
 mul-count : tie.Need-mul-count Inv-loop μ-loop
 mul-count c = search needs
@@ -32,15 +46,11 @@ count-requires c κs = search needs
 
 add-n : tie.Need-add-n Inv-loop μ-loop
 add-n c =
-    let ws = now (c .before .before .before .before .before .args .ws) in
-    let i = c .before .before .before .loop .i in
-    omega (
-      arith,
-      ones-next 32 ws i,
-      c .count .ensures,
-      ones-le 32 (take (i + 1) ws),
-      length-take-le (i + 1) ws (omega arith),
-    )
+    let h = c .before .before .before .loop in
+    let s = c .before .before .before .before .before in
+    let ws = now (s .args .ws) in
+    let l : h .i + 1 ≤ s .args .from + mostSegments = omega arith in
+    omega (arith, fits-word ws (s .args .from) (h .i + 1) (omega arith) l _ (counted c))
 
 add-i : tie.Need-add-i Inv-loop μ-loop
 add-i c = search needs
@@ -49,15 +59,14 @@ loop-less : tie.Need-loop-less Inv-loop μ-loop
 loop-less c = search needs
 
 loop-again : tie.Need-loop-again Inv-loop μ-loop
-loop-again c =
-    let ws = now (c .before .before .before .before .before .args .ws) in
-    omega (arith, ones-next 32 ws (c .before .before .before .loop .i), c .count .ensures)
+loop-again c = (omega arith, omega arith, counted c)
 
 returns : tie.Need-returns Inv-loop μ-loop
 returns c =
-    let ws = now (c .before .before .before .args .ws) in
-    let e : c .before .loop .i ≡ length ws = omega arith in
-    c .before .loop .inv .1 ∙ ap (λ (i : ℕ). ones 32 (take i ws)) e ∙ ap (ones 32) (take-length ws)
+    let h = c .before .loop in
+    let s = c .before .before .before .args in
+    let i-is : h .i ≡ s .to = omega arith in
+    rw i-is at (h .inv .2) ∙ sym (part-set (now (s .ws)) (s .from) (s .to - s .from))
 
 pub count-each-spec : {M : Type 1} → statement M
 count-each-spec =

@@ -1,66 +1,40 @@
--- `ewah_read::count::count` meets its contract. The invariant: the walk stands at a marker, and n bits of the segments behind are set.
+-- `ewah_read::count::count` meets its contract, by the laws of `Passing`. The invariant: the walk stands at a
+-- marker, and n bits of the segments behind are set.
 -- Assumes nothing.
 use borrow.Author.Needs.{needs}
 use native.Mathlib.Omega.{arith}
-use Prim.Native.Nat.{ℕ, _+_, _-_, _*_, _≤_}
-use mathlib.Core.Path.{_≡_, refl, sym, ap, _∙_}
+use Prim.Native.Nat.{_+_, _-_, _*_, _≤_}
 use denote.Ref.{now}
-use lib.ListN.{length, take, drop, replicate}
-use lib.Seq.{take-length}
-use borrow.Rule.Slice.PartMut.{mid-len}
-use Rattle.meaning.specs.Segment.{ones, fill}
+use lib.ListN.{length}
 use Rattle.meaning.specs.Ewah.{segments}
-use Rattle.meaning.proofs.Walk.{At, Step, at-start, at-end}
-use Rattle.meaning.proofs.Asked.{rows-count, ones-step}
-use Rattle.meaning.proofs.Counting.{ones-append, ones-take-le}
-use Rattle.meaning.proofs.Parts.{part-is}
-use Rattle.ewah.proofs.MarkerStep.{read-step}
+use Rattle.ewah_read.proofs.Passing.{Passed, Read, none-passed, marker-read, dirty-fit, dirty-few, at-most, passed-next, all-passed}
 use Rattle.ewah_read.proofs.count.count.Statement.{statement}
 use Rattle.ewah_read.proofs.count.count.Tie as tie
 
 abbrev Inv-loop : tie.InvT-loop
-Inv-loop body n₀ at₀ n at = (o : ℕ) × At body at 0 o × (n ≡ ones 32 (take o (segments body)))
+Inv-loop body n₀ at₀ n at = Passed body at n
 
 abbrev μ-loop : tie.MeasureT-loop
 μ-loop body n₀ at₀ n at = length body - at
 
--- the step over the marker that was read
-over : (c : tie.After-read Inv-loop μ-loop)
+-- the marker that was read
+marker : (c : tie.After-read Inv-loop μ-loop)
     → let h = c .before .before .before in
-    let m = c .read .result in
-    Step (now (h .before .before .args .body)) (h .loop .at) (h .loop .inv .0) (m .value) (m .clean) (m .dirty)
-over c =
-    let h = c .before .before .before in
-    read-step (now (h .before .before .args .body)) (h .loop .at) (h .loop .inv .0) (c .read .result) (h .loop .inv .1) (c .before .before .loop-test .taken) (c .read .ensures)
+    Read (now (h .before .before .args .body)) (h .loop .at) (h .loop .n) (c .read .result)
+marker c =
+    marker-read (c .before .before .before .loop .inv) (c .before .before .loop-test .taken) (c .read .ensures)
 
--- the set bits up to the next marker
+-- the bits counted, with its own
 counted : (c : tie.After-count-words Inv-loop μ-loop)
-    → let r = c .before .before .before .before in
-    let h = r .before .before .before in
-    (h .loop .n + (c .before .before .count-run .result + c .count-words .result) ≡ ones 32 (take (h .loop .inv .0 + r .read .result .clean + r .read .result .dirty) (segments (now (h .before .before .args .body)))))
-    × (h .loop .n + (c .before .before .count-run .result + c .count-words .result) ≤ length (segments (now (h .before .before .args .body))) * 32)
+    → let h = c .before .before .before .before .before .before in
+    h .loop .n + (c .before .count-run .result + c .count-words .result)
+    ≤ length (segments (now (h .before .before .args .body))) * 32
 counted c =
-    let r = c .before .before .before .before in
-    let h = r .before .before .before in
-    let b = now (h .before .before .args .body) in
-    let i = h .loop .at in
-    let o = h .loop .inv .0 in
-    let m = r .read .result in
-    let e : h .loop .n + (c .before .before .count-run .result + c .count-words .result) ≡ ones 32 (take (o + m .clean + m .dirty) (segments b)) =
-    omega (
-      arith,
-      h .loop .inv .2,
-      c .before .before .count-run .ensures,
-      c .count-words .ensures,
-      ap (ones 32) (part-is b (i + 1) (m .dirty)),
-      ones-append 32 (replicate (m .clean) (fill 32 32 (m .value))) (take (m .dirty) (drop (i + 1) b)),
-      ones-step b i o (m .value) (m .clean) (m .dirty) (over r),
-    ) in
-    (e, omega (arith, ones-take-le 32 (segments b) (o + m .clean + m .dirty)))
+    let g = marker (c .before .before .before) in
+    at-most g _ _ (c .before .count-run .ensures) (c .count-words .ensures)
 
 loop-holds : tie.Need-loop-holds Inv-loop μ-loop
-unfolding ones
-loop-holds c = (0, at-start (now (c .before .args .body)) (c .before .pre .0), refl)
+loop-holds c = none-passed (now (c .before .args .body)) (c .before .pre .0)
 
 mul-read : tie.Need-mul-read Inv-loop μ-loop
 mul-read c = search needs
@@ -78,29 +52,15 @@ cast-next : tie.Need-cast-next Inv-loop μ-loop
 cast-next c = search needs
 
 add-next : tie.Need-add-next Inv-loop μ-loop
-add-next c = omega (arith, over (c .before) .fits)
+add-next c = omega (arith, dirty-fit (marker (c .before)))
 
 count-run-requires : tie.Need-count-run-requires Inv-loop μ-loop
 count-run-requires c κs = search needs
 
-mul-count-words : tie.Need-mul-count-words Inv-loop μ-loop
-mul-count-words c = search needs
-
-sub-count-words : tie.Need-sub-count-words Inv-loop μ-loop
-sub-count-words c = search needs
-
-part-count-words-start : tie.Need-part-count-words-start Inv-loop μ-loop
-part-count-words-start c = search needs
-
-part-count-words-end : tie.Need-part-count-words-end Inv-loop μ-loop
-part-count-words-end c = omega (arith, over (c .before .before) .fits)
-
 count-words-requires : tie.Need-count-words-requires Inv-loop μ-loop
 count-words-requires c κs =
-    let r = c .before .before .before in
-    let s = over r in
-    let from = r .before .before .before .loop .at + 1 in
-    omega (arith, mid-len from (from + r .read .result .dirty) (now (r .before .before .before .before .before .args .body)) (s .fits), s .counts)
+    let g = marker (c .before .before) in
+    (omega arith, dirty-fit g, omega (arith, dirty-few g))
 
 add-n : tie.Need-add-n Inv-loop μ-loop
 add-n c = omega (arith, counted c)
@@ -113,15 +73,11 @@ loop-less c = search needs
 
 loop-again : tie.Need-loop-again Inv-loop μ-loop
 loop-again c =
-    let r = c .before .before .before .before in
-    let h = r .before .before .before in
-    (h .loop .inv .0 + r .read .result .clean + r .read .result .dirty, over r .next, counted c .0)
+    let g = marker (c .before .before .before) in
+    passed-next g _ _ (c .before .count-run .ensures) (c .count-words .ensures)
 
 returns : tie.Need-returns Inv-loop μ-loop
-returns c R s =
-    let b = now (c .before .before .before .args .body) in
-    let h = c .before .loop .inv in
-    h .2 ∙ ap (λ (o : ℕ). ones 32 (take o (segments b))) (at-end b (c .before .loop .at) (h .0) (h .1) (c .loop-test .left)) ∙ ap (ones 32) (take-length (segments b)) ∙ sym (rows-count R b s)
+returns c = all-passed (c .before .loop .inv) (c .loop-test .left)
 
 pub count-spec : {M : Type 1} → statement M
 count-spec =
@@ -137,10 +93,6 @@ count-spec =
     cast-next
     add-next
     count-run-requires
-    mul-count-words
-    sub-count-words
-    part-count-words-start
-    part-count-words-end
     count-words-requires
     add-n
     add-n-2

@@ -1,69 +1,30 @@
--- `ewah_read::count::count_words` meets its contract. The invariant: n bits of the first i words are set.
--- Assumes nothing.
-use borrow.Author.Needs.{needs}
-use native.Mathlib.Omega.{arith}
-use Prim.Native.Nat.{ℕ, _+_, _-_, _≤_}
-use mathlib.Core.Path.{_≡_, ap, _∙_}
+-- `ewah_read::count::count_words` meets its contract: of no words none are set; else what was counted. Assumes nothing.
 use denote.Ref.{now}
-use lib.ListN.{length, take}
-use lib.Seq.{take-length, length-take-le}
-use Rattle.meaning.specs.Segment.{ones}
-use Rattle.meaning.proofs.Counting.{ones-next, ones-le}
+use Rattle.ewah_read.proofs.Passing.{none-between}
+use borrow.Author.Needs.{needs}
 use Rattle.ewah_read.proofs.count.count_words.Statement.{statement}
 use Rattle.ewah_read.proofs.count.count_words.Tie as tie
 
-abbrev Inv-loop : tie.InvT-loop
-Inv-loop ws n₀ i₀ n i = (i ≤ length ws) × (n ≡ ones 32 (take i ws))
+returns : tie.Need-returns
+returns c =
+    let a = c .before .before .args in
+    none-between (now (a .ws)) (a .from) (a .to) (c .if1 .taken)
 
-abbrev μ-loop : tie.MeasureT-loop
-μ-loop ws n₀ i₀ n i = length ws - i
+sub-if2 : tie.Need-sub-if2
+sub-if2 c = search needs
 
-loop-holds : tie.Need-loop-holds Inv-loop μ-loop
-unfolding ones
-loop-holds c = search needs
+count-each-requires : tie.Need-count-each-requires
+count-each-requires c κs = search needs
 
-mul-count : tie.Need-mul-count Inv-loop μ-loop
-mul-count c = search needs
+returns-2 : tie.Need-returns-2
+returns-2 c = search needs
 
-shared-slice-read-count : tie.Need-shared-slice-read-count Inv-loop μ-loop
-shared-slice-read-count c = search needs
-
-count-requires : tie.Need-count-requires Inv-loop μ-loop
+count-requires : tie.Need-count-requires
 count-requires c κs = search needs
 
-add-n : tie.Need-add-n Inv-loop μ-loop
-add-n c =
-    let ws = now (c .before .before .before .before .before .args .ws) in
-    let i = c .before .before .before .loop .i in
-    omega (arith, ones-next 32 ws i, c .count .ensures, ones-le 32 (take (i + 1) ws), length-take-le (i + 1) ws (omega arith))
-
-add-i : tie.Need-add-i Inv-loop μ-loop
-add-i c = search needs
-
-loop-less : tie.Need-loop-less Inv-loop μ-loop
-loop-less c = search needs
-
-loop-again : tie.Need-loop-again Inv-loop μ-loop
-loop-again c = omega (arith, ones-next 32 (now (c .before .before .before .before .before .args .ws)) (c .before .before .before .loop .i), c .count .ensures)
-
-returns : tie.Need-returns Inv-loop μ-loop
-returns c =
-    let ws = now (c .before .before .before .args .ws) in
-    let e : c .before .loop .i ≡ length ws = omega arith in
-    c .before .loop .inv .1 ∙ ap (λ (i : ℕ). ones 32 (take i ws)) e ∙ ap (ones 32) (take-length ws)
+returns-3 : tie.Need-returns-3
+returns-3 c = search needs
 
 pub count-words-spec : {M : Type 1} → statement M
 count-words-spec =
-    tie.close
-    (tie.spec
-    Inv-loop
-    μ-loop
-    loop-holds
-    mul-count
-    shared-slice-read-count
-    count-requires
-    add-n
-    add-i
-    loop-less
-    loop-again
-    returns)
+    tie.close (tie.spec returns sub-if2 count-each-requires returns-2 count-requires returns-3)

@@ -1,0 +1,203 @@
+//! Fixed cases of counting: a marker's dirty words are counted many at once, so their number, the markers around them
+//! and the sums inside matter.
+
+use zvonurel::{index_of, MOST_DIRTY, WORD_BITS};
+
+use crate::encode::{last_mask, marker, settled};
+use crate::question::{Call, Question};
+use crate::random::Random;
+use crate::session::Session;
+
+/// Dirty words that a count takes at once, and that nth passes at once.
+const COUNTED: usize = 64;
+const PASSED: usize = 512;
+
+/// A body that is put together marker by marker, with the plain words it stands for.
+#[derive(Clone, Default)]
+struct Draft {
+    body: Vec<u32>,
+    plain: Vec<u32>,
+    /// The segments at which blocks of dirty words begin or end.
+    edges: Vec<usize>,
+}
+
+impl Draft {
+    /// One more marker, a clean run and dirty words.
+    fn then(mut self, value: bool, clean: usize, dirty: &[u32]) -> Draft {
+        self.body.push(marker(value, clean, dirty.len()));
+        self.body.extend(dirty);
+        self.plain.extend(std::iter::repeat_n(if value { u32::MAX } else { 0 }, clean));
+        let start = self.plain.len();
+        self.plain.extend(dirty);
+        self.edges.extend((start..self.plain.len()).step_by(COUNTED));
+        self.edges.push(self.plain.len());
+        self
+    }
+
+    /// One more marker with dirty words alone.
+    fn words(self, dirty: &[u32]) -> Draft {
+        self.then(false, 0, dirty)
+    }
+
+    fn idle(self, value: bool) -> Draft {
+        self.then(value, 0, &[])
+    }
+
+    /// The rows, with so many pads behind the last one; where there are any, the last word is a dirty one.
+    fn rows(&mut self, pads: usize) -> u32 {
+        let rows = (WORD_BITS * self.plain.len() - pads) as u32;
+        for words in [&mut self.body, &mut self.plain] {
+            if let Some(last) = words.last_mut().filter(|_| pads > 0) {
+                *last &= last_mask(rows);
+            }
+        }
+        rows
+    }
+
+    /// The first set row, the last one, those about each edge, and numbers that no set row has.
+    fn nths(&self) -> Vec<u32> {
+        let set = |words: &[u32]| words.iter().map(|word| word.count_ones()).sum::<u32>();
+        let all = set(&self.plain);
+        let mut nths = vec![0, all.saturating_sub(1), all, all + 1, u32::MAX];
+        for &edge in &self.edges {
+            let before = set(&self.plain[..edge]);
+            nths.extend([before.saturating_sub(1), before, before + 1]);
+        }
+        nths.sort();
+        nths.dedup();
+        nths
+    }
+}
+
+/// Every question that counts, of the body alone and of an index in which its canonical form lies behind it.
+fn ask(session: &mut Session, mut draft: Draft, pads: usize) {
+    let rows = draft.rows(pads);
+    let nths = draft.nths();
+    let alone = |call: Call| Question::new(call).rows(rows);
+    session.ask(&draft.body, alone(Call::BodyCount));
+    for &n in &nths {
+        session.ask(&draft.body, alone(Call::BodyNth).number(n));
+    }
+    let index = index_of(rows, &[draft.body, settled(&draft.plain)]);
+    for k in [0, 1] {
+        session.ask(&index, Question::new(Call::Count).list(&[k]));
+        for &n in &nths {
+            session.ask(&index, Question::new(Call::Nth).list(&[k]).number(n));
+        }
+    }
+}
+
+/// A word that is not clean.
+fn mixed(random: &mut Random) -> u32 {
+    (random.word() & !2) | 1
+}
+
+/// So many of them.
+pub fn mixed_words(random: &mut Random, count: usize) -> Vec<u32> {
+    (0..count).map(|_| mixed(random)).collect()
+}
+
+/// So many words, about one in four of them this one.
+fn words_among(random: &mut Random, count: usize, word: u32) -> Vec<u32> {
+    let mut words = mixed_words(random, count);
+    words.iter_mut().filter(|_| random.one_in(4)).for_each(|place| *place = word);
+    words
+}
+
+pub fn run(session: &mut Session) {
+    let mut random = Random::for_case(0, 0);
+    lengths(session, &mut random);
+    block_ends(session, &mut random);
+    no_rows(session);
+    full_markers(session, &mut random);
+    idle_markers(session, &mut random);
+    long_carries(session, &mut random);
+    single_bits(session);
+}
+
+/// One marker of every length about the multiples of both blocks.
+fn lengths(session: &mut Session, random: &mut Random) {
+    for length in (0..=200).chain(PASSED - COUNTED..=PASSED + 2 * COUNTED) {
+        let words = match length % 3 {
+            0 => mixed_words(random, length),
+            1 => words_among(random, length, u32::MAX),
+            _ => words_among(random, length, 0),
+        };
+        let pads = if length > 0 { random.below(WORD_BITS) } else { 0 };
+        ask(session, Draft::default().words(&words), pads);
+    }
+}
+
+/// Whole blocks that end where a marker follows.
+fn block_ends(session: &mut Session, random: &mut Random) {
+    for length in [COUNTED, 2 * COUNTED, PASSED, 2 * PASSED] {
+        let first = Draft::default().words(&mixed_words(random, length));
+        ask(session, first.clone().then(true, 3, &[]), 0);
+        ask(session, first.clone().words(&mixed_words(random, 1)), 7);
+        let runs = first.then(true, 2, &mixed_words(random, 5)).then(false, 70, &mixed_words(random, COUNTED));
+        ask(session, runs.then(true, 1, &words_among(random, length, 0)), 31);
+    }
+}
+
+/// Bodies of no rows.
+fn no_rows(session: &mut Session) {
+    let none = Draft::default();
+    ask(session, none.clone(), 0);
+    ask(session, none.clone().idle(false), 0);
+    ask(session, none.idle(true).idle(false).idle(true), 0);
+}
+
+/// As many dirty words as a marker can have, and some more.
+fn full_markers(session: &mut Session, random: &mut Random) {
+    for more in [1, COUNTED - 1, COUNTED, COUNTED + 1] {
+        let full = Draft::default().words(&mixed_words(random, MOST_DIRTY));
+        let mut draft = full.words(&mixed_words(random, more));
+        // few edges, since the reference is slow with so many rows
+        draft.edges = vec![PASSED, MOST_DIRTY / PASSED * PASSED, MOST_DIRTY];
+        ask(session, draft, random.below(WORD_BITS));
+    }
+}
+
+/// Idle markers between blocks, and between every two markers.
+fn idle_markers(session: &mut Session, random: &mut Random) {
+    let mut blocks = Draft::default();
+    for length in [COUNTED, COUNTED, PASSED, PASSED] {
+        blocks = blocks.idle(false).words(&mixed_words(random, length)).idle(true);
+    }
+    ask(session, blocks, 0);
+    let mut every = Draft::default();
+    for (at, length) in [1, COUNTED - 1, COUNTED, 0, COUNTED + 1, 2 * COUNTED, PASSED - 1, 3].into_iter().enumerate() {
+        every = every.then(at % 2 == 0, at % 3, &words_among(random, length, u32::MAX)).idle(at % 2 == 1);
+    }
+    ask(session, every, 0);
+}
+
+/// Words that make sums carry far: all ones, all ones but for one word, and alternate bits.
+fn long_carries(session: &mut Session, random: &mut Random) {
+    for length in [COUNTED, COUNTED + 1, 2 * COUNTED, PASSED, PASSED + COUNTED + 1] {
+        ask(session, Draft::default().words(&vec![u32::MAX; length]), random.below(WORD_BITS));
+        let alternate: Vec<u32> = (0..length).map(|at| [0x5555_5555, 0xAAAA_AAAA][at % 2]).collect();
+        ask(session, Draft::default().words(&alternate), 0);
+    }
+    for at in 0..COUNTED {
+        for word in [0, mixed(random)] {
+            let mut words = vec![u32::MAX; COUNTED];
+            words[at] = word;
+            ask(session, Draft::default().words(&words), 0);
+        }
+    }
+}
+
+/// One row: each bit of each word of a block by itself.
+fn single_bits(session: &mut Session) {
+    let rows = (WORD_BITS * COUNTED) as u32;
+    let alone = |call: Call| Question::new(call).rows(rows);
+    for row in 0..rows as usize {
+        let mut words = [0; COUNTED];
+        words[row / WORD_BITS] = 1 << (row % WORD_BITS);
+        let body = Draft::default().words(&words).body;
+        session.ask(&body, alone(Call::BodyCount));
+        session.ask(&body, alone(Call::BodyNth));
+        session.ask(&body, alone(Call::BodyNth).number(1));
+    }
+}

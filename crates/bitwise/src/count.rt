@@ -1,0 +1,58 @@
+// How many rows are set, marker by marker: its clean run at once, as the library counts it, its dirty words bit by bit.
+ghost use mathlib.Core.Path.{_≡_};
+ghost use Prim.Native.Nat.{ℕ, _≤_};
+ghost use lib.ListN.{length};
+ghost use Rattle.meaning.specs.Limits.{mostSegments};
+ghost use Rattle.meaning.specs.Rows.{countBelow};
+ghost use Rattle.meaning.specs.Segment.{ones, isSet};
+ghost use Rattle.meaning.specs.Ewah.{segments, rowsOf, dueAfter};
+ghost use Rattle.meaning.specs.Laws.{SoundFacts};
+use ewah::marker;
+use ewah_read::count::count_run;
+use words::bits;
+
+// How many bits of a word are set.
+pub fn count_word(x: u32) -> u32
+    ensures { λ r. ⌜ r ≡ countBelow 32 (isSet x) ⌝ }
+{
+    let mut n = 0;
+    let mut j = 0;
+    while j < 32 {
+        if bits::has(x, j) {
+            n += 1;
+        }
+        j += 1;
+    }
+    n
+}
+
+// How many bits of the words are set.
+pub fn count_words(ws: &[u32]) -> u32
+    requires { ⌜ length (now ws) ≤ mostSegments ⌝ }
+    ensures { λ r. ⌜ r ≡ ones 32 (now (ws .entry)) ⌝ }
+{
+    let mut n = 0;
+    let mut i = 0;
+    while i < ws.len() {
+        n += count_word(ws[i]);
+        i += 1;
+    }
+    n
+}
+
+// How many rows are set.
+pub fn count(body: &[u32]) -> u32
+    requires { ⌜ (dueAfter 0 (now body) ≡ 0) × (length (segments (now body)) ≤ mostSegments) ⌝ }
+    ensures { λ r. ⌜ ((R : ℕ) → SoundFacts R (now (body .entry)) → r ≡ countBelow R (rowsOf (now (body .entry)))) ⌝ }
+{
+    let mut n = 0;
+    let mut at = 0;
+    while at < body.len() {
+        let m = marker::read(body[at]);
+        let from = at + 1;
+        let next = from + m.dirty as usize;
+        n += count_run(m.value, m.clean) + count_words(&body[from..next]);
+        at = next;
+    }
+    n
+}
