@@ -20,15 +20,6 @@ use Rattle.ewah.specs.Markers.{FieldsOf}
 use Rattle.ewah.specs.declared.marker.Marker.{Marker}
 use Rattle.ewah.proofs.MarkerStep.{read-step}
 
--- no bits between a place and itself
-pub none-between : (b : List ℕ) (from to : ℕ) → to ≡ from → 0 ≡ ones 32 (take (to - from) (drop from b))
-unfolding ones
-none-between b from to e = let z : to - from ≡ 0 = omega (arith, e) in rw z refl
-
--- the bits between the first word and the end are all
-pub all-between : (b : List ℕ) → ones 32 (take (length b - 0) (drop 0 b)) ≡ ones 32 b
-all-between b = let z : length b - 0 ≡ length b = omega arith in rw z (ap (ones 32) (take-length b))
-
 -- at the marker at word i, or at the end: n bits of the segments behind are set
 pub record Passed (b : List ℕ) (i n : ℕ) : Type 0 where
   pub behind : ℕ

@@ -1,8 +1,8 @@
 // The nth set row, in one pass: markers, and blocks of their dirty words, are passed by their counts until one has it.
 ghost use mathlib.Core.Path.{_≡_};
 ghost use mathlib.Core.List.{_++_};
-ghost use Prim.Native.Nat.{ℕ, _*_, _≤_, _<_};
-ghost use lib.ListN.{length, replicate};
+ghost use Prim.Native.Nat.{ℕ, _+_, _-_, _*_, _≤_, _<_};
+ghost use lib.ListN.{length, take, drop, replicate};
 ghost use Rattle.meaning.specs.Limits.{mostSegments, mostClean, mostDirty};
 ghost use Rattle.meaning.specs.Segment.{hasRow, ones, fill};
 ghost use Rattle.meaning.specs.Ewah.{segments, rowsOf, dueAfter};
@@ -73,34 +73,29 @@ fn seek_blocks(ws: &[u32], k: u32) -> Sought
     Sought::Ahead(ahead)
 }
 
-// The same: blocks only where there is more than one.
-fn seek_words(ws: &[u32], k: u32) -> Sought
-    requires { ⌜ length (now ws) ≤ mostDirty ⌝ }
-    ensures { λ r. ⌜ SoughtIn (now (ws .entry)) k r ⌝ }
-{
-    if SKIP_WORDS < ws.len() {
-        return seek_blocks(ws, k);
-    }
-    let here = count::count_words(ws, 0, ws.len());
-    if k < here {
-        return Sought::Here(find(ws, k));
-    }
-    Sought::Ahead(k - here)
-}
-
-// The row of one marker's segments that has k set rows before it: the clean run is passed first.
-fn seek(value: u32, clean: u32, ws: &[u32], k: u32) -> Sought
-    requires { ⌜ (value < 2) × (clean ≤ mostClean) × (length (now ws) ≤ mostDirty) ⌝ }
-    ensures { λ r. ⌜ SoughtIn (replicate clean (fill 32 32 value) ++ now (ws .entry)) k r ⌝ }
+// The row of one marker's segments that has k set rows before it: the clean run is passed first, and then its dirty words, those from
+// `from` to `to`, by blocks where there is more than one.
+fn seek(value: u32, clean: u32, body: &[u32], from: usize, to: usize, k: u32) -> Sought
+    requires { ⌜ (value < 2) × (clean ≤ mostClean)
+        × (from ≤ to) × (to ≤ length (now body)) × (to ≤ from + mostDirty) ⌝ }
+    ensures { λ r. ⌜ SoughtIn (replicate clean (fill 32 32 value) ++ take (to - from) (drop from (now (body .entry)))) k r ⌝ }
 {
     let run = count::count_run(value, clean);
     if k < run {
         return Sought::Here(k);
     }
-    match seek_words(ws, k - run) {
-        Sought::Here(r) => Sought::Here(clean * 32 + r),
-        Sought::Ahead(j) => Sought::Ahead(j),
+    let ahead = k - run;
+    if SKIP_WORDS < to - from {
+        match seek_blocks(&body[from..to], ahead) {
+            Sought::Here(r) => return Sought::Here(clean * 32 + r),
+            Sought::Ahead(j) => return Sought::Ahead(j),
+        }
     }
+    let here = count::count_words(body, from, to);
+    if ahead < here {
+        return Sought::Here(clean * 32 + find(&body[from..to], ahead));
+    }
+    Sought::Ahead(ahead - here)
 }
 
 // The row that was asked for, or that there are not so many set rows.
@@ -122,7 +117,7 @@ pub fn nth(body: &[u32], n: u32) -> Found
         let m = marker::read(body[at]);
         let from = at + 1;
         let next = from + m.dirty as usize;
-        match seek(m.value, m.clean, &body[from..next], ahead) {
+        match seek(m.value, m.clean, body, from, next, ahead) {
             Sought::Here(r) => return Found::Row(behind * 32 + r),
             Sought::Ahead(k) => ahead = k,
         }

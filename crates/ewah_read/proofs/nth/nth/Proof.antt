@@ -9,7 +9,6 @@ use mathlib.Core.List.{_++_}
 use denote.Ref.{now}
 use lib.ListN.{length, take, drop, replicate}
 use lib.Seq.{take-length}
-use borrow.Rule.Slice.PartMut.{mid-len}
 use Rattle.meaning.specs.Segment.{ones, fill, hasRow}
 use Rattle.meaning.specs.Demands.{IsNth}
 use Rattle.meaning.specs.Ewah.{segments}
@@ -39,7 +38,7 @@ over c =
 
 -- what the marker's segments say
 told : (c : tie.After-seek Inv-loop μ-loop)
-    → let r = c .before .before .before in
+    → let r = c .before .before in
     let h = r .before .before .before in
     let m = r .read .result in
     SoughtIn (replicate (m .clean) (fill 32 32 (m .value)) ++ take (m .dirty) (drop (h .loop .at + 1) (now (h .before .before .args .body)))) (h .loop .ahead) (c .seek .result)
@@ -48,12 +47,12 @@ told c = rw part-is at (c .seek .ensures)
 -- the row that they have, as one of the body's
 here : (c : tie.After-r Inv-loop μ-loop)
     → let t = c .before .before in
-    let h = t .before .before .before .before .before .before in
+    let h = t .before .before .before .before .before in
     let b = now (h .before .before .args .body) in
     IsNth (length (segments b) * 32) (hasRow 32 (segments b)) (h .before .before .args .n) (h .loop .behind * 32 + c .r .given .0 .0)
 here c =
     let t = c .before .before in
-    let r = t .before .before .before in
+    let r = t .before .before in
     let h = r .before .before .before in
     let b = now (h .before .before .args .body) in
     let m = r .read .result in
@@ -82,47 +81,34 @@ cast-next c = search needs
 add-next : tie.Need-add-next Inv-loop μ-loop
 add-next c = omega (arith, over (c .before) .fits)
 
-mul-seek : tie.Need-mul-seek Inv-loop μ-loop
-mul-seek c = search needs
-
-sub-seek : tie.Need-sub-seek Inv-loop μ-loop
-sub-seek c = search needs
-
-part-seek-start : tie.Need-part-seek-start Inv-loop μ-loop
-part-seek-start c = search needs
-
-part-seek-end : tie.Need-part-seek-end Inv-loop μ-loop
-part-seek-end c = omega (arith, over (c .before) .fits)
-
 seek-requires : tie.Need-seek-requires Inv-loop μ-loop
 seek-requires c κs =
-    let r = c .before .before in
-    let from = r .before .before .before .loop .at + 1 in
-    (omega arith, omega arith, omega (arith, mid-len from (from + r .read .result .dirty) (now (r .before .before .before .before .before .args .body)) (over r .fits)))
+    let o = over (c .before) in
+    (omega arith, omega arith, omega arith, o .fits, omega arith)
 
 enum-known-r : tie.Need-enum-known-r Inv-loop μ-loop
 enum-known-r c = search needs
 
-mul-t20 : tie.Need-mul-t20 Inv-loop μ-loop
-mul-t20 c = omega (arith, over (c .before .before .before .before .before .before) .counts)
+mul-t16 : tie.Need-mul-t16 Inv-loop μ-loop
+mul-t16 c = omega (arith, over (c .before .before .before .before .before) .counts)
 
-add-t21 : tie.Need-add-t21 Inv-loop μ-loop
-add-t21 c = omega (arith, here (c .before) .below)
+add-t17 : tie.Need-add-t17 Inv-loop μ-loop
+add-t17 c = omega (arith, here (c .before) .below)
 
 returns : tie.Need-returns Inv-loop μ-loop
 unfolding foundOf
 returns c R s =
-    let h = c .before .before .before .before .before .before .before .before .before in
+    let h = c .before .before .before .before .before .before .before .before in
     sym (nth-found R (now (h .before .before .args .body)) s (h .before .before .args .n) (h .loop .behind * 32 + c .before .r .given .0 .0) (here (c .before)))
 
 enum-known-k : tie.Need-enum-known-k Inv-loop μ-loop
 enum-known-k c = search needs
 
 add-behind : tie.Need-add-behind Inv-loop μ-loop
-add-behind c = omega (arith, over (c .before .before .before .before .before .before .before) .counts)
+add-behind c = omega (arith, over (c .before .before .before .before .before .before) .counts)
 
 add-behind-2 : tie.Need-add-behind-2 Inv-loop μ-loop
-add-behind-2 c = omega (arith, over (c .before .before .before .before .before .before .before .before) .counts)
+add-behind-2 c = omega (arith, over (c .before .before .before .before .before .before .before) .counts)
 
 loop-less : tie.Need-loop-less Inv-loop μ-loop
 loop-less c = omega arith
@@ -131,7 +117,7 @@ loop-again : tie.Need-loop-again Inv-loop μ-loop
 loop-again c =
     let k = c .before .before .before .k in
     let t = c .before .before .before .before .before in
-    let r = t .before .before .before in
+    let r = t .before .before in
     let h = r .before .before .before in
     let b = now (h .before .before .args .body) in
     let m = r .read .result in
@@ -161,14 +147,10 @@ nth-spec =
     add-from
     cast-next
     add-next
-    mul-seek
-    sub-seek
-    part-seek-start
-    part-seek-end
     seek-requires
     enum-known-r
-    mul-t20
-    add-t21
+    mul-t16
+    add-t17
     returns
     enum-known-k
     add-behind

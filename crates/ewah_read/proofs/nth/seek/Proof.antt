@@ -1,73 +1,148 @@
 -- `ewah_read::nth::seek` meets its contract: the clean run is passed first, and then the dirty words.
 -- Assumes nothing.
-use native.Mathlib.Omega.{arith}
-use borrow.Author.Needs.{needs}
-use Prim.Native.Nat.{_+_, _-_, _*_, _<_}
+use Prim.Native.Nat.{ℕ, _+_, _-_, _*_, _<_}
 use mathlib.Core.Path.{_≡_}
+use mathlib.Core.List.{List, _++_}
 use denote.Ref.{now}
 use lib.Dec.{lit<}
-use lib.ListN.{length, replicate, length-replicate}
+use lib.ListN.{length, take, drop, replicate, length-replicate}
 use Rattle.meaning.specs.Segment.{ones, fill, hasRow}
 use Rattle.meaning.specs.Demands.{IsNth}
 use Rattle.meaning.proofs.Counting.{ones-append, nth-left, nth-right, nth-run}
 use Rattle.ewah_read.specs.declared.nth.Sought.the-variants.{Here, Ahead}
+use native.Mathlib.Omega.{arith}
+use borrow.Author.Needs.{needs}
 use Rattle.ewah_read.proofs.nth.seek.Statement.{statement}
 use Rattle.ewah_read.proofs.nth.seek.Tie as tie
+
+-- the set row with k set rows before it, of a run with words behind it
+module _ (clean value : ℕ) (ws : List ℕ) where
+  abbrev both : List ℕ
+  both = replicate clean (fill 32 32 value) ++ ws
+
+  -- in the run it is row k
+  in-run : (k : ℕ) → value < 2 → k < ones 32 (replicate clean (fill 32 32 value))
+      → IsNth (length both * 32) (hasRow 32 both) k k
+  in-run k h few =
+      nth-left 32 (lit< tt) (replicate clean (fill 32 32 value)) ws k k (nth-run 32 (lit< tt) clean 32 value k h few)
+
+  -- in the words it is theirs, behind the run's rows
+  in-words : (j k r : ℕ) → ones 32 (replicate clean (fill 32 32 value)) + j ≡ k
+      → IsNth (length ws * 32) (hasRow 32 ws) j r → IsNth (length both * 32) (hasRow 32 both) k (clean * 32 + r)
+  in-words j k r e found =
+      let n : length (replicate clean (fill 32 32 value)) ≡ clean = length-replicate clean (fill 32 32 value) in
+      rw (n, e) at (nth-right 32 (lit< tt) (replicate clean (fill 32 32 value)) ws j r found)
+
+-- the clean run, and the dirty words
+abbrev run : (t : tie.After-count-run) → List ℕ
+run t = let a = t .before .before .args in replicate (a .clean) (fill 32 32 (a .value))
+
+abbrev words : (t : tie.After-count-run) → List ℕ
+words t = let a = t .before .before .args in take (a .to - a .from) (drop (a .from) (now (a .body)))
+
+-- what the run has and what is left
+passed : (e : tie.Else1)
+    → let k = e .before .before .before .args .k in
+    ones 32 (run (e .before)) + (k - e .before .count-run .result) ≡ k
+passed e = omega (arith, e .before .count-run .ensures)
+
+-- the row that the blocks of the dirty words have
+told : (c : tie.After-r)
+    → let t = c .before .before .before .before .before .before in
+    IsNth (length (words t) * 32) (hasRow 32 (words t)) (t .before .before .args .k - t .count-run .result) (c .r .given .0 .0)
+told c =
+    let b = c .before .before in
+    let e : b .seek-blocks .result ≡ Here (c .r .given .0 .0) = c .r .given .1 in
+    rw e at (b .seek-blocks .ensures)
 
 count-run-requires : tie.Need-count-run-requires
 count-run-requires c κs = search needs
 
 returns : tie.Need-returns
 returns c =
-    let a = c .before .before .before .args in
-    let run = replicate (a .clean) (fill 32 32 (a .value)) in
-    let few : a .k < ones 32 run = rw (c .before .count-run .ensures) at (c .if1 .taken) in
-    nth-left 32 (lit< tt) run (now (a .ws)) (a .k) (a .k) (nth-run 32 (lit< tt) (a .clean) 32 (a .value) (a .k) (c .before .before .before .pre .0) few)
+    let s = c .before .before .before in
+    let few = rw (c .before .count-run .ensures) at (c .if1 .taken) in
+    in-run (s .args .clean) (s .args .value) _ (s .args .k) (s .pre .0) few
 
-seek-words-requires : tie.Need-seek-words-requires
-seek-words-requires c κs = search needs
+sub-if2 : tie.Need-sub-if2
+sub-if2 c = search needs
+
+mul-seek-blocks : tie.Need-mul-seek-blocks
+mul-seek-blocks c = search needs
+
+sub-seek-blocks : tie.Need-sub-seek-blocks
+sub-seek-blocks c = search needs
+
+part-seek-blocks-start : tie.Need-part-seek-blocks-start
+part-seek-blocks-start c = search needs
+
+part-seek-blocks-end : tie.Need-part-seek-blocks-end
+part-seek-blocks-end c = search needs
+
+seek-blocks-requires : tie.Need-seek-blocks-requires
+seek-blocks-requires c κs = search needs
 
 enum-known-r : tie.Need-enum-known-r
 enum-known-r c = search needs
 
-mul-t12 : tie.Need-mul-t12
-mul-t12 c = search needs
+mul-t20 : tie.Need-mul-t20
+mul-t20 c = search needs
 
--- the row that the dirty words have
-told : (c : tie.After-r)
-    → let t = c .before .before .before .before in
+add-t21 : tie.Need-add-t21
+add-t21 c = omega (arith, told (c .before) .below)
+
+returns-2 : tie.Need-returns-2
+returns-2 c =
+    let t = c .before .before .before .before .before .before .before in
     let a = t .before .before .args in
-    IsNth (length (now (a .ws)) * 32) (hasRow 32 (now (a .ws))) (a .k - t .count-run .result) (c .r .given .0 .0)
-told c =
-    let s = c .before .before in
-    let e : s .seek-words .result ≡ Here (c .r .given .0 .0) = c .r .given .1 in
-    rw e at (s .seek-words .ensures)
-
-add-t13 : tie.Need-add-t13
-add-t13 c = omega (arith, told (c .before) .below)
+    in-words (a .clean) (a .value) (words t) _ (a .k) _ (passed (c .before .before .before .before .before .before)) (told (c .before))
 
 enum-known-j : tie.Need-enum-known-j
 enum-known-j c = search needs
 
-returns-2 : tie.Need-returns-2
-returns-2 c =
-    let t = c .before .before .before .before .before in
-    let a = t .before .before .args in
-    let run = replicate (a .clean) (fill 32 32 (a .value)) in
-    let j = a .k - t .count-run .result in
-    let n : length run ≡ a .clean = length-replicate (a .clean) (fill 32 32 (a .value)) in
-    let k : ones 32 run + j ≡ a .k = omega (arith, t .count-run .ensures) in
-    rw (n, k) at (nth-right 32 (lit< tt) run (now (a .ws)) j (c .before .r .given .0 .0) (told (c .before)))
-
 returns-3 : tie.Need-returns-3
 returns-3 c =
-    let s = c .before .before .before in
-    let t = s .before .before in
+    let t = c .before .before .before .before .before .before .before in
+    let b = c .before .before .before in
     let a = t .before .before .args in
-    let j = c .before .j .given .0 .0 in
-    let e : s .seek-words .result ≡ Ahead j = c .before .j .given .1 in
-    let left-over : ones 32 (now (a .ws)) + j ≡ a .k - t .count-run .result = rw e at (s .seek-words .ensures) in
-    omega (arith, t .count-run .ensures, ones-append 32 (replicate (a .clean) (fill 32 32 (a .value))) (now (a .ws)))
+    let e : b .seek-blocks .result ≡ Ahead (c .before .j .given .0 .0) = c .before .j .given .1 in
+    let left-over : ones 32 (words t) + c .before .j .given .0 .0 ≡ a .k - t .count-run .result = rw e at (b .seek-blocks .ensures) in
+    omega (arith, left-over, t .count-run .ensures, ones-append 32 (run t) (words t))
+
+count-words-requires : tie.Need-count-words-requires
+count-words-requires c κs = search needs
+
+mul-t22 : tie.Need-mul-t22
+mul-t22 c = search needs
+
+mul-find : tie.Need-mul-find
+mul-find c = search needs
+
+sub-find : tie.Need-sub-find
+sub-find c = search needs
+
+part-find-start : tie.Need-part-find-start
+part-find-start c = search needs
+
+part-find-end : tie.Need-part-find-end
+part-find-end c = search needs
+
+find-requires : tie.Need-find-requires
+find-requires c κs = search needs
+
+add-t29 : tie.Need-add-t29
+add-t29 c = search needs
+
+returns-4 : tie.Need-returns-4
+returns-4 c =
+    let t = c .before .before .before .before .before .before in
+    let a = t .before .before .args in
+    in-words (a .clean) (a .value) (words t) _ (a .k) _ (passed (c .before .before .before .before .before)) (c .find .ensures)
+
+returns-5 : tie.Need-returns-5
+returns-5 c =
+    let t = c .before .before .before .before in
+    omega (arith, t .count-run .ensures, c .before .count-words .ensures, ones-append 32 (run t) (words t))
 
 pub seek-spec : {M : Type 1} → statement M
 seek-spec =
@@ -75,10 +150,25 @@ seek-spec =
     (tie.spec
     count-run-requires
     returns
-    seek-words-requires
+    sub-if2
+    mul-seek-blocks
+    sub-seek-blocks
+    part-seek-blocks-start
+    part-seek-blocks-end
+    seek-blocks-requires
     enum-known-r
-    mul-t12
-    add-t13
-    enum-known-j
+    mul-t20
+    add-t21
     returns-2
-    returns-3)
+    enum-known-j
+    returns-3
+    count-words-requires
+    mul-t22
+    mul-find
+    sub-find
+    part-find-start
+    part-find-end
+    find-requires
+    add-t29
+    returns-4
+    returns-5)
