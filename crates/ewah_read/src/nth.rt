@@ -1,4 +1,4 @@
-// The nth set row, in one pass: markers, and blocks of their dirty words, are passed by their counts until one has it.
+// The nth set row, in one pass: markers, and many dirty words at once, are passed by their counts until some have it.
 ghost use mathlib.Core.Path.{_≡_};
 ghost use mathlib.Core.List.{_++_};
 ghost use Prim.Native.Nat.{ℕ, _+_, _-_, _*_, _≤_, _<_};
@@ -12,10 +12,12 @@ ghost use Rattle.meaning.specs.Demands.{IsNth};
 ghost use Rattle.ewah_read.specs.Found.{foundOf, SoughtIn};
 use crate::count;
 use ewah::marker;
+use popcount::BLOCK;
 use words::bits;
 
-// The words of a block: they are counted together, and one by one only where the block has the bit.
-const SKIP_WORDS: usize = 512;
+// How many words are passed at once by their count: whole blocks of the population count, and few enough that to go through them word by
+// word, where they have the bit, takes little beside the counting.
+const SKIP_WORDS: usize = 8 * BLOCK;
 
 // The set bit of the words that has k set bits before it, as a row of theirs.
 fn find(ws: &[u32], k: u32) -> u32
@@ -42,8 +44,8 @@ pub enum Sought {
     Ahead(u32),
 }
 
-// Where the block of words that begins at `at` ends: SKIP_WORDS further, or with the words.
-fn block_end(at: usize, len: usize) -> usize
+// Where the words end that begin at `at` and are passed at once.
+fn skip_end(at: usize, len: usize) -> usize
     requires { ⌜ (at < len) × (len ≤ mostDirty) ⌝ }
     ensures { λ r. ⌜ (at < r) × (r ≤ len) ⌝ }
 {
@@ -54,15 +56,15 @@ fn block_end(at: usize, len: usize) -> usize
     len
 }
 
-// The set bit of the words that has k set bits before it: blocks of words are passed by their counts until one has it.
-fn seek_blocks(ws: &[u32], k: u32) -> Sought
+// The set bit of the words that has k set bits before it: so many words at once are passed by their count, until some have it.
+fn seek_words(ws: &[u32], k: u32) -> Sought
     requires { ⌜ length (now ws) ≤ mostDirty ⌝ }
     ensures { λ r. ⌜ SoughtIn (now (ws .entry)) k r ⌝ }
 {
     let mut ahead = k;
     let mut i = 0;
     while i < ws.len() {
-        let end = block_end(i, ws.len());
+        let end = skip_end(i, ws.len());
         let inside = popcount::count(ws, i, end);
         if ahead < inside {
             return Sought::Here(i as u32 * 32 + find(&ws[i..end], ahead));
@@ -74,7 +76,7 @@ fn seek_blocks(ws: &[u32], k: u32) -> Sought
 }
 
 // The row of one marker's segments that has k set rows before it: the clean run is passed first, and then its dirty words, those from
-// `from` to `to`, by blocks where there is more than one.
+// `from` to `to`: where they are few, all at once.
 fn seek(value: u32, clean: u32, body: &[u32], from: usize, to: usize, k: u32) -> Sought
     requires { ⌜ (value < 2) × (clean ≤ mostClean)
         × (from ≤ to) × (to ≤ length (now body)) × (to ≤ from + mostDirty) ⌝ }
@@ -86,7 +88,7 @@ fn seek(value: u32, clean: u32, body: &[u32], from: usize, to: usize, k: u32) ->
     }
     let ahead = k - run;
     if SKIP_WORDS < to - from {
-        match seek_blocks(&body[from..to], ahead) {
+        match seek_words(&body[from..to], ahead) {
             Sought::Here(r) => return Sought::Here(clean * 32 + r),
             Sought::Ahead(j) => return Sought::Ahead(j),
         }

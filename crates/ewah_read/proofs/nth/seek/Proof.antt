@@ -46,14 +46,14 @@ passed : (e : tie.Else1)
     ones 32 (run (e .before)) + (k - e .before .count-run .result) ≡ k
 passed e = omega (arith, e .before .count-run .ensures)
 
--- the row that the blocks of the dirty words have
+-- the row that the dirty words have
 told : (c : tie.After-r)
     → let t = c .before .before .before .before .before .before in
     IsNth (length (words t) * 32) (hasRow 32 (words t)) (t .before .before .args .k - t .count-run .result) (c .r .given .0 .0)
 told c =
     let b = c .before .before in
-    let e : b .seek-blocks .result ≡ Here (c .r .given .0 .0) = c .r .given .1 in
-    rw e at (b .seek-blocks .ensures)
+    let e : b .seek-words .result ≡ Here (c .r .given .0 .0) = c .r .given .1 in
+    rw e at (b .seek-words .ensures)
 
 count-run-requires : tie.Need-count-run-requires
 count-run-requires c κs = search needs
@@ -67,20 +67,20 @@ returns c =
 sub-if2 : tie.Need-sub-if2
 sub-if2 c = search needs
 
-mul-seek-blocks : tie.Need-mul-seek-blocks
-mul-seek-blocks c = search needs
+mul-seek-words : tie.Need-mul-seek-words
+mul-seek-words c = search needs
 
-sub-seek-blocks : tie.Need-sub-seek-blocks
-sub-seek-blocks c = search needs
+sub-seek-words : tie.Need-sub-seek-words
+sub-seek-words c = search needs
 
-part-seek-blocks-start : tie.Need-part-seek-blocks-start
-part-seek-blocks-start c = search needs
+part-seek-words-start : tie.Need-part-seek-words-start
+part-seek-words-start c = search needs
 
-part-seek-blocks-end : tie.Need-part-seek-blocks-end
-part-seek-blocks-end c = search needs
+part-seek-words-end : tie.Need-part-seek-words-end
+part-seek-words-end c = search needs
 
-seek-blocks-requires : tie.Need-seek-blocks-requires
-seek-blocks-requires c κs = search needs
+seek-words-requires : tie.Need-seek-words-requires
+seek-words-requires c κs = search needs
 
 enum-known-r : tie.Need-enum-known-r
 enum-known-r c = search needs
@@ -105,8 +105,8 @@ returns-3 c =
     let t = c .before .before .before .before .before .before .before in
     let b = c .before .before .before in
     let a = t .before .before .args in
-    let e : b .seek-blocks .result ≡ Ahead (c .before .j .given .0 .0) = c .before .j .given .1 in
-    let left-over : ones 32 (words t) + c .before .j .given .0 .0 ≡ a .k - t .count-run .result = rw e at (b .seek-blocks .ensures) in
+    let e : b .seek-words .result ≡ Ahead (c .before .j .given .0 .0) = c .before .j .given .1 in
+    let left-over : ones 32 (words t) + c .before .j .given .0 .0 ≡ a .k - t .count-run .result = rw e at (b .seek-words .ensures) in
     omega (arith, left-over, t .count-run .ensures, ones-append 32 (run t) (words t))
 
 count-words-requires : tie.Need-count-words-requires
@@ -151,11 +151,11 @@ seek-spec =
     count-run-requires
     returns
     sub-if2
-    mul-seek-blocks
-    sub-seek-blocks
-    part-seek-blocks-start
-    part-seek-blocks-end
-    seek-blocks-requires
+    mul-seek-words
+    sub-seek-words
+    part-seek-words-start
+    part-seek-words-end
+    seek-words-requires
     enum-known-r
     mul-t20
     add-t21

@@ -1,4 +1,4 @@
--- `ewah_read::nth::seek_blocks` meets its contract: by `nth-part`, the bit found in a block is the one asked for of the words.
+-- `ewah_read::nth::seek_words` meets its contract: by `nth-part`, the bit found in a part is the one asked for of the words.
 -- The invariant: with the bits of the first i words passed, so many set bits are still ahead.
 -- Assumes nothing.
 use borrow.Author.Needs.{needs}
@@ -13,8 +13,8 @@ use borrow.Rule.Slice.PartMut.{mid-len}
 use Rattle.meaning.specs.Segment.{ones, hasRow}
 use Rattle.meaning.specs.Demands.{IsNth}
 use Rattle.meaning.proofs.Counting.{ones-part, nth-part}
-use Rattle.ewah_read.proofs.nth.seek_blocks.Statement.{statement}
-use Rattle.ewah_read.proofs.nth.seek_blocks.Tie as tie
+use Rattle.ewah_read.proofs.nth.seek_words.Statement.{statement}
+use Rattle.ewah_read.proofs.nth.seek_words.Tie as tie
 
 abbrev Inv-loop : tie.InvT-loop
 Inv-loop ws k ahead₀ i₀ ahead i = (i ≤ length ws) × (ones 32 (take i ws) + ahead ≡ k)
@@ -26,17 +26,17 @@ loop-holds : tie.Need-loop-holds Inv-loop μ-loop
 unfolding ones
 loop-holds c = search needs
 
-block-end-requires : tie.Need-block-end-requires Inv-loop μ-loop
-block-end-requires c κs = search needs
+skip-end-requires : tie.Need-skip-end-requires Inv-loop μ-loop
+skip-end-requires c κs = search needs
 
--- the words of the block are as many as its ends say
-block-length : (c : tie.After-block-end Inv-loop μ-loop)
+-- the part has as many words as its ends say
+part-length : (c : tie.After-skip-end Inv-loop μ-loop)
     → let h = c .before .before in
-    let n = c .block-end .result - h .loop .i in
+    let n = c .skip-end .result - h .loop .i in
     length (take n (drop (h .loop .i) (now (h .before .before .args .ws)))) ≡ n
-block-length c =
+part-length c =
     let h = c .before .before in
-    mid-len (h .loop .i) (c .block-end .result) (now (h .before .before .args .ws)) (c .block-end .ensures .1)
+    mid-len (h .loop .i) (c .skip-end .result) (now (h .before .before .args .ws)) (c .skip-end .ensures .1)
 
 count-requires : tie.Need-count-requires Inv-loop μ-loop
 count-requires c κs = search needs
@@ -62,9 +62,9 @@ part-find-end c = search needs
 find-requires : tie.Need-find-requires Inv-loop μ-loop
 find-requires c κs =
     let w = c .before .before in
-    (omega (arith, block-length (w .before)), rw (w .count .ensures) at (c .before .if1 .taken))
+    (omega (arith, part-length (w .before)), rw (w .count .ensures) at (c .before .if1 .taken))
 
--- the bit that the block has, as one of the words
+-- the bit that the part has, as one of the words
 found : (c : tie.After-find Inv-loop μ-loop)
     → let h = c .before .before .before .before .before .before in
     let ws = now (h .before .before .args .ws) in
@@ -74,7 +74,7 @@ found c =
     let h = e .before .before in
     let ws = now (h .before .before .args .ws) in
     let i = h .loop .i in
-    let n = e .block-end .result - i in
+    let n = e .skip-end .result - i in
     rw (h .loop .inv .1)
     at (nth-part 32 (lit< tt) ws i n (h .loop .ahead) (c .find .result) (h .loop .inv .0) (c .find .ensures))
 
@@ -93,8 +93,8 @@ loop-again c =
     let e = w .before in
     let h = e .before .before in
     let ws = now (h .before .before .args .ws) in
-    let more = ones-part 32 ws (h .loop .i) (e .block-end .result) (omega arith) in
-    (e .block-end .ensures .1, omega (arith, h .loop .inv .1, w .count .ensures, more))
+    let more = ones-part 32 ws (h .loop .i) (e .skip-end .result) (omega arith) in
+    (e .skip-end .ensures .1, omega (arith, h .loop .inv .1, w .count .ensures, more))
 
 returns-2 : tie.Need-returns-2 Inv-loop μ-loop
 returns-2 c =
@@ -103,14 +103,14 @@ returns-2 c =
     let e : h .i ≡ length ws = omega arith in
     omega (arith, h .inv .1, ap (λ (i : ℕ). ones 32 (take i ws)) e, ap (ones 32) (take-length ws))
 
-pub seek-blocks-spec : {M : Type 1} → statement M
-seek-blocks-spec =
+pub seek-words-spec : {M : Type 1} → statement M
+seek-words-spec =
     tie.close
     (tie.spec
     Inv-loop
     μ-loop
     loop-holds
-    block-end-requires
+    skip-end-requires
     count-requires
     cast-t9
     mul-t10
