@@ -12,6 +12,9 @@ use crate::timing::best_seconds;
 /// The rows that are measured.
 const ROWS: u32 = 1_000_000;
 
+/// How many times as long as the library's count, on the dense body, the count bit by bit has to take.
+const ASKED: f64 = 2.0;
+
 #[derive(Debug, Clone, Copy, PartialEq, Eq)]
 enum Call {
     BodyCount,
@@ -65,19 +68,27 @@ pub fn one(call: &str, kind: &str, rows: &str, bitmaps: &str, repeats: &str) -> 
     Some(())
 }
 
-/// All of it.
-pub fn table() {
+/// All of it. Whether the library's count is as fast as is asked.
+pub fn table() -> bool {
     println!("\ncounting; ns are per segment; x is the time / that of the library's call above it");
-    for kind in [Kind::Dense, Kind::Calm, Kind::Quiet] {
-        let data = Data::new(kind, ROWS, 1);
-        println!("\n{} body, {ROWS} rows, {} segments, {} words", kind.name(), data.segments(), data.words());
-        let library = count_lines(&data);
-        if kind == Kind::Dense {
-            ones_lines(&data, library);
-            nth_lines(&data, "middle", count_ones(data.plain(0)) / 2);
-            nth_lines(&data, "last", count_ones(data.plain(0)) - 1);
-        }
+    let dense = body(Kind::Dense);
+    let (library, bitwise) = count_lines(&dense);
+    ones_lines(&dense, library);
+    nth_lines(&dense, "middle", count_ones(dense.plain(0)) / 2);
+    nth_lines(&dense, "last", count_ones(dense.plain(0)) - 1);
+    for kind in [Kind::Calm, Kind::Quiet] {
+        count_lines(&body(kind));
     }
+    let times = bitwise / library;
+    println!("\ndense body: bit by bit takes {times:.2} times as long; at least {ASKED} is asked");
+    times >= ASKED
+}
+
+/// A body of this kind, with its heading.
+fn body(kind: Kind) -> Data {
+    let data = Data::new(kind, ROWS, 1);
+    println!("\n{} body, {ROWS} rows, {} segments, {} words", kind.name(), data.segments(), data.words());
+    data
 }
 
 /// The best time of some work that has a known answer.
@@ -93,14 +104,14 @@ fn print(data: &Data, name: &str, seconds: f64, library: Option<f64>) {
     println!("  {name:24}{:12.3} us {per_segment:10.4} ns{beside}", seconds * 1e6);
 }
 
-/// The library's count, and the same bit by bit. Returns the library's time.
-fn count_lines(data: &Data) -> f64 {
+/// The library's count, and the same bit by bit: their times.
+fn count_lines(data: &Data) -> (f64, f64) {
     let answer = count_ones(data.plain(0));
     let [library, bitwise] =
         [Call::BodyCount, Call::Bitwise].map(|call| timed(answer, "body_count", || measured_call(call, data, 0)));
     print(data, "body_count", library, None);
     print(data, "  bitwise", bitwise, Some(library));
-    library
+    (library, bitwise)
 }
 
 /// Every build of Rust's loop over the dirty words, which are the plain words where all segments are mixed.

@@ -37,7 +37,8 @@ fn help() -> ExitCode {
 bench            {ROWS:?} rows, {BITMAPS:?} bitmaps (minutes); columns
 bench --quick    {QUICK_ROWS} rows, {QUICK_BITMAPS} bitmaps; columns
 bench --columns  the calls on columns alone
-bench --counting body_count and body_nth alone, beside more programs
+bench --counting body_count and body_nth alone, beside more programs; exit
+                 code 1 if bit by bit takes less than twice as long
 bench --one CALL KIND ROWS BITMAPS REPEATS
                  one call so many times, nothing else timed
 bench --one COLUMN-CALL COLUMN-KIND ROWS SLICES REPEATS
@@ -82,7 +83,11 @@ fn main() -> ExitCode {
         [] => table(&ROWS, &BITMAPS),
         ["--quick"] => table(&[QUICK_ROWS], &[QUICK_BITMAPS]),
         ["--columns"] => columns::table(),
-        ["--counting"] => counting::table(),
+        ["--counting"] => {
+            if !counting::table() {
+                return ExitCode::FAILURE;
+            }
+        }
         ["--one", call, kind, rows, of, repeats] => {
             let ones = [one, counting::one, columns::one];
             if ones.iter().all(|one| one(call, kind, rows, of, repeats).is_none()) {
