@@ -20,6 +20,11 @@ use Rattle.ewah.specs.Markers.{FieldsOf}
 use Rattle.ewah.specs.declared.marker.Marker.{Marker}
 use Rattle.ewah.proofs.MarkerStep.{read-step}
 
+-- where there are no dirty words, none of their bits are set
+pub none-set : (b : List ℕ) (from to : ℕ) → to ≡ from → ones 32 (take (to - from) (drop from b)) ≡ 0
+unfolding ones
+none-set b from to e = let z : to - from ≡ 0 = omega (arith, e) in rw z refl
+
 -- at the marker at word i, or at the end: n bits of the segments behind are set
 pub record Passed (b : List ℕ) (i n : ℕ) : Type 0 where
   pub behind : ℕ

@@ -87,6 +87,9 @@ fn seek(value: u32, clean: u32, body: &[u32], from: usize, to: usize, k: u32) ->
         return Sought::Here(k);
     }
     let ahead = k - run;
+    if to == from {
+        return Sought::Ahead(ahead);
+    }
     if SKIP_WORDS < to - from {
         match seek_words(&body[from..to], ahead) {
             Sought::Here(r) => return Sought::Here(clean * 32 + r),

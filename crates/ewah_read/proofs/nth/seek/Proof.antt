@@ -9,6 +9,7 @@ use lib.ListN.{length, take, drop, replicate, length-replicate}
 use Rattle.meaning.specs.Segment.{ones, fill, hasRow}
 use Rattle.meaning.specs.Demands.{IsNth}
 use Rattle.meaning.proofs.Counting.{ones-append, nth-left, nth-right, nth-run}
+use Rattle.ewah_read.proofs.Passing.{none-set}
 use Rattle.ewah_read.specs.declared.nth.Sought.the-variants.{Here, Ahead}
 use native.Mathlib.Omega.{arith}
 use borrow.Author.Needs.{needs}
@@ -48,7 +49,7 @@ passed e = omega (arith, e .before .count-run .ensures)
 
 -- the row that the dirty words have
 told : (c : tie.After-r)
-    → let t = c .before .before .before .before .before .before in
+    → let t = c .before .before .before .before .before .before .before in
     IsNth (length (words t) * 32) (hasRow 32 (words t)) (t .before .before .args .k - t .count-run .result) (c .r .given .0 .0)
 told c =
     let b = c .before .before in
@@ -64,8 +65,15 @@ returns c =
     let few = rw (c .before .count-run .ensures) at (c .if1 .taken) in
     in-run (s .args .clean) (s .args .value) _ (s .args .k) (s .pre .0) few
 
-sub-if2 : tie.Need-sub-if2
-sub-if2 c = search needs
+returns-2 : tie.Need-returns-2
+returns-2 c =
+    let t = c .before .before in
+    let a = t .before .before .args in
+    let none = none-set (now (a .body)) (a .from) (a .to) (c .if2 .taken) in
+    omega (arith, t .count-run .ensures, none, ones-append 32 (run t) (words t))
+
+sub-if3 : tie.Need-sub-if3
+sub-if3 c = search needs
 
 mul-seek-words : tie.Need-mul-seek-words
 mul-seek-words c = search needs
@@ -91,18 +99,18 @@ mul-t20 c = search needs
 add-t21 : tie.Need-add-t21
 add-t21 c = omega (arith, told (c .before) .below)
 
-returns-2 : tie.Need-returns-2
-returns-2 c =
-    let t = c .before .before .before .before .before .before .before in
+returns-3 : tie.Need-returns-3
+returns-3 c =
+    let t = c .before .before .before .before .before .before .before .before in
     let a = t .before .before .args in
-    in-words (a .clean) (a .value) (words t) _ (a .k) _ (passed (c .before .before .before .before .before .before)) (told (c .before))
+    in-words (a .clean) (a .value) (words t) _ (a .k) _ (passed (c .before .before .before .before .before .before .before)) (told (c .before))
 
 enum-known-j : tie.Need-enum-known-j
 enum-known-j c = search needs
 
-returns-3 : tie.Need-returns-3
-returns-3 c =
-    let t = c .before .before .before .before .before .before .before in
+returns-4 : tie.Need-returns-4
+returns-4 c =
+    let t = c .before .before .before .before .before .before .before .before in
     let b = c .before .before .before in
     let a = t .before .before .args in
     let e : b .seek-words .result ≡ Ahead (c .before .j .given .0 .0) = c .before .j .given .1 in
@@ -133,15 +141,15 @@ find-requires c κs = search needs
 add-t29 : tie.Need-add-t29
 add-t29 c = search needs
 
-returns-4 : tie.Need-returns-4
-returns-4 c =
-    let t = c .before .before .before .before .before .before in
-    let a = t .before .before .args in
-    in-words (a .clean) (a .value) (words t) _ (a .k) _ (passed (c .before .before .before .before .before)) (c .find .ensures)
-
 returns-5 : tie.Need-returns-5
 returns-5 c =
-    let t = c .before .before .before .before in
+    let t = c .before .before .before .before .before .before .before in
+    let a = t .before .before .args in
+    in-words (a .clean) (a .value) (words t) _ (a .k) _ (passed (c .before .before .before .before .before .before)) (c .find .ensures)
+
+returns-6 : tie.Need-returns-6
+returns-6 c =
+    let t = c .before .before .before .before .before in
     omega (arith, t .count-run .ensures, c .before .count-words .ensures, ones-append 32 (run t) (words t))
 
 pub seek-spec : {M : Type 1} → statement M
@@ -150,7 +158,8 @@ seek-spec =
     (tie.spec
     count-run-requires
     returns
-    sub-if2
+    returns-2
+    sub-if3
     mul-seek-words
     sub-seek-words
     part-seek-words-start
@@ -159,9 +168,9 @@ seek-spec =
     enum-known-r
     mul-t20
     add-t21
-    returns-2
-    enum-known-j
     returns-3
+    enum-known-j
+    returns-4
     count-words-requires
     mul-t22
     mul-find
@@ -170,5 +179,5 @@ seek-spec =
     part-find-end
     find-requires
     add-t29
-    returns-4
-    returns-5)
+    returns-5
+    returns-6)
