@@ -12,7 +12,7 @@ use native.Mathlib.Nat.{mod-lt, pow-suc, zero-div}
 use native.Mathlib.Decide.{decLe}
 use native.Mathlib.Omega.{arith}
 use Rattle.meaning.specs.Limits.{blockSegments}
-use Rattle.meaning.specs.Rows.{bit, sumBelow}
+use Rattle.meaning.specs.Rows.{sumBelow}
 use Rattle.meaning.specs.Segment.{bitAt, isSet}
 use Rattle.meaning.specs.Column.{sumValue}
 use Rattle.words.proofs.BitLaws.{bit-lt}

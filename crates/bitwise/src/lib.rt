@@ -1,5 +1,6 @@
-// A count that tests the 32 bits of each dirty word one by one, as a measure of how much faster the library counts: `bench`
-// alone links it, and nothing of the library uses it. It checks the body as the library does, and its answers are the same.
+// A count that tests the 32 bits of each dirty word one by one, as a measure of how much faster the library counts:
+// `bench` alone links it, and nothing of the library uses it. It checks the body as the library does, and its answers are
+// the same.
 ghost use mathlib.Core.Path.{_≡_};
 ghost use Rattle.meaning.specs.Answer as meaning;
 ghost use Rattle.answers.specs.Told.{numberOf};

@@ -49,7 +49,8 @@ pub record Read (b : List ℕ) (i n : ℕ) (m : Marker) : Type 0 where
   pub passed : Passed b i n
   pub over : Step b i (passed .behind) (m .value) (m .clean) (m .dirty)
 
-pub marker-read : {b : List ℕ} {i n : ℕ} {m : Marker} → Passed b i n → i < length b → FieldsOf (getD b i 0) m → Read b i n m
+pub marker-read : {b : List ℕ} {i n : ℕ} {m : Marker} → Passed b i n → i < length b → FieldsOf (getD b i 0) m
+    → Read b i n m
 marker-read {b = b} {i = i} {m = m} p h f = record { passed = p; over = read-step b i (p .behind) m (p .stands) h f }
 
 module _ {b : List ℕ} {i n : ℕ} {m : Marker} (g : Read b i n m) where

@@ -18,7 +18,7 @@ pub fn count_run(value: u32, clean: u32) -> u32
     clean * (value * 32)
 }
 
-// How many bits of the words from `from` to `to` are set. Most markers have no dirty words or few of them, and are not worth a call.
+// How many bits of the words from `from` to `to` are set. Most markers have no dirty words, or fewer than a block.
 pub fn count_words(ws: &[u32], from: usize, to: usize) -> u32
     requires { ⌜ (from ≤ to) × (to ≤ length (now ws)) × (to ≤ from + mostSegments) ⌝ }
     ensures { λ r. ⌜ r ≡ ones 32 (take (to - from) (drop from (now (ws .entry)))) ⌝ }

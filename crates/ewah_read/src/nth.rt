@@ -15,8 +15,8 @@ use ewah::marker;
 use popcount::BLOCK;
 use words::bits;
 
-// How many words are passed at once by their count: whole blocks of the population count, and few enough that to go through them word by
-// word, where they have the bit, takes little beside the counting.
+// How many words are passed at once by their count: whole blocks of the population count, and few enough that to go
+// through them word by word, where they have the bit, takes little beside the counting.
 const SKIP_WORDS: usize = 8 * BLOCK;
 
 // The set bit of the words that has k set bits before it, as a row of theirs.
@@ -56,7 +56,8 @@ fn skip_end(at: usize, len: usize) -> usize
     len
 }
 
-// The set bit of the words that has k set bits before it: so many words at once are passed by their count, until some have it.
+// The set bit of the words that has k set bits before it: SKIP_WORDS at a time are passed by their count, until some
+// have it.
 fn seek_words(ws: &[u32], k: u32) -> Sought
     requires { ⌜ length (now ws) ≤ mostDirty ⌝ }
     ensures { λ r. ⌜ SoughtIn (now (ws .entry)) k r ⌝ }
@@ -75,12 +76,13 @@ fn seek_words(ws: &[u32], k: u32) -> Sought
     Sought::Ahead(ahead)
 }
 
-// The row of one marker's segments that has k set rows before it: the clean run is passed first, and then its dirty words, those from
-// `from` to `to`: where they are few, all at once.
+// The row of one marker's segments that has k set rows before it: the clean run is passed first, and then its dirty
+// words, those from `from` to `to`: where they are few, all at once.
 fn seek(value: u32, clean: u32, body: &[u32], from: usize, to: usize, k: u32) -> Sought
     requires { ⌜ (value < 2) × (clean ≤ mostClean)
         × (from ≤ to) × (to ≤ length (now body)) × (to ≤ from + mostDirty) ⌝ }
-    ensures { λ r. ⌜ SoughtIn (replicate clean (fill 32 32 value) ++ take (to - from) (drop from (now (body .entry)))) k r ⌝ }
+    ensures { λ r. ⌜ SoughtIn
+        (replicate clean (fill 32 32 value) ++ take (to - from) (drop from (now (body .entry)))) k r ⌝ }
 {
     let run = count::count_run(value, clean);
     if k < run {

@@ -97,7 +97,7 @@ ones-block w xs at (suc n) =
     ones-take-suc w (drop at xs) n
     ∙ ap₂ (λ (m k : ℕ). m + k) (ones-block w xs at n) (ap (λ (x : ℕ). countBelow w (isSet x)) (getD-drop at xs n 0))
 
--- the segments up to e, as code lends those from i on
+-- the set bits up to segment e: those up to i, and those of the part from i to e
 pub ones-part : (w : ℕ) (xs : List ℕ) (i e : ℕ) → i ≤ e
     → ones w (take e xs) ≡ ones w (take i xs) + ones w (take (e - i) (drop i xs))
 ones-part w xs i e h =

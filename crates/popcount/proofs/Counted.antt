@@ -6,14 +6,13 @@ use mathlib.Core.List.{List}
 use lib.ListN.{getD, take, drop, replicate, getD-replicate}
 use native.Mathlib.Numerals.{add-one}
 use native.Mathlib.Omega.{arith}
-use Rattle.meaning.specs.Rows.{bit, sumBelow, countBelow}
+use Rattle.meaning.specs.Rows.{sumBelow, countBelow}
 use Rattle.meaning.specs.Limits.{mostSegments}
 use Rattle.meaning.specs.Segment.{bitAt, isSet, ones}
 use Rattle.meaning.proofs.Counting.{count-le, zero-count, ones-block}
 use Rattle.meaning.proofs.Sums.{sum-ext, sum-zero, sum-join}
-use Rattle.words.specs.Sums.{Added}
+use Rattle.words.specs.Sums.{Added, PartOf}
 use Rattle.words.proofs.BitLaws.{bit-set}
-use Rattle.words.proofs.Entries.{Filled}
 use Rattle.popcount.specs.Counts.{lanes, pairSize, blockSize, setBits, setIn}
 
 -- how many bits word w of a vector has set
@@ -24,17 +23,24 @@ setAt a w = countBelow 32 (isSet (getD a w 0))
 abbrev pub setFirst : (a : List ℕ) (n : ℕ) → ℕ
 setFirst a n = sumBelow n (setAt a)
 
+-- one word more of any words
+next-sum : (f : ℕ → ℕ) (n : ℕ) → sumBelow (n + 1) f ≡ sumBelow n f + f n
+unfolding sumBelow
+next-sum f n = rw (add-one n)
+
+-- none has more than 32
+sum-most : (f : ℕ → ℕ) → ((i : ℕ) → f i ≤ 32) → (n : ℕ) → sumBelow n f ≤ n * 32
+unfolding sumBelow
+sum-most f h zero = omega arith
+sum-most f h (suc n) = omega (arith, sum-most f h n, h n)
+
 -- ---- a vector
 
--- one word more
 pub first-next : (a : List ℕ) (n : ℕ) → setFirst a (n + 1) ≡ setFirst a n + setAt a n
-unfolding sumBelow
-first-next a n = rw (add-one n)
+first-next a n = next-sum (setAt a) n
 
 pub first-le : (a : List ℕ) (n : ℕ) → setFirst a n ≤ n * 32
-unfolding sumBelow
-first-le a zero = omega arith
-first-le a (suc n) = omega (arith, first-le a n, count-le 32 (isSet (getD a n 0)))
+first-le a n = sum-most (setAt a) (λ i. count-le 32 (isSet (getD a i 0))) n
 
 pub first-all : (a : List ℕ) → setFirst a lanes ≡ setBits a
 unfolding setBits
@@ -47,10 +53,10 @@ zeros-clear =
     (λ w l. ap (λ (x : ℕ). countBelow 32 (isSet x)) (getD-replicate {A = ℕ} lanes w 0 0 l) ∙ zero-count 32)
 
 -- a vector of the words from `at` on
-pub loaded : (x was r : List ℕ) (at : ℕ) → Filled (λ w. getD x (at + w) 0) was r lanes → setBits r ≡ setIn x at lanes
+pub part-bits : {x r : List ℕ} {at : ℕ} → PartOf lanes x at r → setBits r ≡ setIn x at lanes
 unfolding setBits setIn
-loaded x was r at f =
-    sum-ext lanes (setAt r) (λ w. setAt x (at + w)) (λ w l. ap (λ (y : ℕ). countBelow 32 (isSet y)) (f .done w l))
+part-bits {x = x} {r = r} {at = at} p =
+    sum-ext lanes (setAt r) (λ w. setAt x (at + w)) (λ w l. ap (λ (y : ℕ). countBelow 32 (isSet y)) (p .words w l))
 
 -- ---- a full adder at each bit
 
@@ -123,7 +129,7 @@ set-block x at =
       set-join x at 56 8,
     )
 
--- the law of blocks, of words
+-- the set bits of a part as a contract has them, as such a sum: the law of blocks
 pub part-set : (x : List ℕ) (at n : ℕ) → ones 32 (take n (drop at x)) ≡ setIn x at n
 unfolding setIn
 part-set x at n = ones-block 32 x at n
@@ -134,13 +140,12 @@ set-none x at = let e : at - at ≡ 0 = omega arith in rw e
 
 -- a word more
 pub set-next : (x : List ℕ) (at n : ℕ) → setIn x at (n + 1) ≡ setIn x at n + setAt x (at + n)
-unfolding setIn sumBelow
-set-next x at n = rw (add-one n)
+unfolding setIn
+set-next x at n = next-sum (λ i. setAt x (at + i)) n
 
 pub set-le : (x : List ℕ) (at n : ℕ) → setIn x at n ≤ n * 32
-unfolding setIn sumBelow
-set-le x at zero = omega arith
-set-le x at (suc n) = omega (arith, set-le x at n, count-le 32 (isSet (getD x (at + n) 0)))
+unfolding setIn
+set-le x at n = sum-most (λ i. setAt x (at + i)) (λ i. count-le 32 (isSet (getD x (at + i) 0))) n
 
 -- ---- words from `from` to i, counted so far
 

@@ -1,6 +1,6 @@
-// How many bits of words are set: their population count. The target has no instruction for it, and to count a word by shifts and sums takes
-// many. So blocks of 64 words go through carry-save adders, which leave one word in 16 to be counted; what is behind the last whole
-// block is counted word by word.
+// How many bits of words are set: their population count. The target has no instruction for it, and to count a word by
+// shifts and sums takes many. So blocks of 64 words go through carry-save adders, which leave one word in 16 to be
+// counted; what is behind the last whole block is counted word by word.
 ghost use mathlib.Core.Path.{_≡_};
 ghost use Prim.Native.Nat.{_+_, _-_, _%_, _≤_};
 ghost use lib.ListN.{length, take, drop};

@@ -1,5 +1,6 @@
-// Counters that lie across vectors, the planes: at each place a plane has one binary digit of how many bits were set there so far. The
-// carries out of the highest plane leave with each block.
+// Counters that lie across vectors, the planes: at each place a plane has one binary digit of how many bits were set
+// there so far. The carries out of the highest plane leave with each block. The contracts speak of sums over all places
+// alone.
 ghost use mathlib.Core.Path.{_≡_};
 ghost use Prim.Native.Nat.{_+_, _*_, _≤_};
 ghost use lib.ListN.{length};
@@ -12,7 +13,7 @@ use crate::vector::Sums;
 // How many words two vectors have.
 const PAIR: usize = 2 * LANES;
 
-// The planes by the weight of their digits; `sixteens` are the carries of the last block.
+// The planes by the weight of their digits; `sixteens` are the carries of the last block, and no plane.
 pub struct Planes {
     pub ones: [u32; LANES],
     pub twos: [u32; LANES],
@@ -69,7 +70,8 @@ fn next_carries(s: Sums, t: Sums, before: Sums) -> Sums
     add_carries(s, t, plane)
 }
 
-// The block of words from `at` on added to the planes: 8 pairs of vectors, whose carries are twos, theirs fours, theirs eights.
+// The block of words from `at` on added to the planes: 8 pairs of vectors, whose carries are twos, theirs fours, theirs
+// eights, and theirs the sixteens.
 pub fn add_block(ws: &[u32], at: usize, p: Planes) -> Planes
     requires { ⌜ at + blockSize ≤ length (now ws) ⌝ }
     ensures { λ r. ⌜ weight r + 16 * setBits (r .sixteens) ≡ setIn (now (ws .entry)) at blockSize + weight p ⌝ }

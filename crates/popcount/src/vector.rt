@@ -1,8 +1,10 @@
-// Vectors: as many words as the machine works on at once, in local arrays, at which nothing else points. Bit j of word w is one of their places.
+// Vectors: as many words as the machine works on at once, in local arrays, at which nothing else points. Bit j of word w
+// is one of their places. Of a sum the contract says how many bits it stands for in all, which is all that a count needs.
 ghost use mathlib.Core.Path.{_≡_};
 ghost use Prim.Native.Nat.{_+_, _*_, _≤_};
 ghost use lib.ListN.{length};
-ghost use Rattle.popcount.specs.Counts.{lanes, setBits, setIn};
+ghost use Rattle.words.specs.Sums.{PartOf};
+ghost use Rattle.popcount.specs.Counts.{lanes, setBits};
 ghost use Rattle.popcount.specs.Weights.{summed};
 use words::bits;
 
@@ -12,7 +14,7 @@ pub const LANES: usize = 4;
 // The vector of the words from `at` on.
 pub fn load(ws: &[u32], at: usize) -> [u32; LANES]
     requires { ⌜ at + lanes ≤ length (now ws) ⌝ }
-    ensures { λ r. ⌜ setBits r ≡ setIn (now (ws .entry)) at lanes ⌝ }
+    ensures { λ r. ⌜ PartOf lanes (now (ws .entry)) at r ⌝ }
 {
     let mut r: [u32; LANES] = [0; LANES];
     for w in 0..LANES {

@@ -1,4 +1,5 @@
--- `bitwise::zv_body_count_bitwise` meets its contract: `numbers` of what `body_count` told; no refusal of it has number 0.
+-- `bitwise::zv_body_count_bitwise` meets its contract: `numbers` of what `body_count` told; no refusal of it has number
+-- 0.
 -- Assumes nothing.
 use mathlib.Core.Path.{ap, _∙_}
 use denote.Ref.{now}

@@ -1,4 +1,4 @@
--- `popcount::count` meets its contract: the whole blocks, and what is behind them.
+-- `popcount::count` meets its contract: by `set-parts`, the whole blocks, and what is behind them.
 -- Assumes nothing.
 use mathlib.Core.Path.{_≡_, sym, ap₂, _∙_}
 use Prim.Native.Nat.{ℕ, _+_, _-_, _*_, _/_}

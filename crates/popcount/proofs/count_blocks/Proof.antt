@@ -1,5 +1,5 @@
--- `popcount::count_blocks` meets its contract. The invariant: what the planes hold and what has left them are the set bits of the words
--- from `from` to i, which are whole blocks.
+-- `popcount::count_blocks` meets its contract, by `block-next`. The invariant: what the planes hold and what has left
+-- them are the set bits of the words from `from` to i, which are whole blocks.
 -- Assumes nothing.
 use mathlib.Core.Path.{_≡_, ap, _∙_}
 use Prim.Native.Nat.{ℕ, _+_, _-_, _*_, _%_, _^_, _≤_, _<_}

@@ -1,4 +1,5 @@
--- `popcount::count_each` meets its contract. The invariant: n bits of the words from `from` to i are set.
+-- `popcount::count_each` meets its contract, by `each-next`. The invariant: n bits of the words from `from` to i are
+-- set.
 -- Assumes nothing.
 use mathlib.Core.Path.{_≡_, sym, ap, _∙_}
 use Prim.Native.Nat.{ℕ, _+_, _-_, _≤_}

@@ -1,5 +1,5 @@
--- `bitwise::count::count` meets its contract, by the laws of `ewah_read`'s `Passing`. The invariant: the walk stands at a
--- marker, and n bits of the segments behind are set.
+-- `bitwise::count::count` meets its contract, by the laws of `ewah_read`'s `Passing`. The invariant: the walk stands at
+-- a marker, and n bits of the segments behind are set.
 -- Assumes nothing.
 use borrow.Author.Needs.{needs}
 use native.Mathlib.Omega.{arith}

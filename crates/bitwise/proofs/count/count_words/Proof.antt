@@ -1,4 +1,4 @@
--- `bitwise::count::count_words` meets its contract. The invariant: n bits of the first i words are set.
+-- `bitwise::count::count_words` meets its contract, by `ones-next`. The invariant: n bits of the first i words are set.
 -- Assumes nothing.
 use borrow.Author.Needs.{needs}
 use native.Mathlib.Omega.{arith}

@@ -50,7 +50,8 @@ passed e = omega (arith, e .before .count-run .ensures)
 -- the row that the dirty words have
 told : (c : tie.After-r)
     → let t = c .before .before .before .before .before .before .before in
-    IsNth (length (words t) * 32) (hasRow 32 (words t)) (t .before .before .args .k - t .count-run .result) (c .r .given .0 .0)
+    let k = t .before .before .args .k in
+    IsNth (length (words t) * 32) (hasRow 32 (words t)) (k - t .count-run .result) (c .r .given .0 .0)
 told c =
     let b = c .before .before in
     let e : b .seek-words .result ≡ Here (c .r .given .0 .0) = c .r .given .1 in
@@ -103,7 +104,8 @@ returns-3 : tie.Need-returns-3
 returns-3 c =
     let t = c .before .before .before .before .before .before .before .before in
     let a = t .before .before .args in
-    in-words (a .clean) (a .value) (words t) _ (a .k) _ (passed (c .before .before .before .before .before .before .before)) (told (c .before))
+    in-words (a .clean) (a .value) (words t) _ (a .k) _
+    (passed (c .before .before .before .before .before .before .before)) (told (c .before))
 
 enum-known-j : tie.Need-enum-known-j
 enum-known-j c = search needs
@@ -114,8 +116,8 @@ returns-4 c =
     let b = c .before .before .before in
     let a = t .before .before .args in
     let e : b .seek-words .result ≡ Ahead (c .before .j .given .0 .0) = c .before .j .given .1 in
-    let left-over : ones 32 (words t) + c .before .j .given .0 .0 ≡ a .k - t .count-run .result = rw e at (b .seek-words .ensures) in
-    omega (arith, left-over, t .count-run .ensures, ones-append 32 (run t) (words t))
+    let left : ones 32 (words t) + c .before .j .given .0 .0 ≡ a .k - t .count-run .result = rw e at (b .seek-words .ensures) in
+    omega (arith, left, t .count-run .ensures, ones-append 32 (run t) (words t))
 
 count-words-requires : tie.Need-count-words-requires
 count-words-requires c κs = search needs
@@ -145,7 +147,8 @@ returns-5 : tie.Need-returns-5
 returns-5 c =
     let t = c .before .before .before .before .before .before .before in
     let a = t .before .before .args in
-    in-words (a .clean) (a .value) (words t) _ (a .k) _ (passed (c .before .before .before .before .before .before)) (c .find .ensures)
+    in-words (a .clean) (a .value) (words t) _ (a .k) _
+    (passed (c .before .before .before .before .before .before)) (c .find .ensures)
 
 returns-6 : tie.Need-returns-6
 returns-6 c =

@@ -1,4 +1,5 @@
--- `popcount::planes::add_block` meets its contract: `set-block`, and the sums of the adders, each with its weight.
+-- `popcount::planes::add_block` meets its contract: `set-block`, and by `sums-weighed` the sums of the adders, each with
+-- its weight.
 -- Assumes nothing.
 use mathlib.Core.Path.{sym, ap, _∙_}
 use Prim.Native.Nat.{ℕ, _+_, _^_, _<_}
@@ -99,21 +100,36 @@ next-carries-requires-4 c κs = search needs
 add-carries-requires-3 : tie.Need-add-carries-requires-3
 add-carries-requires-3 c κs = search needs
 
+-- what each call told, from the last back to the first; then pairs of sums, and pairs of these
 returns : tie.Need-returns
 unfolding summed weight
 returns c =
-    let r = c .before .before .before .before .before in
-    let a = r .before .before .before .before .before .before .before in
-    let s = a .before .before .before .before .before .before .before .before .before .before .before .before .before .args in
-    let first = sum-on _ _ _ _ _ _ _ (a .before .before .before .before .before .before .before .add-pair .ensures) (a .before .before .before .before .before .before .next-pair .ensures) in
-    let second = sum-on _ _ _ _ _ _ _ (a .before .before .before .before .before .next-pair2 .ensures) (a .before .before .before .before .next-pair3 .ensures) in
-    let third = sum-on _ _ _ _ _ _ _ (a .before .before .before .next-pair4 .ensures) (a .before .before .next-pair5 .ensures) in
-    let fourth = sum-on _ _ _ _ _ _ _ (a .before .next-pair6 .ensures) (a .next-pair7 .ensures) in
+    let d = c .before .before .before .before .before in
+    let c1 = d .before in
+    let c0 = c1 .before in
+    let b3 = c0 .before in
+    let b2 = b3 .before in
+    let b1 = b2 .before in
+    let b0 = b1 .before in
+    let a7 = b0 .before in
+    let a6 = a7 .before in
+    let a5 = a6 .before in
+    let a4 = a5 .before in
+    let a3 = a4 .before in
+    let a2 = a3 .before in
+    let a1 = a2 .before in
+    let a0 = a1 .before in
+    let s = a0 .before .before .before .before .before .before .args in
+    let first = sum-on _ _ _ _ _ _ _ (a0 .add-pair .ensures) (a1 .next-pair .ensures) in
+    let second = sum-on _ _ _ _ _ _ _ (a2 .next-pair2 .ensures) (a3 .next-pair3 .ensures) in
+    let third = sum-on _ _ _ _ _ _ _ (a4 .next-pair4 .ensures) (a5 .next-pair5 .ensures) in
+    let fourth = sum-on _ _ _ _ _ _ _ (a6 .next-pair6 .ensures) (a7 .next-pair7 .ensures) in
     let ones = sum-on _ _ _ _ _ _ _ (sum-on _ _ _ _ _ _ _ first second) (sum-on _ _ _ _ _ _ _ third fourth) in
-    let low-twos = sum-on _ _ _ _ _ _ _ (r .before .before .before .before .before .before .add-carries .ensures) (r .before .before .before .before .before .next-carries .ensures) in
-    let high-twos = sum-on _ _ _ _ _ _ _ (r .before .before .before .before .next-carries2 .ensures) (r .before .before .before .next-carries3 .ensures) in
-    let fours = sum-on _ _ _ _ _ _ _ (r .before .before .add-carries2 .ensures) (r .before .next-carries4 .ensures) in
-    sums-weighed _ _ _ _ _ _ _ _ _ _ _ _ _ ones (sum-on _ _ _ _ _ _ _ low-twos high-twos) fours (r .add-carries3 .ensures)
+    let low-twos = sum-on _ _ _ _ _ _ _ (b0 .add-carries .ensures) (b1 .next-carries .ensures) in
+    let high-twos = sum-on _ _ _ _ _ _ _ (b2 .next-carries2 .ensures) (b3 .next-carries3 .ensures) in
+    let twos = sum-on _ _ _ _ _ _ _ low-twos high-twos in
+    let fours = sum-on _ _ _ _ _ _ _ (c0 .add-carries2 .ensures) (c1 .next-carries4 .ensures) in
+    sums-weighed _ _ _ _ _ _ _ _ _ _ _ _ _ ones twos fours (d .add-carries3 .ensures)
     ∙ ap (λ (n : ℕ). n + weight (s .p)) (sym (set-block (now (s .ws)) (s .at)))
 
 pub add-block-spec : {M : Type 1} → statement M

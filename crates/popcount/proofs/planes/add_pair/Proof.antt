@@ -1,8 +1,8 @@
--- `popcount::planes::add_pair` meets its contract: `set-pair`, and the adder's law.
+-- `popcount::planes::add_pair` meets its contract: `set-pair`, and what `vector::add` promises.
 -- Assumes nothing.
 use mathlib.Core.Path.{_∙_}
 use denote.Ref.{now}
-use Rattle.popcount.proofs.Counted.{set-pair}
+use Rattle.popcount.proofs.Counted.{set-pair, part-bits}
 use native.Mathlib.Omega.{arith}
 use borrow.Author.Needs.{needs}
 use Rattle.popcount.proofs.planes.add_pair.Tie as tie
@@ -24,7 +24,7 @@ returns : tie.Need-returns
 returns c =
     let a = c .before .before .before .before .args in
     c .add .ensures
-    ∙ omega (arith, c .before .load2 .ensures, c .before .before .load .ensures, set-pair (now (a .ws)) (a .at))
+    ∙ omega (arith, part-bits (c .before .load2 .ensures), part-bits (c .before .before .load .ensures), set-pair (now (a .ws)) (a .at))
 
 pub add-pair-spec : {M : Type 1} → statement M
 add-pair-spec = tie.close (tie.spec load-requires add-load load-requires-2 add-requires returns)

@@ -1,4 +1,5 @@
--- `popcount::vector::add` meets its contract. The invariant: the first w words of both vectors are there.
+-- `popcount::vector::add` meets its contract, by `added-all` and `set-added`. The invariant: the first w words of both
+-- vectors are there.
 -- Assumes nothing.
 use mathlib.Core.Path.{_≡_, refl}
 use mathlib.Core.List.{List}

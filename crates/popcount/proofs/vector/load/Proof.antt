@@ -6,7 +6,6 @@ use denote.Ref.{now}
 use lib.ListN.{getD, replicate}
 use Rattle.words.proofs.Entries.{Filled, filled-from, filled-more}
 use Rattle.popcount.specs.Counts.{lanes}
-use Rattle.popcount.proofs.Counted.{loaded}
 use borrow.Author.Needs.{needs}
 use native.Mathlib.Omega.{arith}
 use Rattle.popcount.proofs.vector.load.Tie as tie
@@ -54,9 +53,9 @@ loop-again c =
 returns : tie.Need-returns Inv-loop μ-loop
 returns c =
     let h = c .before .loop in
-    let a = c .before .before .args in
     let w-is : h .w ≡ lanes = omega arith in
-    loaded (now (a .ws)) (replicate lanes 0) (h .r) (a .at) (rw w-is at (h .inv .1))
+    let f = rw w-is at (h .inv .1) in
+    record { long = f .long; words = f .done }
 
 pub load-spec : {M : Type 1} → statement M
 load-spec =

@@ -1,4 +1,4 @@
--- `popcount::vector::set_bits` meets its contract. The invariant: n bits of the first w words are set.
+-- `popcount::vector::set_bits` meets its contract, by `first-all`. The invariant: n bits of the first w words are set.
 -- Assumes nothing.
 use mathlib.Core.Path.{_≡_, _∙_}
 use Prim.Native.Nat.{_+_, _-_, _≤_}
