@@ -31,7 +31,7 @@ module _ (b : List ℕ) (c : Cursor) (n : ℕ) (x : List ℕ) (at : ℕ) (x′ :
   }
 
   -- those of a clean run
-  pub run-taken : (v left : ℕ) → c .piece ≡ Clean v left → n ≤ left → Replaced x x′ at n (λ i. fill 32 32 v) → Passes b c n r
+  pub run-taken : (v left : ℕ) → c .piece ≡ Clean v left → n ≤ left → Replaced x x′ at n (λ i. fill 32 v) → Passes b c n r
       → SpanTaken b c n x at x′ r
   run-taken v left e h p go = spanned _ p go (λ o a i l. run-word b o c a v left e i (omega arith))
 

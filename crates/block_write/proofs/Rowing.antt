@@ -38,39 +38,39 @@ agree-more f g xs i h e p = rw (first-more f xs i h, first-more g xs i h, e, p)
 
 module _ (xs : List ℕ) (i : ℕ) (h : i < length xs) where
   -- the next one is put
-  pub grown-next : {w v r : Writer} → Grown w (map (kind 32 32) (take i xs)) v → Grown v (kind 32 32 (getD xs i 0) ∷ []) r
-      → Grown w (map (kind 32 32) (take (i + 1) xs)) r
+  pub grown-next : {w v r : Writer} → Grown w (map (kind 32) (take i xs)) v → Grown v (kind 32 (getD xs i 0) ∷ []) r
+      → Grown w (map (kind 32) (take (i + 1) xs)) r
   grown-next f g =
-      rw (first-more (kind 32 32) xs i h) (grown-more (map (kind 32 32) (take i xs)) (kind 32 32 (getD xs i 0) ∷ []) f g)
+      rw (first-more (kind 32) xs i h) (grown-more (map (kind 32) (take i xs)) (kind 32 (getD xs i 0) ∷ []) f g)
 
-  pub pushed-next : {out mid out′ : List ℕ} {w v r : Writer} → Writing w → Pushed out mid w (map (kind 32 32) (take i xs)) v
-      → Pushed mid out′ v (kind 32 32 (getD xs i 0) ∷ []) r → Pushed out out′ w (map (kind 32 32) (take (i + 1) xs)) r
+  pub pushed-next : {out mid out′ : List ℕ} {w v r : Writer} → Writing w → Pushed out mid w (map (kind 32) (take i xs)) v
+      → Pushed mid out′ v (kind 32 (getD xs i 0) ∷ []) r → Pushed out out′ w (map (kind 32) (take (i + 1) xs)) r
   pushed-next p f g =
-      rw (first-more (kind 32 32) xs i h) (pushed-more (map (kind 32 32) (take i xs)) (kind 32 32 (getD xs i 0) ∷ []) p f g)
+      rw (first-more (kind 32) xs i h) (pushed-more (map (kind 32) (take i xs)) (kind 32 (getD xs i 0) ∷ []) p f g)
 
   -- a row is its first words, the next one and the rest
-  row-split : map (kind 32 32) xs ≡ (map (kind 32 32) (take i xs) ++ kind 32 32 (getD xs i 0) ∷ []) ++ map (kind 32 32) (drop (i + 1) xs)
+  row-split : map (kind 32) xs ≡ (map (kind 32) (take i xs) ++ kind 32 (getD xs i 0) ∷ []) ++ map (kind 32) (drop (i + 1) xs)
   row-split =
-      ap (map (kind 32 32)) (sym (take-append-drop (i + 1) xs))
-      ∙ map-append (kind 32 32) (take (i + 1) xs) (drop (i + 1) xs)
-      ∙ ap (λ (l : List Segment). l ++ map (kind 32 32) (drop (i + 1) xs)) (first-more (kind 32 32) xs i h)
+      ap (map (kind 32)) (sym (take-append-drop (i + 1) xs))
+      ∙ map-append (kind 32) (take (i + 1) xs) (drop (i + 1) xs)
+      ∙ ap (λ (l : List Segment). l ++ map (kind 32) (drop (i + 1) xs)) (first-more (kind 32) xs i h)
 
   -- room for all is room for the next one
-  pub room-next : {w v : Writer} {n : ℕ} → RoomFor (map (kind 32 32) xs) w n → Grown w (map (kind 32 32) (take i xs)) v
-      → RoomFor (kind 32 32 (getD xs i 0) ∷ []) v n
+  pub room-next : {w v : Writer} {n : ℕ} → RoomFor (map (kind 32) xs) w n → Grown w (map (kind 32) (take i xs)) v
+      → RoomFor (kind 32 (getD xs i 0) ∷ []) v n
   room-next {w} {n} r g =
-      let ss = map (kind 32 32) (take i xs) in
-      let s = kind 32 32 (getD xs i 0) ∷ [] in
-      let ts = map (kind 32 32) (drop (i + 1) xs) in
+      let ss = map (kind 32) (take i xs) in
+      let s = kind 32 (getD xs i 0) ∷ [] in
+      let ts = map (kind 32) (drop (i + 1) xs) in
       room-rest ss s (room-first (ss ++ s) ts (subst (λ (l : List Segment). RoomFor l w n) row-split r)) g
 
   -- each has taken two words at most
-  pub used-first : {w v : Writer} → Writing w → Grown w (map (kind 32 32) (take i xs)) v
+  pub used-first : {w v : Writer} → Writing w → Grown w (map (kind 32) (take i xs)) v
       → v .used ≤ w .used + 2 * length xs
   used-first p g =
       let d = p .0 in
-      let ss = map (kind 32 32) (take i xs) in
-      let l : length ss ≡ i = length-map (take i xs) (kind 32 32) ∙ length-take-le i xs (omega arith) in
+      let ss = map (kind 32) (take i xs) in
+      let l : length ss ≡ i = length-map (take i xs) (kind 32) ∙ length-take-le i xs (omega arith) in
       omega (arith, used-is d (p .1), used-is (foldl put d ss) (g d (p .1)), puts-add d ss)
 
 -- ---- written or only measured
@@ -86,10 +86,10 @@ emitted-measured t g = record { grown = g; stored = λ e. absurd (true≢false (
 -- ---- the segments of a row
 
 pub row-even : (words : List ℕ) (n : ℕ) {even : Bool} → even ≡ true
-    → rowSegments words n even ≡ replicate n (kind 32 32 (getD words 0 0))
+    → rowSegments words n even ≡ replicate n (kind 32 (getD words 0 0))
 unfolding rowSegments
 row-even words n e = rw e
 
-pub row-each : (words : List ℕ) (n : ℕ) {even : Bool} → even ≡ false → rowSegments words n even ≡ map (kind 32 32) words
+pub row-each : (words : List ℕ) (n : ℕ) {even : Bool} → even ≡ false → rowSegments words n even ≡ map (kind 32) words
 unfolding rowSegments
 row-each words n e = rw e

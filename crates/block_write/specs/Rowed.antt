@@ -11,7 +11,7 @@ use Rattle.ewah_write.specs.Drafts.{Grown}
 
 -- the segments of a row of words; where all n segments are alike, of its first word
 unfoldable pub rowSegments : (words : List ℕ) (n : ℕ) (even : Bool) → List Segment
-rowSegments words n even = cond even (replicate n (kind 32 32 (getD words 0 0))) (map (kind 32 32) words)
+rowSegments words n even = cond even (replicate n (kind 32 (getD words 0 0))) (map (kind 32) words)
 
 -- a word of no mixed segment
 abbrev pub CleanWord : ℕ → Type 0

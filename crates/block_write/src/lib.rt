@@ -21,7 +21,7 @@ use meaning::MOST_DIRTY;
 // The value of the clean segments whose word is x.
 fn clean_value(x: u32) -> u32
     requires { ⌜ CleanWord x ⌝ }
-    ensures { λ r. ⌜ (r < 2) × (kind 32 32 x ≡ clean r) ⌝ }
+    ensures { λ r. ⌜ (r < 2) × (kind 32 x ≡ clean r) ⌝ }
 {
     if x == 0 {
         return 0;
@@ -33,8 +33,8 @@ fn clean_value(x: u32) -> u32
 fn emit_even(out: &mut [u32], w: Writer, x: u32, n: u32, store: bool) -> Writer
     requires { ⌜ Writing w ⌝ }
     requires { ⌜ (w .used < 2 ^ 60) × (n ≤ mostClean) × CleanWord x ⌝ }
-    requires { ⌜ (store ≡ true → RoomFor (replicate n (kind 32 32 x)) w (length (now out))) ⌝ }
-    ensures { λ r. ⌜ Emitted (now (out .entry)) (now (out .exit)) w (replicate n (kind 32 32 x)) store r ⌝ }
+    requires { ⌜ (store ≡ true → RoomFor (replicate n (kind 32 x)) w (length (now out))) ⌝ }
+    ensures { λ r. ⌜ Emitted (now (out .entry)) (now (out .exit)) w (replicate n (kind 32 x)) store r ⌝ }
 {
     let value = clean_value(x);
     if store {
@@ -45,7 +45,7 @@ fn emit_even(out: &mut [u32], w: Writer, x: u32, n: u32, store: bool) -> Writer
 
 // No word is all zeros or all ones.
 fn all_mixed(words: &[u32]) -> bool
-    ensures { λ r. ⌜ (r ≡ true → map (kind 32 32) (now (words .entry)) ≡ map mixed (now (words .entry))) ⌝ }
+    ensures { λ r. ⌜ (r ≡ true → map (kind 32) (now (words .entry)) ≡ map mixed (now (words .entry))) ⌝ }
 {
     let mut i: usize = 0;
     while i < words.len() {
@@ -65,7 +65,7 @@ fn all_mixed(words: &[u32]) -> bool
 fn joins(w: Writer, words: &[u32]) -> bool
     requires { ⌜ Writing w ⌝ }
     ensures { λ r. ⌜ (r ≡ true → (w .last .dirty + length (now (words .entry)) ≤ mostDirty)
-        × (map (kind 32 32) (now (words .entry)) ≡ map mixed (now (words .entry)))) ⌝ }
+        × (map (kind 32) (now (words .entry)) ≡ map mixed (now (words .entry)))) ⌝ }
 {
     let last = w.last;
     let room = (MOST_DIRTY - last.dirty) as usize;
@@ -135,7 +135,7 @@ fn emit_mixed(out: &mut [u32], w: Writer, words: &[u32], store: bool) -> Writer
 fn grow_each(w: Writer, words: &[u32]) -> Writer
     requires { ⌜ Writing w ⌝ }
     requires { ⌜ (w .used < 2 ^ 60) × (length (now words) ≤ blockSegments) ⌝ }
-    ensures { λ r. ⌜ Grown w (map (kind 32 32) (now (words .entry))) r ⌝ }
+    ensures { λ r. ⌜ Grown w (map (kind 32) (now (words .entry))) r ⌝ }
 {
     let mut v = w;
     let mut i: usize = 0;
@@ -149,8 +149,8 @@ fn grow_each(w: Writer, words: &[u32]) -> Writer
 
 // `grow_each`, with the words.
 fn push_each(out: &mut [u32], w: Writer, words: &[u32]) -> Writer
-    requires { ⌜ RoomFor (map (kind 32 32) (now words)) w (length (now out)) ⌝ }
-    ensures { λ r. ⌜ Pushed (now (out .entry)) (now (out .exit)) w (map (kind 32 32) (now (words .entry))) r ⌝ }
+    requires { ⌜ RoomFor (map (kind 32) (now words)) w (length (now out)) ⌝ }
+    ensures { λ r. ⌜ Pushed (now (out .entry)) (now (out .exit)) w (map (kind 32) (now (words .entry))) r ⌝ }
 {
     let mut v = w;
     let mut i: usize = 0;
@@ -166,8 +166,8 @@ fn push_each(out: &mut [u32], w: Writer, words: &[u32]) -> Writer
 fn emit_each(out: &mut [u32], w: Writer, words: &[u32], store: bool) -> Writer
     requires { ⌜ Writing w ⌝ }
     requires { ⌜ (w .used < 2 ^ 60) × (length (now words) ≤ blockSegments) ⌝ }
-    requires { ⌜ (store ≡ true → RoomFor (map (kind 32 32) (now words)) w (length (now out))) ⌝ }
-    ensures { λ r. ⌜ Emitted (now (out .entry)) (now (out .exit)) w (map (kind 32 32) (now (words .entry))) store r ⌝ }
+    requires { ⌜ (store ≡ true → RoomFor (map (kind 32) (now words)) w (length (now out))) ⌝ }
+    ensures { λ r. ⌜ Emitted (now (out .entry)) (now (out .exit)) w (map (kind 32) (now (words .entry))) store r ⌝ }
 {
     if store {
         return push_each(out, w, words);

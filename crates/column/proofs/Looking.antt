@@ -28,12 +28,12 @@ and-false true = refl
 and-false false = refl
 
 -- a run of zeros of the slice
-zeros-clear : (e j : ℕ) → overBit (fill 32 32 0) e j ≡ false
+zeros-clear : (e j : ℕ) → overBit (fill 32 0) e j ≡ false
 unfolding fill
 zeros-clear e j = rw (zero-clear j)
 
 -- a run of ones of existence
-ones-clear : (x j : ℕ) → j < 32 → overBit x (fill 32 32 1) j ≡ false
+ones-clear : (x j : ℕ) → j < 32 → overBit x (fill 32 1) j ≡ false
 unfolding fill allSet
 ones-clear x j h = rw (full-set 32 j h) (and-false (isSet x j))
 

@@ -52,7 +52,7 @@ module _ (b : List ℕ) (o : ℕ) (c : Cursor) (a : Ahead b o (piecesFrom b c)) 
       go (Dirty x) e = omega arith
 
   -- the segments of a clean run are its word
-  pub run-word : (v left : ℕ) → c .piece ≡ Clean v left → (i : ℕ) → i < left → getD (segments b) (o + i) 0 ≡ fill 32 32 v
+  pub run-word : (v left : ℕ) → c .piece ≡ Clean v left → (i : ℕ) → i < left → getD (segments b) (o + i) 0 ≡ fill 32 v
   run-word v zero e i h = absurd (omega arith)
   run-word v (suc n) e i h = ahead-run b o v (suc n) others (unfold pieceThen runThen in ahead-of (Clean v (suc n)) e) i h
 

@@ -23,7 +23,7 @@ unfolding segmentCount
 some-rows R left c h k e = omega arith
 
 -- a clean run that reaches the last segment; x is the word of its segments
-pub run-last : (R left c v x : ℕ) (t : Bool) → (c ≡ 0 → ⊥) → c ≡ left → x ≡ fill 32 32 v → t ≡ leb (lastLimit 32 R) x → t ≡ overPad 32 R left c (fill 32 (lastRows 32 R) v)
+pub run-last : (R left c v x : ℕ) (t : Bool) → (c ≡ 0 → ⊥) → c ≡ left → x ≡ fill 32 v → t ≡ leb (lastLimit 32 R) x → t ≡ overPad 32 R left c (fill (lastRows 32 R) v)
 unfolding fill
 run-last R left c v x t h e f g = rw (← f) (over-last 32 R left c x t h e g)
 
@@ -38,7 +38,7 @@ module _ (b : List ℕ) (R at left c d v : ℕ) (h : at < length b) (hc : c ≡ 
   -- the faults at the marker, and then those of its dirty words
   chain : (k place : ℕ) → faultFrom k R place 0 left (drop at b) ≡ refuseIf (ltb (length b - at - 1) d) 5 k place
       (refuseIf (ltb left (c + d)) 6 k place
-      (refuseIf (overPad 32 R left c (fill 32 (lastRows 32 R) v)) 7 k place
+      (refuseIf (overPad 32 R left c (fill (lastRows 32 R) v)) 7 k place
       (faultFrom k R (suc place) d (left - c) (drop (suc at) b))))
   unfolding faultFrom
   chain k place =
@@ -56,16 +56,16 @@ module _ (b : List ℕ) (R at left c d v : ℕ) (h : at < length b) (hc : c ≡ 
 
     module _ (l : c + d ≤ left) where
       -- past the counts; s is the answer on the run, t that on the dirty words
-      counted : (s : Bool) → s ≡ overPad 32 R left c (fill 32 (lastRows 32 R) v) → (k place : ℕ)
+      counted : (s : Bool) → s ≡ overPad 32 R left c (fill (lastRows 32 R) v) → (k place : ℕ)
           → faultFrom k R place 0 left (drop at b) ≡ refuseIf s 7 k place (faultFrom k R (suc place) d (left - c) (drop (suc at) b))
       unfolding refuseIf
       counted s e k place = chain k place ∙ rw (le-ltb (length b - at - 1) d g, le-ltb left (c + d) l, e)
 
-      pub step-7 : (s : Bool) → s ≡ overPad 32 R left c (fill 32 (lastRows 32 R) v) → s ≡ true → Faulty b R at left 7 at
+      pub step-7 : (s : Bool) → s ≡ overPad 32 R left c (fill (lastRows 32 R) v) → s ≡ true → Faulty b R at left 7 at
       unfolding refuseIf
       step-7 s e y = record { inside = h; first = λ k start. counted s e k (start + at) ∙ rw y }
 
-      module _ (s t : Bool) (e : s ≡ overPad 32 R left c (fill 32 (lastRows 32 R) v)) (n : s ≡ false) (f : t ≡ overPad 32 R (left - c) d (getD b (at + d) 0)) where
+      module _ (s t : Bool) (e : s ≡ overPad 32 R left c (fill (lastRows 32 R) v)) (n : s ≡ false) (f : t ≡ overPad 32 R (left - c) d (getD b (at + d) 0)) where
         skipped : (k place : ℕ) → faultFrom k R place 0 left (drop at b) ≡ refuseIf t 7 k (suc place + (d - 1)) (faultFrom k R (suc place + d) 0 (left - c - d) (drop (at + d + 1) b))
         unfolding refuseIf
         skipped k place =

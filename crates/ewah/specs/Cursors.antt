@@ -24,7 +24,7 @@ ValueLow (Dirty x) = Unit {0}
 
 -- the word that every segment of a piece is
 abbrev pub wordOf : code.Piece → ℕ
-wordOf (Clean v n) = fill 32 32 v
+wordOf (Clean v n) = fill 32 v
 wordOf (Dirty x) = x
 
 -- what is left of the piece, and then the others

@@ -22,7 +22,7 @@ enum Step {
 fn run_over_pad(rows: u32, left: u32, c: u32, value: u32) -> bool
     requires { ⌜ left ≤ segmentCount 32 rows ⌝ }
     requires { ⌜ value < 2 ⌝ }
-    ensures { λ r. ⌜ r ≡ overPad 32 rows left c (fill 32 (lastRows 32 rows) value) ⌝ }
+    ensures { λ r. ⌜ r ≡ overPad 32 rows left c (fill (lastRows 32 rows) value) ⌝ }
 {
     if c == 0 {
         return false;

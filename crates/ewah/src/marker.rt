@@ -34,7 +34,7 @@ pub fn word(m: Marker) -> u32
 // The word of a clean segment.
 pub fn segment(value: u32) -> u32
     requires { ⌜ value < 2 ⌝ }
-    ensures { λ r. ⌜ r ≡ fill 32 32 value ⌝ }
+    ensures { λ r. ⌜ r ≡ fill 32 value ⌝ }
 {
     value * 0xFFFF_FFFF
 }

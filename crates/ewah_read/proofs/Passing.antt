@@ -68,7 +68,7 @@ module _ {b : List ℕ} {i n : ℕ} {m : Marker} (g : Read b i n m) where
 
   -- with the set bits of its run and of its dirty words
   module _ (r w : ℕ)
-      (run : r ≡ ones 32 (replicate (m .clean) (fill 32 32 (m .value))))
+      (run : r ≡ ones 32 (replicate (m .clean) (fill 32 (m .value))))
       (dirty : w ≡ ones 32 (take (i + 1 + m .dirty - (i + 1)) (drop (i + 1) b))) where
     up-to-next : n + (r + w) ≡ ones 32 (take (g .passed .behind + m .clean + m .dirty) (segments b))
     up-to-next =
@@ -78,7 +78,7 @@ module _ {b : List ℕ} {i n : ℕ} {m : Marker} (g : Read b i n m) where
           run,
           dirty,
           ap (ones 32) (part-is b (i + 1) (m .dirty)),
-          ones-append 32 (replicate (m .clean) (fill 32 32 (m .value))) (take (m .dirty) (drop (i + 1) b)),
+          ones-append 32 (replicate (m .clean) (fill 32 (m .value))) (take (m .dirty) (drop (i + 1) b)),
           ones-step b i (g .passed .behind) (m .value) (m .clean) (m .dirty) (g .over),
         )
 

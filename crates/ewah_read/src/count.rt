@@ -13,7 +13,7 @@ use popcount::BLOCK;
 // How many bits of a clean run are set.
 pub fn count_run(value: u32, clean: u32) -> u32
     requires { ⌜ (value < 2) × (clean ≤ mostClean) ⌝ }
-    ensures { λ r. ⌜ r ≡ ones 32 (replicate clean (fill 32 32 value)) ⌝ }
+    ensures { λ r. ⌜ r ≡ ones 32 (replicate clean (fill 32 value)) ⌝ }
 {
     clean * (value * 32)
 }

@@ -33,7 +33,7 @@ fn copy(out: &mut [u32], from: &[u32])
 // The words are one marker's segments: its clean run, and then its dirty words.
 fn place(out: &mut [u32], value: u32, clean: usize, dirty: &[u32])
     requires { ⌜ (value < 2) × (length (now out) ≡ clean + length (now dirty)) ⌝ }
-    ensures { λ _. ⌜ now (out .exit) ≡ replicate clean (fill 32 32 value) ++ now (dirty .entry) ⌝ }
+    ensures { λ _. ⌜ now (out .exit) ≡ replicate clean (fill 32 value) ++ now (dirty .entry) ⌝ }
 {
     fill(&mut out[..clean], marker::segment(value));
     copy(&mut out[clean..], dirty);

@@ -82,7 +82,7 @@ fn seek(value: u32, clean: u32, body: &[u32], from: usize, to: usize, k: u32) ->
     requires { ⌜ (value < 2) × (clean ≤ mostClean)
         × (from ≤ to) × (to ≤ length (now body)) × (to ≤ from + mostDirty) ⌝ }
     ensures { λ r. ⌜ SoughtIn
-        (replicate clean (fill 32 32 value) ++ take (to - from) (drop from (now (body .entry)))) k r ⌝ }
+        (replicate clean (fill 32 value) ++ take (to - from) (drop from (now (body .entry)))) k r ⌝ }
 {
     let run = count::count_run(value, clean);
     if k < run {

@@ -118,14 +118,14 @@ grown-opened w h x d t =
 
 -- ---- the kind of a segment, by its word
 
-pub kind-zeros : {x : ℕ} → x ≡ 0 → kind 32 32 x ≡ clean 0
+pub kind-zeros : {x : ℕ} → x ≡ 0 → kind 32 x ≡ clean 0
 unfolding kind
 kind-zeros e = rw e
 
-pub kind-ones : {x : ℕ} → x ≡ 4294967295 → kind 32 32 x ≡ clean 1
+pub kind-ones : {x : ℕ} → x ≡ 4294967295 → kind 32 x ≡ clean 1
 unfolding kind allSet
 kind-ones e = rw e
 
-pub kind-other : {x : ℕ} → (x ≡ 0 → ⊥) → (x ≡ 4294967295 → ⊥) → kind 32 32 x ≡ mixed x
+pub kind-other : {x : ℕ} → (x ≡ 0 → ⊥) → (x ≡ 4294967295 → ⊥) → kind 32 x ≡ mixed x
 unfolding allSet
-kind-other {x} h g = kind-mixed 32 32 x h g
+kind-other {x} h g = kind-mixed 32 x h g

@@ -9,7 +9,7 @@ use crate::writer;
 
 // How many words `write` takes: the same steps with no buffer.
 pub fn measure(plain: &[u32]) -> usize
-    ensures { λ r. ⌜ r ≡ length (canonicalOf (map (kind 32 32) (now (plain .entry)))) ⌝ }
+    ensures { λ r. ⌜ r ≡ length (canonicalOf (map (kind 32) (now (plain .entry)))) ⌝ }
 {
     let mut w = writer::start();
     let mut i: usize = 0;
@@ -23,10 +23,10 @@ pub fn measure(plain: &[u32]) -> usize
 
 // The body from the front of `out`, in exactly the words that `measure` counts; words behind it keep their values.
 pub fn write(plain: &[u32], out: &mut [u32]) -> usize
-    requires { ⌜ length (canonicalOf (map (kind 32 32) (now plain))) ≤ length (now out) ⌝ }
-    ensures { λ r. ⌜ r ≡ length (canonicalOf (map (kind 32 32) (now (plain .entry)))) ⌝ }
+    requires { ⌜ length (canonicalOf (map (kind 32) (now plain))) ≤ length (now out) ⌝ }
+    ensures { λ r. ⌜ r ≡ length (canonicalOf (map (kind 32) (now (plain .entry)))) ⌝ }
     ensures { λ r. ⌜ now (out .exit)
-        ≡ canonicalOf (map (kind 32 32) (now (plain .entry))) ++ drop r (now (out .entry)) ⌝ }
+        ≡ canonicalOf (map (kind 32) (now (plain .entry))) ++ drop r (now (out .entry)) ⌝ }
 {
     let mut w = writer::start();
     let mut i: usize = 0;

@@ -112,7 +112,7 @@ pub fn grow_mixed(w: Writer) -> Writer
 pub fn grow_segment(w: Writer, x: u32) -> Writer
     requires { ⌜ Writing w ⌝ }
     requires { ⌜ w .used < 2 ^ 62 ⌝ }
-    ensures { λ r. ⌜ Grown w (kind 32 32 x ∷ []) r ⌝ }
+    ensures { λ r. ⌜ Grown w (kind 32 x ∷ []) r ⌝ }
 {
     if x == 0 {
         return grow_run(w, 0, 1);
@@ -169,8 +169,8 @@ pub fn push_mixed(out: &mut [u32], w: Writer, x: u32) -> Writer
 
 // `grow_segment`, with the words.
 pub fn push_segment(out: &mut [u32], w: Writer, x: u32) -> Writer
-    requires { ⌜ RoomFor (kind 32 32 x ∷ []) w (length (now out)) ⌝ }
-    ensures { λ r. ⌜ Pushed (now (out .entry)) (now (out .exit)) w (kind 32 32 x ∷ []) r ⌝ }
+    requires { ⌜ RoomFor (kind 32 x ∷ []) w (length (now out)) ⌝ }
+    ensures { λ r. ⌜ Pushed (now (out .entry)) (now (out .exit)) w (kind 32 x ∷ []) r ⌝ }
 {
     if x == 0 {
         return push_run(out, w, 0, 1);

@@ -27,7 +27,7 @@ unfolding write
 written R p room b e =
     let is = fits-answer room (canonical R p) b e in
     let right = canonical-body R p in
-    rw is (record { right = right; form = canonical-form R p; pads = body-laws .sound-means R (canonical R p) .0 (right .isSound) .pads })
+    rw is (record { right = right; form = canonical-form R p })
 
 of-pair : (index : List ℕ) (op : (ℕ → Bool) → (ℕ → Bool) → ℕ → Bool) (j k room : ℕ) (b : List ℕ) → logical index op j k room ≡ answer b
     → Answers (rowCount index) (op (rowsAt index j) (rowsAt index k)) b

@@ -1,65 +1,110 @@
 -- Questions on one sound body, answered from the set bits of its segments.
 -- Assumes nothing.
-use Prim.Native.Nat.{ℕ, _+_, _*_, _≤_}
+use Prim.Native.Nat.{ℕ, _+_, _-_, _*_, _/_, _%_, _^_, _≤_, _<_}
+use mathlib.Core.Bool.{false}
 use mathlib.Core.Path.{_≡_, sym, ap, _∙_, subst}
 use mathlib.Core.List.{List, _++_, append-assoc}
 use lib.Dec.{lit<}
-use lib.ListN.{length, take, drop, replicate, take-append-drop}
+use lib.ListN.{length, getD, take, drop, replicate, take-append-drop}
 use lib.Seq.{length-take-le}
+use lib.Pow.{pow-mono, pow-add}
+use native.Mathlib.Nat.{div-div-eq-div-mul, div-eq-of-lt}
 use native.Mathlib.Omega.{arith}
 use borrow.Author.Tests.{le-leb, lt-leb}
 use Rattle.meaning.specs.Rows.{countBelow}
-use Rattle.meaning.specs.Segment.{hasRow, ones, fill}
+use Rattle.meaning.specs.Segment.{hasRow, isSet, bitAt, ones, fill, segmentCount}
 use Rattle.meaning.specs.Refusal.{refused, answer, refuseIf}
 use Rattle.meaning.specs.Ewah.{segments, rowsOf}
 use Rattle.meaning.specs.Answer.{askNth}
 use Rattle.meaning.specs.Demands.{IsNth}
-use Rattle.meaning.specs.Laws.{SoundFacts}
-use Rattle.meaning.proofs.Counted.{nth-eq, nth-below}
-use Rattle.meaning.proofs.Counting.{ones-append, count-rows, nth-row, nth-left, nth-right}
+use Rattle.meaning.proofs.Counted.{nth-eq, nth-below, count-none}
+use Rattle.meaning.proofs.RowWords.{has-at}
+use Rattle.meaning.proofs.Counting.{count-add, count-ext, ones-append, count-rows, nth-row, nth-over, nth-left, nth-right}
 use Rattle.meaning.proofs.Walk.{Step}
 
 -- ---- the set bits of the segments behind a walk
 
 pub ones-step : (b : List ℕ) (i o v c d : ℕ) → Step b i o v c d
-    → ones 32 (take (o + c + d) (segments b)) ≡ ones 32 (take o (segments b)) + ones 32 (replicate c (fill 32 32 v) ++ take d (drop (i + 1) b))
-ones-step b i o v c d s = rw (s .more) (ones-append 32 (take o (segments b)) (replicate c (fill 32 32 v) ++ take d (drop (i + 1) b)))
+    → ones 32 (take (o + c + d) (segments b)) ≡ ones 32 (take o (segments b)) + ones 32 (replicate c (fill 32 v) ++ take d (drop (i + 1) b))
+ones-step b i o v c d s = rw (s .more) (ones-append 32 (take o (segments b)) (replicate c (fill 32 v) ++ take d (drop (i + 1) b)))
 
 -- the marker's segments, between those behind and those ahead
 between : (b : List ℕ) (i o v c d : ℕ) → Step b i o v c d
-    → segments b ≡ take o (segments b) ++ (replicate c (fill 32 32 v) ++ take d (drop (i + 1) b) ++ drop (o + c + d) (segments b))
+    → segments b ≡ take o (segments b) ++ (replicate c (fill 32 v) ++ take d (drop (i + 1) b) ++ drop (o + c + d) (segments b))
 between b i o v c d s =
-    let run = replicate c (fill 32 32 v) ++ take d (drop (i + 1) b) in
+    let run = replicate c (fill 32 v) ++ take d (drop (i + 1) b) in
     let ahead = drop (o + c + d) (segments b) in
     sym (take-append-drop (o + c + d) (segments b)) ∙ ap (λ (l : List ℕ). l ++ ahead) (s .more) ∙ append-assoc (take o (segments b)) run ahead
 
 pub nth-step : (b : List ℕ) (i o v c d : ℕ) → Step b i o v c d → (k r : ℕ)
-    → let xs = replicate c (fill 32 32 v) ++ take d (drop (i + 1) b) in
+    → let xs = replicate c (fill 32 v) ++ take d (drop (i + 1) b) in
     IsNth (length xs * 32) (hasRow 32 xs) k r
     → IsNth (length (segments b) * 32) (hasRow 32 (segments b)) (ones 32 (take o (segments b)) + k) (o * 32 + r)
 nth-step b i o v c d s k r a =
     let t = take o (segments b) in
-    let xs = replicate c (fill 32 32 v) ++ take d (drop (i + 1) b) in
+    let xs = replicate c (fill 32 v) ++ take d (drop (i + 1) b) in
     let ahead = drop (o + c + d) (segments b) in
     let n : length t ≡ o = length-take-le o (segments b) (omega (arith, s .counts)) in
     let all : IsNth (length (t ++ (xs ++ ahead)) * 32) (hasRow 32 (t ++ (xs ++ ahead))) (ones 32 t + k) (length t * 32 + r) =
     nth-right 32 (lit< tt) t (xs ++ ahead) k r (nth-left 32 (lit< tt) xs ahead k r a) in
     subst (λ (l : List ℕ). IsNth (length l * 32) (hasRow 32 l) (ones 32 t + k) (o * 32 + r)) (sym (between b i o v c d s)) (rw n at all)
 
--- ---- a sound body of R rows
+-- ---- a body with as many segments as R rows have
 
-module _ (R : ℕ) (b : List ℕ) (s : SoundFacts R b) where
-  -- the set rows are the set bits
-  pub rows-count : countBelow R (rowsOf b) ≡ ones 32 (segments b)
+module _ (R : ℕ) (b : List ℕ) (count : length (segments b) ≡ segmentCount 32 R) where
+  -- the set bits are the set rows, and the pad bits that a run of ones sets
+  pub rows-count : ones 32 (segments b) ≡ countBelow R (rowsOf b) + countBelow (length (segments b) * 32 - R) (λ r. rowsOf b (R + r))
   unfolding rowsOf
-  rows-count = count-rows 32 (lit< tt) R (segments b) (s .count) (s .pads)
+  rows-count = count-rows 32 (lit< tt) R (segments b) count
 
-  pub nth-found : (n r : ℕ) → IsNth (length (segments b) * 32) (hasRow 32 (segments b)) n r → askNth R (rowsOf b) n ≡ answer r
+  pub nth-found : (n r : ℕ) → IsNth (length (segments b) * 32) (hasRow 32 (segments b)) n r → r < R → askNth R (rowsOf b) n ≡ answer r
   unfolding rowsOf askNth refuseIf
-  nth-found n r a =
-      let i : IsNth R (hasRow 32 (segments b)) n r = nth-row 32 (lit< tt) R (segments b) (s .count) (s .pads) n r a in
+  nth-found n r a h =
+      let i : IsNth R (hasRow 32 (segments b)) n r = nth-row 32 (lit< tt) R (segments b) n r a h in
       rw (lt-leb (countBelow R (hasRow 32 (segments b))) n (nth-below R (hasRow 32 (segments b)) n r i), nth-eq R (hasRow 32 (segments b)) n r i)
+
+  -- a set bit past the last row
+  pub nth-pad : (n r : ℕ) → IsNth (length (segments b) * 32) (hasRow 32 (segments b)) n r → R ≤ r → askNth R (rowsOf b) n ≡ refused 8 0 0
+  unfolding rowsOf askNth refuseIf
+  nth-pad n r a h = rw (le-leb (countBelow R (hasRow 32 (segments b))) n (nth-over 32 (lit< tt) R (segments b) n r a h))
 
   pub nth-past : (n : ℕ) → ones 32 (segments b) ≤ n → askNth R (rowsOf b) n ≡ refused 8 0 0
   unfolding askNth refuseIf
-  nth-past n h = rw (rows-count, le-leb (ones 32 (segments b)) n h)
+  nth-past n h = rw (le-leb (countBelow R (rowsOf b)) n (omega (arith, rows-count)))
+
+  -- the pad bits of the last segment, as the bits that are left where its rows are shifted out
+  pub pad-bits : (R % 32 ≡ 0 → ⊥) → getD (segments b) (R / 32) 0 < 2 ^ 32
+      → countBelow 32 (isSet (getD (segments b) (R / 32) 0 / 2 ^ (R % 32))) ≡ countBelow (length (segments b) * 32 - R) (λ r. rowsOf b (R + r))
+  unfolding rowsOf segmentCount isSet bitAt
+  pad-bits h low =
+      let x = getD (segments b) (R / 32) 0 in
+      let k = R % 32 in
+      let n = 32 - k in
+      let q = isSet (x / 2 ^ k) in
+      let e : n + k ≡ 32 = omega arith in
+      let m : n ≡ length (segments b) * 32 - R = omega (arith, count) in
+      ap (λ (i : ℕ). countBelow i q) (sym e)
+      ∙ count-add n k q
+      ∙ omega (
+        arith,
+        count-none k (λ r. q (n + r)) (λ r g. high r),
+        count-ext n q (λ r. hasRow 32 (segments b) (R + r)) (λ r g. row r (omega arith)),
+        ap (λ (i : ℕ). countBelow i (λ r. hasRow 32 (segments b) (R + r))) m,
+      )
+    where
+      past : (x r : ℕ) → x < 2 ^ 32 → x < 2 ^ (32 + r)
+      past x r l = let h : 32 ≤ 32 + r = omega arith in let g : 2 ^ 32 ≤ 2 ^ (32 + r) = pow-mono {i = 32} {j = 32 + r} h in omega arith
+
+      high : (r : ℕ) → isSet (getD (segments b) (R / 32) 0 / 2 ^ (R % 32)) (32 - R % 32 + r) ≡ false
+      high r =
+          let x = getD (segments b) (R / 32) 0 in
+          let e : R % 32 + (32 - R % 32 + r) ≡ 32 + r = omega arith in
+          rw (div-div-eq-div-mul x (2 ^ (R % 32)) (2 ^ (32 - R % 32 + r)), ← pow-add 2 (R % 32) (32 - R % 32 + r), e, div-eq-of-lt (past x r low))
+
+      row : (r : ℕ) → r < 32 - R % 32 → isSet (getD (segments b) (R / 32) 0 / 2 ^ (R % 32)) r ≡ hasRow 32 (segments b) (R + r)
+      row r g =
+          let x = getD (segments b) (R / 32) 0 in
+          let e : R / 32 * 32 + (R % 32 + r) ≡ R + r = omega arith in
+          (rw (div-div-eq-div-mul x (2 ^ (R % 32)) (2 ^ r), ← pow-add 2 (R % 32) r))
+          ∙ sym (has-at 32 (lit< tt) (segments b) (R / 32) (R % 32 + r) (omega arith))
+          ∙ ap (hasRow 32 (segments b)) e

@@ -12,9 +12,9 @@ use native.Mathlib.Decide.{decLe}
 use native.Mathlib.Numerals.{add-one}
 use native.Mathlib.Omega.{arith}
 use Rattle.meaning.specs.Rows.{bit, sumBelow, countBelow}
-use Rattle.meaning.specs.Segment.{isSet, bitAt, hasRow, ones, segmentCount, lastLimit, lastOf, fill, allSet}
+use Rattle.meaning.specs.Segment.{isSet, bitAt, hasRow, ones, segmentCount, fill, allSet}
 use Rattle.meaning.specs.Demands.{IsNth}
-use Rattle.meaning.proofs.RowWords.{bit-le, rows-fit, pad-clear, has-at}
+use Rattle.meaning.proofs.RowWords.{bit-le, rows-fit, has-at}
 use Rattle.meaning.proofs.Counted.{count-none}
 use Rattle.meaning.proofs.Sums.{sum-ext, sum-le, sum-join}
 
@@ -59,11 +59,11 @@ zero-count w = count-none w (isSet 0) (λ j h. zero-clear j)
 pub full-count : (w : ℕ) → countBelow w (isSet (2 ^ w - 1)) ≡ w
 full-count w = count-all w (isSet (2 ^ w - 1)) (full-set w)
 
-pub fill-count : (w real v : ℕ) → v < 2 → countBelow w (isSet (fill w real v)) ≡ v * w
+pub fill-count : (w v : ℕ) → v < 2 → countBelow w (isSet (fill w v)) ≡ v * w
 unfolding fill allSet
-fill-count w real zero h = rw (zero-mul (2 ^ w - 1), zero-mul w) (zero-count w)
-fill-count w real (suc zero) h = rw (one-mul (2 ^ w - 1), one-mul w) (full-count w)
-fill-count w real (suc (suc v)) h = absurd (omega arith)
+fill-count w zero h = rw (zero-mul (2 ^ w - 1), zero-mul w) (zero-count w)
+fill-count w (suc zero) h = rw (one-mul (2 ^ w - 1), one-mul w) (full-count w)
+fill-count w (suc (suc v)) h = absurd (omega arith)
 
 -- ---- the set bits of a list of segments
 
@@ -212,28 +212,25 @@ module _ (w : ℕ) (pos : 0 < w) where
       }
 
   -- in a clean run
-  pub nth-run : (c real v n : ℕ) → v < 2 → n < ones w (replicate c (fill w real v))
-      → IsNth (length (replicate c (fill w real v)) * w) (hasRow w (replicate c (fill w real v))) n n
+  pub nth-run : (c v n : ℕ) → v < 2 → n < ones w (replicate c (fill w v))
+      → IsNth (length (replicate c (fill w v)) * w) (hasRow w (replicate c (fill w v))) n n
   unfolding fill allSet
-  nth-run c real zero n h g = absurd (omega (arith, rw (ones-replicate, fill-count) at g))
-  nth-run c real (suc zero) n h g = rw (one-mul (2 ^ w - 1)) (nth-full c n (rw (ones-replicate, fill-count, one-mul w) at g))
-  nth-run c real (suc (suc v)) n h g = absurd (omega arith)
+  nth-run c zero n h g = absurd (omega (arith, rw (ones-replicate, fill-count) at g))
+  nth-run c (suc zero) n h g = rw (one-mul (2 ^ w - 1)) (nth-full c n (rw (ones-replicate, fill-count, one-mul w) at g))
+  nth-run c (suc (suc v)) n h g = absurd (omega arith)
 
-  -- R rows in segments with no pad bit set
-  module _ (R : ℕ) (xs : List ℕ) (count : length xs ≡ segmentCount w R) (pads : lastOf xs < lastLimit w R) where
-    pub count-rows : countBelow R (hasRow w xs) ≡ ones w xs
+  -- R rows in segments of which the last may have pad bits set
+  module _ (R : ℕ) (xs : List ℕ) (count : length xs ≡ segmentCount w R) where
+    pub count-rows : ones w xs ≡ countBelow R (hasRow w xs) + countBelow (length xs * w - R) (λ r. hasRow w xs (R + r))
     count-rows =
         let e : R + (length xs * w - R) ≡ length xs * w = let l : R ≤ length xs * w = rw count (rows-fit w pos R) in omega arith in
-        let none : countBelow (length xs * w - R) (λ r. hasRow w xs (R + r)) ≡ 0 =
-        count-none (length xs * w - R) (λ r. hasRow w xs (R + r)) (λ r g. pad-clear w pos R xs count pads (R + r) (omega arith)) in
-        let a : countBelow (length xs * w) (hasRow w xs) ≡ countBelow R (hasRow w xs) + countBelow (length xs * w - R) (λ r. hasRow w xs (R + r)) =
-        ap (λ (n : ℕ). countBelow n (hasRow w xs)) (sym e) ∙ count-add R (length xs * w - R) (hasRow w xs) in
-        omega (arith, ones-count xs)
+        sym (ones-count xs) ∙ ap (λ (n : ℕ). countBelow n (hasRow w xs)) (sym e) ∙ count-add R (length xs * w - R) (hasRow w xs)
 
-    -- a set row is one of the R
-    pub set-below : (r : ℕ) → hasRow w xs r ≡ true → r < R
-    set-below r h = elim (decLe R r) [ yes g ↦ absurd (true≢false (sym h ∙ pad-clear w pos R xs count pads r g)) | no g ↦ omega arith ]
+  -- the nth set bit, if it is one of R rows, is the nth set row; if it is not, there are not so many
+  pub nth-row : (R : ℕ) (xs : List ℕ) (n r : ℕ) → IsNth (length xs * w) (hasRow w xs) n r → r < R → IsNth R (hasRow w xs) n r
+  nth-row R xs n r a h = record { below = h; set = a .set; before = a .before }
 
-    -- the nth set bit is the nth set row
-    pub nth-row : (n r : ℕ) → IsNth (length xs * w) (hasRow w xs) n r → IsNth R (hasRow w xs) n r
-    nth-row n r a = record { below = set-below r (a .set); set = a .set; before = a .before }
+  pub nth-over : (R : ℕ) (xs : List ℕ) (n r : ℕ) → IsNth (length xs * w) (hasRow w xs) n r → R ≤ r → countBelow R (hasRow w xs) ≤ n
+  nth-over R xs n r a h =
+      let e : R + (r - R) ≡ r = omega arith in
+      omega (arith, ap (λ (k : ℕ). countBelow k (hasRow w xs)) e, count-add R (r - R) (hasRow w xs), a .before)

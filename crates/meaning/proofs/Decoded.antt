@@ -4,16 +4,16 @@ use Prim.Native.Nat.{ℕ, zero, suc, _+_, _-_, _≤_, _<_}
 use mathlib.Core.Bool.{Bool, true, false, _&&_, false≢true}
 use mathlib.Core.Path.{_≡_, refl, sym, ap, _∙_}
 use mathlib.Core.List.{List, [], _∷_, _++_, append-assoc}
-use lib.Dec.{leb, ltb}
+use lib.Dec.{eqb, leb, ltb}
 use lib.ListN.{length, replicate, length-append, length-replicate}
 use lib.Pow.{pow-pos}
 use mathlib.Core.Logic.{_↔_}
 use native.Mathlib.Omega.{arith}
 use borrow.Author.Tests.{ltb-false, leb-false, lt-ltb, le-ltb, lt-leb, eq-eqb, ne-eqb}
 use Rattle.meaning.specs.Limits.{mostClean, mostDirty}
-use Rattle.meaning.specs.Segment.{fill, allSet, lastLimit, lastRows, lastOf, segmentCount, overPad}
+use Rattle.meaning.specs.Segment.{fill, lastLimit, lastRows, segmentCount, overPad}
 use Rattle.meaning.specs.Refusal.{Verdict, sound, refuseIf}
-use Rattle.meaning.specs.Ewah.{decode, valueOf, cleanOf, dirtyOf, marker, dueAfter, faultFrom, bodyFault, Sound}
+use Rattle.meaning.specs.Ewah.{Piece, dirtyWord, pieces, runThen, lastDirty, decode, valueOf, cleanOf, dirtyOf, marker, dueAfter, faultFrom, bodyFault, Sound}
 
 pub decode-append : (due : ℕ) (a b : List ℕ) → decode due (a ++ b) ≡ decode due a ++ decode (dueAfter due a) b
 unfolding decode dueAfter
@@ -70,11 +70,11 @@ module _ (v c d : ℕ) (hv : v < 2) (hc : c ≤ mostClean) (hd : d ≤ mostDirty
 
 -- ---- sound, as facts on what is decoded
 
--- Words that begin with `due` dirty words are whole, decode to `left` segments, and the last of those is below `lim`
+-- Words that begin with `due` dirty words are whole, decode to `left` segments, and the last of those, if it is a dirty word, is below `lim`
 pub record Whole (lim due left : ℕ) (ws : List ℕ) : Type 0 where
   pub ended : dueAfter due ws ≡ 0
   pub count : length (decode due ws) ≡ left
-  pub last : lastOf (decode due ws) < lim
+  pub last : lastDirty (pieces due ws) < lim
 
 pub due-le : (due : ℕ) (ws : List ℕ) → dueAfter due ws ≡ 0 → due ≤ length ws
 unfolding dueAfter
@@ -88,41 +88,74 @@ decode-length due [] h = omega arith
 decode-length zero (m ∷ ws) h = omega arith
 decode-length (suc due) (w ∷ ws) h = omega (arith, decode-length due ws (omega arith))
 
-last-append : (xs : List ℕ) (y : ℕ) (ys : List ℕ) → lastOf (xs ++ y ∷ ys) ≡ lastOf (y ∷ ys)
-unfolding lastOf
-last-append [] y ys = refl
-last-append (x ∷ []) y ys = refl
-last-append (x ∷ z ∷ xs) y ys = last-append (z ∷ xs) y ys
-
-last-replicate : (c x : ℕ) → lastOf (replicate (suc c) x ++ []) ≡ x
-unfolding lastOf
-last-replicate zero x = refl
-last-replicate (suc c) x = last-replicate c x
-
 pub and-false : (a : Bool) → a && false ≡ false
 and-false true = refl
 and-false false = refl
 
--- the test for pad bits, and the last segment
-module _ (w rows : ℕ) where
-  run-clear : (left c x : ℕ) (ys : List ℕ) → c + length ys ≡ left → lastOf (replicate c x ++ ys) < lastLimit w rows → overPad w rows left c x ≡ false
-  unfolding overPad
-  run-clear left zero x ys e h = refl
-  run-clear left (suc c) x [] e h = rw (lt-leb (lastLimit w rows) x (omega (arith, last-replicate c x)), and-false)
-  run-clear left (suc c) x (y ∷ ys) e h = rw (ne-eqb (suc c) left (omega arith), and-false (ltb 0 (suc c)))
+-- ---- the last piece
 
-  run-last : (left c x : ℕ) (ys : List ℕ) → c + length ys ≡ left → overPad w rows left c x ≡ false → lastOf ys < lastLimit w rows → lastOf (replicate c x ++ ys) < lastLimit w rows
-  unfolding overPad
-  run-last left zero x ys e t h = h
-  run-last left (suc c) x [] e t h =
-      let q : leb (lastLimit w rows) x ≡ false = rw (lt-ltb 0 (suc c) (omega arith), eq-eqb (suc c) left (omega arith)) at t in
-      omega (arith, last-replicate c x, leb-false (lastLimit w rows) x q)
-  run-last left (suc c) x (y ∷ ys) e t h = rw (last-append (replicate (suc c) x) y ys) h
+pub run-length : (c x : ℕ) (ys : List ℕ) → length (replicate c x ++ ys) ≡ c + length ys
+run-length c x ys = rw (length-append (replicate c x) ys, length-replicate c x)
 
-  last-rest : (xs ys : List ℕ) → lastOf (xs ++ ys) < lastLimit w rows → lastOf ys < lastLimit w rows
-  unfolding lastOf lastLimit
-  last-rest xs [] h = pow-pos (lastRows w rows)
-  last-rest xs (y ∷ ys) h = rw (last-append xs y ys) at h
+pub last-run : (v c : ℕ) (ps : List Piece) → lastDirty (runThen v c ps) ≡ lastDirty ps
+unfolding lastDirty runThen
+last-run v zero ps = refl
+last-run v (suc c) [] = refl
+last-run v (suc c) (q ∷ ps) = refl
+
+run-none : (v c : ℕ) (ps : List Piece) → runThen v c ps ≡ [] → (c ≡ 0) × (ps ≡ [])
+unfolding runThen
+run-none v zero ps e = (refl, e)
+run-none v (suc c) ps e = let z : _≡_ {A = ℕ} (suc (length ps)) 0 = ap length e in absurd (omega arith)
+
+-- a body has no pieces exactly if it has no segments
+pub pieces-none : (due : ℕ) (ws : List ℕ) → length (decode due ws) ≡ 0 → pieces due ws ≡ []
+unfolding decode pieces runThen
+pieces-none due [] e = refl
+pieces-none zero (m ∷ ws) e =
+    let n = run-length (cleanOf m) (fill 32 (valueOf m)) (decode (dirtyOf m) ws) in
+    let z : cleanOf m ≡ 0 = omega arith in
+    rw z (pieces-none (dirtyOf m) ws (omega arith))
+pieces-none (suc due) (w ∷ ws) e = absurd (omega arith)
+
+none-pieces : (due : ℕ) (ws : List ℕ) → pieces due ws ≡ [] → length (decode due ws) ≡ 0
+unfolding decode pieces
+none-pieces due [] e = refl
+none-pieces zero (m ∷ ws) e =
+    let p = run-none (valueOf m) (cleanOf m) (pieces (dirtyOf m) ws) e in
+    omega (arith, run-length (cleanOf m) (fill 32 (valueOf m)) (decode (dirtyOf m) ws), none-pieces (dirtyOf m) ws (p .1))
+none-pieces (suc due) (w ∷ ws) e = let z : _≡_ {A = ℕ} (suc (length (pieces due ws))) 0 = ap length e in absurd (omega arith)
+
+-- the test for pad bits of a dirty word, and the last piece
+module _ (R left w due : ℕ) (ws : List ℕ) (count : suc (length (decode due ws)) ≡ left) where
+  word-clear : lastDirty (dirtyWord w ∷ pieces due ws) < lastLimit 32 R → overPad 32 R left 1 w ≡ false
+  unfolding overPad lastDirty
+  word-clear h = go (pieces due ws) refl h
+    where
+      go : (ps : List Piece) → pieces due ws ≡ ps → lastDirty (dirtyWord w ∷ ps) < lastLimit 32 R → ltb 0 1 && eqb 1 left && leb (lastLimit 32 R) w ≡ false
+      go [] p h = rw (lt-leb (lastLimit 32 R) w h, and-false)
+      go (q ∷ ps) p h = rw (ne-eqb 1 left (λ z. more q ps p (omega arith)), and-false (ltb 0 1))
+        where
+          more : (q : Piece) (ps : List Piece) → pieces due ws ≡ q ∷ ps → length (decode due ws) ≡ 0 → ⊥
+          more q ps p e = let z : _≡_ {A = ℕ} (suc (length ps)) 0 = ap length (sym p ∙ pieces-none due ws e) in absurd (omega arith)
+
+  word-last : overPad 32 R left 1 w ≡ false → lastDirty (pieces due ws) < lastLimit 32 R → lastDirty (dirtyWord w ∷ pieces due ws) < lastLimit 32 R
+  unfolding overPad lastDirty
+  word-last t h = go (pieces due ws) refl h
+    where
+      go : (ps : List Piece) → pieces due ws ≡ ps → lastDirty ps < lastLimit 32 R → lastDirty (dirtyWord w ∷ ps) < lastLimit 32 R
+      go [] p h =
+          let q : leb (lastLimit 32 R) w ≡ false = rw (eq-eqb 1 left (omega (arith, none-pieces due ws p))) at t in
+          leb-false (lastLimit 32 R) w q
+      go (q ∷ ps) p h = h
+
+  last-rest : lastDirty (dirtyWord w ∷ pieces due ws) < lastLimit 32 R → lastDirty (pieces due ws) < lastLimit 32 R
+  unfolding lastDirty
+  last-rest h = go (pieces due ws) h
+    where
+      go : (ps : List Piece) → lastDirty (dirtyWord w ∷ ps) < lastLimit 32 R → lastDirty ps < lastLimit 32 R
+      go [] h = unfold lastLimit in pow-pos (lastRows 32 R)
+      go (q ∷ ps) h = h
 
 -- ---- both ways
 
@@ -136,33 +169,28 @@ unfolding refuseIf
 let-through true n b w r e f = absurd (false≢true (sym e))
 let-through false n b w r e f = f
 
-pub run-length : (c x : ℕ) (ys : List ℕ) → length (replicate c x ++ ys) ≡ c + length ys
-run-length c x ys = rw (length-append (replicate c x) ys, length-replicate c x)
-
 module _ (bitmap rows : ℕ) where
   pub sound-whole : (place due left : ℕ) (ws : List ℕ) → due ≤ length ws → due ≤ left → faultFrom bitmap rows place due left ws ≡ sound → Whole (lastLimit 32 rows) due left ws
-  unfolding faultFrom dueAfter decode fill allSet
+  unfolding faultFrom dueAfter decode pieces
   sound-whole place due left [] h k e =
       let p = not-refused (ltb 0 left) 6 bitmap place sound e in
-      record { ended = omega arith; count = omega (arith, ltb-false 0 left (p .0)); last = unfold lastOf lastLimit in pow-pos (lastRows 32 rows) }
+      record { ended = omega arith; count = omega (arith, ltb-false 0 left (p .0)); last = unfold lastDirty lastLimit in pow-pos (lastRows 32 rows) }
   sound-whole place zero left (m ∷ ws) h k e =
       let rest : Verdict = faultFrom bitmap rows (suc place) (dirtyOf m) (left - cleanOf m) ws in
-      let t7 : Bool = overPad 32 rows left (cleanOf m) (fill 32 (lastRows 32 rows) (valueOf m)) in
       let t6 : Bool = ltb left (cleanOf m + dirtyOf m) in
-      let p5 = not-refused (ltb (length ws) (dirtyOf m)) 5 bitmap place (refuseIf t6 6 bitmap place (refuseIf t7 7 bitmap place rest)) e in
-      let p6 = not-refused t6 6 bitmap place (refuseIf t7 7 bitmap place rest) (p5 .1) in
-      let p7 = not-refused t7 7 bitmap place rest (p6 .1) in
+      let p5 = not-refused (ltb (length ws) (dirtyOf m)) 5 bitmap place (refuseIf t6 6 bitmap place rest) e in
+      let p6 = not-refused t6 6 bitmap place rest (p5 .1) in
       let h6 : cleanOf m + dirtyOf m ≤ left = ltb-false left (cleanOf m + dirtyOf m) (p6 .0) in
-      let f = sound-whole (suc place) (dirtyOf m) (left - cleanOf m) ws (ltb-false (length ws) (dirtyOf m) (p5 .0)) (omega arith) (p7 .1) in
+      let f = sound-whole (suc place) (dirtyOf m) (left - cleanOf m) ws (ltb-false (length ws) (dirtyOf m) (p5 .0)) (omega arith) (p6 .1) in
       let n : cleanOf m + length (decode (dirtyOf m) ws) ≡ left = omega (arith, f .count) in
-      record { ended = f .ended; count = run-length _ _ _ ∙ n; last = run-last 32 rows left _ _ _ n (p7 .0) (f .last) }
+      record { ended = f .ended; count = run-length _ _ _ ∙ n; last = omega (arith, last-run (valueOf m) (cleanOf m) (pieces (dirtyOf m) ws), f .last) }
   sound-whole place (suc due) left (w ∷ ws) h k e =
       let p = not-refused (overPad 32 rows left 1 w) 7 bitmap place (faultFrom bitmap rows (suc place) due (left - 1) ws) e in
       let f = sound-whole (suc place) due (left - 1) ws (omega arith) (omega arith) (p .1) in
-      record { ended = f .ended; count = omega (arith, f .count); last = run-last 32 rows left 1 w (decode due ws) (omega (arith, f .count)) (p .0) (f .last) }
+      record { ended = f .ended; count = omega (arith, f .count); last = word-last rows left w due ws (omega (arith, f .count)) (p .0) (f .last) }
 
   pub whole-sound : (place due left : ℕ) (ws : List ℕ) → Whole (lastLimit 32 rows) due left ws → faultFrom bitmap rows place due left ws ≡ sound
-  unfolding faultFrom dueAfter decode fill allSet
+  unfolding faultFrom dueAfter decode pieces
   whole-sound place due left [] f = let-through _ _ _ _ _ (le-ltb 0 left (omega (arith, f .count))) refl
   whole-sound place zero left (m ∷ ws) f =
       let h5 = due-le (dirtyOf m) ws (f .ended) in
@@ -170,11 +198,12 @@ module _ (bitmap rows : ℕ) where
       let h6 : cleanOf m + dirtyOf m ≤ left = omega (arith, decode-length (dirtyOf m) ws h5) in
       let-through _ _ _ _ _ (le-ltb _ _ h5)
       (let-through _ _ _ _ _ (le-ltb _ _ h6)
-      (let-through _ _ _ _ _ (run-clear 32 rows left _ _ _ n (f .last))
-      (whole-sound (suc place) (dirtyOf m) (left - cleanOf m) ws (record { ended = f .ended; count = omega arith; last = last-rest 32 rows (replicate (cleanOf m) (fill 32 32 (valueOf m))) _ (f .last) }))))
+      (whole-sound (suc place) (dirtyOf m) (left - cleanOf m) ws
+      (record { ended = f .ended; count = omega arith; last = omega (arith, last-run (valueOf m) (cleanOf m) (pieces (dirtyOf m) ws), f .last) })))
   whole-sound place (suc due) left (w ∷ ws) f =
-      let-through _ _ _ _ _ (run-clear 32 rows left 1 w (decode due ws) (omega (arith, f .count)) (f .last))
-      (whole-sound (suc place) due (left - 1) ws (record { ended = f .ended; count = omega (arith, f .count); last = last-rest 32 rows (w ∷ []) (decode due ws) (f .last) }))
+      let n : suc (length (decode due ws)) ≡ left = omega (arith, f .count) in
+      let-through _ _ _ _ _ (word-clear rows left w due ws n (f .last))
+      (whole-sound (suc place) due (left - 1) ws (record { ended = f .ended; count = omega (arith, f .count); last = last-rest rows left w due ws n (f .last) }))
 
 -- A body is sound exactly if its last marker has all its dirty words, it decodes to as many segments as its rows have, and the pad bits are zero
 pub sound-iff : (rows : ℕ) (b : List ℕ) → Sound rows b ↔ Whole (lastLimit 32 rows) 0 (segmentCount 32 rows) b

@@ -5,14 +5,15 @@ use mathlib.Core.Bool.{Bool, true, false, cond, _&&_}
 use mathlib.Core.Path.{_≡_, refl, sym, ap, _∙_}
 use mathlib.Core.List.{List, [], _∷_, _++_, append-assoc, append-nil, map, foldl}
 use lib.Dec.{eqb, ltb}
-use lib.ListN.{length, replicate, length-append}
+use lib.ListN.{length, replicate, length-append, length-map}
+use lib.Pow.{pow-pos}
 use native.Mathlib.Omega.{arith}
 use borrow.Author.Tests.{ltb-true}
 use Rattle.meaning.specs.Limits.{mostClean, mostDirty}
-use Rattle.meaning.specs.Segment.{Segment, clean, mixed, kind, fill, allSet, segmentCount, lastLimit, lastOf}
-use Rattle.meaning.specs.Ewah.{decode, segments, marker, Sound, dueAfter}
+use Rattle.meaning.specs.Segment.{Segment, clean, mixed, kind, kinds, fill, allSet, segmentCount, lastRows, lastLimit, lastOf}
+use Rattle.meaning.specs.Ewah.{Piece, cleanRun, dirtyWord, runThen, pieces, lastDirty, decode, segments, marker, Sound, dueAfter, valueOf, cleanOf, dirtyOf}
 use Rattle.meaning.specs.Canonical.{Draft, blank, draft, body, opened, put, canonicalOf}
-use Rattle.meaning.proofs.Segments.{fits-clean, word, word-kind, encoded}
+use Rattle.meaning.proofs.Segments.{fits-clean, word, encoded, kinds-length}
 use Rattle.meaning.proofs.Decoded.{Busy, busy-append, busy-dirty, sound-iff, decode-append, due-append, decode-dirty, due-dirty, value-marker, clean-marker, dirty-marker}
 
 -- a draft as `put` makes it
@@ -25,7 +26,7 @@ record Fit (done : List ℕ) (v c : ℕ) (ds : List ℕ) : Type 0 where
   used : 0 < c + length ds
 
 module _ (done : List ℕ) (v c : ℕ) (ds : List ℕ) (f : Fit done v c ds) where
-  decode-body : decode 0 (body (draft done v c ds)) ≡ decode 0 done ++ (replicate c (fill 32 32 v) ++ ds)
+  decode-body : decode 0 (body (draft done v c ds)) ≡ decode 0 done ++ (replicate c (fill 32 v) ++ ds)
   unfolding body decode
   decode-body =
       rw (
@@ -62,9 +63,9 @@ abbrev Ok : Segment → Type 0
 Ok (clean v) = v < 2
 Ok (mixed x) = Unit {0}
 
-kind-ok : (w real x : ℕ) → Ok (kind w real x)
+kind-ok : (w real x : ℕ) → Ok (kind real x)
 unfolding kind
-kind-ok w real x = go (eqb x 0) (eqb x (allSet w real))
+kind-ok w real x = go (eqb x 0) (eqb x (allSet real))
   where
     go : (s t : Bool) → Ok (cond s (clean 0) (cond t (clean 1) (mixed x)))
     go true t = omega arith
@@ -73,7 +74,7 @@ kind-ok w real x = go (eqb x 0) (eqb x (allSet w real))
 
 -- the draft e is in order, and decodes to one segment more than the words b do
 abbrev Longer : List ℕ → Segment → Draft → Type 0
-Longer b s e = Good e × (decode 0 (body e) ≡ decode 0 b ++ word 32 32 s ∷ [])
+Longer b s e = Good e × (decode 0 (body e) ≡ decode 0 b ++ word 32 s ∷ [])
 
 opened-longer : (b : List ℕ) (s : Segment) → dueAfter 0 b ≡ 0 → Busy 0 b → Ok s → Longer b s (opened b s)
 unfolding opened word
@@ -87,9 +88,9 @@ replicate-suc zero x = refl
 replicate-suc (suc c) x = ap (λ (l : List ℕ). x ∷ l) (replicate-suc c x)
 
 grown : (done : List ℕ) (v c : ℕ) (ds : List ℕ) → Fit done v (suc c) ds → Fit done v c ds → length ds ≡ 0
-    → decode 0 (body (draft done v (suc c) ds)) ≡ decode 0 (body (draft done v c ds)) ++ fill 32 32 v ∷ []
+    → decode 0 (body (draft done v (suc c) ds)) ≡ decode 0 (body (draft done v c ds)) ++ fill 32 v ∷ []
 grown done v c [] f g e =
-    decode-body done v (suc c) [] f ∙ rw (decode-body done v c [] g, append-nil (replicate c (fill 32 32 v)), append-assoc, replicate-suc)
+    decode-body done v (suc c) [] f ∙ rw (decode-body done v c [] g, append-nil (replicate c (fill 32 v)), append-assoc, replicate-suc)
 grown done v c (d ∷ ds) f g e = absurd (omega arith)
 
 put-longer : (d : Draft) (s : Segment) → Good d → Ok s → Longer (body d) s (put d s)
@@ -105,7 +106,7 @@ put-longer (draft done v c ds) (clean b) g k = go (eqb (length ds) 0 && eqb v b 
     go true e =
         let p = fits-clean (length ds) v b c e in
         let f : Fit done v (suc c) ds = record { whole = g .whole; hv = g .hv; hc = p .2; hd = g .hd; busy = g .busy; used = omega arith } in
-        (f, grown done v c ds f g (p .0) ∙ ap (λ (z : ℕ). decode 0 old ++ fill 32 32 z ∷ []) (p .1))
+        (f, grown done v c ds f g (p .0) ∙ ap (λ (z : ℕ). decode 0 old ++ fill 32 z ∷ []) (p .1))
 put-longer (draft done v c ds) (mixed x) g k = go (ltb (length ds) mostDirty) refl
   where
     old : List ℕ
@@ -118,23 +119,146 @@ put-longer (draft done v c ds) (mixed x) g k = go (ltb (length ds) mostDirty) re
         (f, decode-body done v c (ds ++ x ∷ []) f ∙ rw (decode-body done v c ds g) (simp append-assoc))
 
 -- segment by segment
-puts : (xs : List ℕ) (d : Draft) → Good d → Good (foldl put d (map (kind 32 32) xs)) × (decode 0 (body (foldl put d (map (kind 32 32) xs))) ≡ decode 0 (body d) ++ xs)
-puts [] d g = (g, sym (append-nil (decode 0 (body d))))
-puts (x ∷ xs) d g =
-    let p = put-longer d (kind 32 32 x) g (kind-ok 32 32 x) in
-    let q = puts xs (put d (kind 32 32 x)) (p .0) in
-    (q .0, q .1 ∙ rw (p .1, word-kind 32 32 x, append-assoc))
+abbrev AllOk : List Segment → Type 0
+AllOk [] = Unit {0}
+AllOk (s ∷ ss) = Ok s × AllOk ss
 
--- The canonical form decodes to the segments that it was made from, and its last marker has all its dirty words
-pub encoded-decodes : (xs : List ℕ) → segments (encoded xs) ≡ xs
+kinds-ok : (w R : ℕ) (xs : List ℕ) → AllOk (kinds w R xs)
+unfolding kinds
+kinds-ok w R [] = tt
+kinds-ok w R (x ∷ []) = (kind-ok w (lastRows w R) x, tt)
+kinds-ok w R (x ∷ y ∷ ys) = (kind-ok w w x, kinds-ok w R (y ∷ ys))
+
+puts : (ss : List Segment) (d : Draft) → Good d → AllOk ss → Good (foldl put d ss) × (decode 0 (body (foldl put d ss)) ≡ decode 0 (body d) ++ map (word 32) ss)
+puts [] d g k = (g, sym (append-nil (decode 0 (body d))))
+puts (s ∷ ss) d g k =
+    let p = put-longer d s g (k .0) in
+    let q = puts ss (put d s) (p .0) (k .1) in
+    (q .0, q .1 ∙ rw (p .1, append-assoc))
+
+-- ---- the last piece of a draft
+
+run-append : (v c : ℕ) (ps qs : List Piece) → runThen v c (ps ++ qs) ≡ runThen v c ps ++ qs
+unfolding runThen
+run-append v zero ps qs = refl
+run-append v (suc c) ps qs = refl
+
+pieces-append : (due : ℕ) (a b : List ℕ) → pieces due (a ++ b) ≡ pieces due a ++ pieces (dueAfter due a) b
+unfolding pieces dueAfter
+pieces-append due [] b = refl
+pieces-append zero (m ∷ ws) b = rw (pieces-append (dirtyOf m) ws b) (run-append (valueOf m) (cleanOf m) (pieces (dirtyOf m) ws) (pieces (dueAfter (dirtyOf m) ws) b))
+pieces-append (suc due) (w ∷ ws) b = ap (λ (l : List Piece). dirtyWord w ∷ l) (pieces-append due ws b)
+
+pub last-append : (ps : List Piece) (q : Piece) (qs : List Piece) → lastDirty (ps ++ q ∷ qs) ≡ lastDirty (q ∷ qs)
+unfolding lastDirty
+last-append [] q qs = refl
+last-append (p ∷ []) q qs = refl
+last-append (p ∷ r ∷ ps) q qs = last-append (r ∷ ps) q qs
+
+-- behind other pieces, the dirty words of a marker that has a segment
+last-words : (ps : List Piece) (v c : ℕ) (ds : List ℕ) → 0 < c + length ds → lastDirty (ps ++ runThen v c (pieces (length ds) ds)) ≡ lastOf ds
+unfolding runThen pieces lastDirty lastOf
+last-words ps v zero [] h = absurd (omega arith)
+last-words ps v (suc c) [] h = last-append ps (cleanRun v (suc c)) []
+last-words ps v zero (d ∷ ds) h = last-append ps (dirtyWord d) (pieces (length ds) ds) ∙ words d ds
+  where
+    words : (d : ℕ) (ds : List ℕ) → lastDirty (dirtyWord d ∷ pieces (length ds) ds) ≡ lastOf (d ∷ ds)
+    words d [] = refl
+    words d (e ∷ es) = words e es
+last-words ps v (suc c) (d ∷ ds) h = last-append ps (cleanRun v (suc c)) (dirtyWord d ∷ pieces (length ds) ds) ∙ words d ds
+  where
+    words : (d : ℕ) (ds : List ℕ) → lastDirty (dirtyWord d ∷ pieces (length ds) ds) ≡ lastOf (d ∷ ds)
+    words d [] = refl
+    words d (e ∷ es) = words e es
+
+draft-last : (done : List ℕ) (v c : ℕ) (ds : List ℕ) → Fit done v c ds → lastDirty (pieces 0 (body (draft done v c ds))) ≡ lastOf ds
+unfolding body pieces
+draft-last done v c ds f =
+    rw (
+      pieces-append 0 done (marker v c (length ds) ∷ ds),
+      f .whole,
+      value-marker v c (length ds) (f .hv) (f .hc) (f .hd),
+      clean-marker v c (length ds) (f .hv) (f .hc) (f .hd),
+      dirty-marker v c (length ds) (f .hv) (f .hc) (f .hd),
+    )
+    (last-words (pieces 0 done) v c ds (f .used))
+
+-- the word of a mixed segment
+abbrev pub mixedWord : Segment → ℕ
+mixedWord (clean v) = 0
+mixedWord (mixed x) = x
+
+last-snoc : (ds : List ℕ) (x : ℕ) → lastOf (ds ++ x ∷ []) ≡ x
+unfolding lastOf
+last-snoc [] x = refl
+last-snoc (d ∷ []) x = refl
+last-snoc (d ∷ e ∷ ds) x = last-snoc (e ∷ ds) x
+
+none-last : (ds : List ℕ) → length ds ≡ 0 → lastOf ds ≡ 0
+unfolding lastOf
+none-last [] e = refl
+none-last (d ∷ ds) e = absurd (omega arith)
+
+put-last : (d : Draft) (s : Segment) → Good (put d s) → lastDirty (pieces 0 (body (put d s))) ≡ mixedWord s
+unfolding put opened
+put-last blank (clean v) g = draft-last [] v 1 [] g ∙ (unfold lastOf in refl)
+put-last blank (mixed x) g = draft-last [] 0 0 (x ∷ []) g ∙ (unfold lastOf in refl)
+put-last (draft done v c ds) (clean b) g = go (eqb (length ds) 0 && eqb v b && ltb c mostClean) refl g
+  where
+    old : List ℕ
+    old = body (draft done v c ds)
+
+    go : (t : Bool) → (eqb (length ds) 0 && eqb v b && ltb c mostClean) ≡ t
+        → Good (cond t (draft done v (suc c) ds) (draft old b 1 [])) → lastDirty (pieces 0 (body (cond t (draft done v (suc c) ds) (draft old b 1 [])))) ≡ 0
+    go true e g = draft-last done v (suc c) ds g ∙ none-last ds (fits-clean (length ds) v b c e .0)
+    go false e g = draft-last old b 1 [] g ∙ (unfold lastOf in refl)
+put-last (draft done v c ds) (mixed x) g = go (ltb (length ds) mostDirty) g
+  where
+    old : List ℕ
+    old = body (draft done v c ds)
+
+    go : (t : Bool) → Good (cond t (draft done v c (ds ++ x ∷ [])) (draft old 0 0 (x ∷ [])))
+        → lastDirty (pieces 0 (body (cond t (draft done v c (ds ++ x ∷ [])) (draft old 0 0 (x ∷ []))))) ≡ x
+    go true g = draft-last done v c (ds ++ x ∷ []) g ∙ last-snoc ds x
+    go false g = draft-last old 0 0 (x ∷ []) g ∙ (unfold lastOf in refl)
+
+pub mixed-le : (w real x : ℕ) → mixedWord (kind real x) ≤ x
+unfolding kind
+mixed-le w real x = go (eqb x 0) (eqb x (allSet real))
+  where
+    go : (s t : Bool) → mixedWord (cond s (clean 0) (cond t (clean 1) (mixed x))) ≤ x
+    go true t = omega arith
+    go false true = omega arith
+    go false false = omega arith
+
+last-low : (R x : ℕ) (xs : List ℕ) (d : Draft) → Good d → lastOf (x ∷ xs) < lastLimit 32 R → lastDirty (pieces 0 (body (foldl put d (kinds 32 R (x ∷ xs))))) < lastLimit 32 R
+unfolding kinds lastOf
+last-low R x [] d g h =
+    let p = put-longer d (kind (lastRows 32 R) x) g (kind-ok 32 (lastRows 32 R) x) in
+    omega (arith, put-last d (kind (lastRows 32 R) x) (p .0), mixed-le 32 (lastRows 32 R) x)
+last-low R x (y ∷ ys) d g h = last-low R y ys (put d (kind 32 x)) (put-longer d (kind 32 x) g (kind-ok 32 32 x) .0) h
+
+-- ---- the canonical form
+
+-- it decodes to the words of the segments that it was made from, and its last marker has all its dirty words
+pub encoded-decodes : (R : ℕ) (xs : List ℕ) → segments (encoded R xs) ≡ map (word 32) (kinds 32 R xs)
 unfolding encoded canonicalOf decode
-encoded-decodes xs = puts xs blank tt .1
+encoded-decodes R xs = puts (kinds 32 R xs) blank tt (kinds-ok 32 R xs) .1
 
-pub encoded-whole : (xs : List ℕ) → dueAfter 0 (encoded xs) ≡ 0
+pub encoded-whole : (R : ℕ) (xs : List ℕ) → dueAfter 0 (encoded R xs) ≡ 0
 unfolding encoded canonicalOf
-encoded-whole xs = good-due (foldl put blank (map (kind 32 32) xs)) (puts xs blank tt .0)
+encoded-whole R xs = good-due (foldl put blank (kinds 32 R xs)) (puts (kinds 32 R xs) blank tt (kinds-ok 32 R xs) .0)
+
+encoded-last : (R : ℕ) (xs : List ℕ) → lastOf xs < lastLimit 32 R → lastDirty (pieces 0 (encoded R xs)) < lastLimit 32 R
+unfolding encoded canonicalOf
+encoded-last R [] h = unfold kinds body pieces lastDirty lastLimit in pow-pos (lastRows 32 R)
+encoded-last R (x ∷ xs) h = last-low R x xs blank tt h
 
 -- ... and is sound
-pub encoded-sound : (rows : ℕ) (xs : List ℕ) → length xs ≡ segmentCount 32 rows → lastOf xs < lastLimit 32 rows → Sound rows (encoded xs)
-encoded-sound rows xs n h =
-    sound-iff rows (encoded xs) .1 (record { ended = encoded-whole xs; count = rw encoded-decodes n; last = rw encoded-decodes h })
+pub encoded-sound : (R : ℕ) (xs : List ℕ) → length xs ≡ segmentCount 32 R → lastOf xs < lastLimit 32 R → Sound R (encoded R xs)
+encoded-sound R xs n h =
+    sound-iff R (encoded R xs) .1 (record {
+      ended = encoded-whole R xs;
+      count = ap length (encoded-decodes R xs) ∙ length-map (kinds 32 R xs) (word 32) ∙ kinds-length 32 R xs ∙ n;
+      last = encoded-last R xs h;
+    })

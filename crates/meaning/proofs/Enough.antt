@@ -11,14 +11,15 @@ use native.Mathlib.Decide.{decLe}
 use borrow.Author.Tests.{lt-ltb, eq-eqb, eqb-false}
 use Rattle.meaning.specs.Limits.{mostClean}
 use Rattle.meaning.specs.Rows.{bit, sumBelow, countBelow}
-use Rattle.meaning.specs.Segment.{Segment, clean, kind, wordOf, tabulate, bitAt, fill, allSet, segmentCount, lastLimit, fromRows}
+use Rattle.meaning.specs.Segment.{Segment, clean, kind, kinds, wordOf, bitAt, fill, allSet, segmentCount, lastLimit, fromRows}
 use Rattle.meaning.specs.Ewah.{Piece, cleanRun, dirtyWord, pieces, pieceSize, runThen, segments, rowsOf, valueOf, cleanOf, dirtyOf}
 use Rattle.meaning.specs.Canonical.{Draft, blank, body, put, canonicalOf, canonical}
 use Rattle.meaning.specs.Question.{isIn, endsFrom, endsAt, stretches, held}
 use Rattle.meaning.proofs.Tests.{or-false, or-true}
-use Rattle.meaning.proofs.Segments.{canonical-is, encoded, map-append}
+use Rattle.meaning.proofs.Segments.{canonical-is, encoded, kinds-inside, kinds-length}
 use Rattle.meaning.proofs.Decoded.{Whole, run-length}
-use Rattle.meaning.proofs.RowWords.{word-at, word-ext, has-at, before-last}
+use Rattle.meaning.proofs.RowWords.{word-at, word-ext, has-at, before-last, from-length, getD-tabulate}
+use Rattle.meaning.proofs.Prefixes.{upTo, upTo-more, upTo-all}
 use Rattle.meaning.proofs.Least.{size, put-two, run-then-two}
 use Rattle.meaning.specs.Ahead.{flat}
 use Rattle.meaning.proofs.Stretches.{flat-pieces}
@@ -51,7 +52,7 @@ size-fine (dirtyWord w) f = (omega arith, omega arith)
 
 pub flat-length : (p : Piece) (ps : List Piece) → length (flat (p ∷ ps)) ≡ pieceSize p + length (flat ps)
 unfolding flat pieceSize
-flat-length (cleanRun v n) ps = run-length n (fill 32 32 v) (flat ps)
+flat-length (cleanRun v n) ps = run-length n (fill 32 v) (flat ps)
 flat-length (dirtyWord w) ps = omega arith
 
 -- from any segment on, a piece ends within what one marker can hold
@@ -86,8 +87,8 @@ ends-near (p ∷ ps) a n f h = elim (decLe (suc n) (pieceSize p)) [
 record Steady (xs : List ℕ) (n : ℕ) : Type 0 where
   v : ℕ
   hv : v < 2
-  here : getD xs n 0 ≡ fill 32 32 v
-  next : getD xs (suc n) 0 ≡ fill 32 32 v
+  here : getD xs n 0 ≡ fill 32 v
+  next : getD xs (suc n) 0 ≡ fill 32 v
   more : suc n < length xs
 
 pub run-at : (c x : ℕ) (ys : List ℕ) (i : ℕ) → i < c → getD (replicate c x ++ ys) i 0 ≡ x
@@ -129,18 +130,18 @@ quiet-steady (dirtyWord w ∷ ps) a (suc n) f h q =
     let s = quiet-steady ps (a + 1) n (f .1) (omega arith) (subst (λ (z : ℕ). isIn (endsFrom (a + 1) ps) z ≡ false) e q′) in
     record { v = s .v; hv = s .hv; here = s .here; next = s .next; more = omega (arith, s .more) }
 quiet-steady (cleanRun v c ∷ ps) a n f h q = elim (decLe (suc (suc n)) c) [
-  | yes g ↦ record { v = v; hv = f .0 .0; here = run-at c (fill 32 32 v) (flat ps) n (omega arith); next = run-at c (fill 32 32 v) (flat ps) (suc n) g; more = omega (arith, run-length c (fill 32 32 v) (flat ps)) }
+  | yes g ↦ record { v = v; hv = f .0 .0; here = run-at c (fill 32 v) (flat ps) n (omega arith); next = run-at c (fill 32 v) (flat ps) (suc n) g; more = omega (arith, run-length c (fill 32 v) (flat ps)) }
   | no g ↦
       let far : c ≤ n = elim (decLe c n) [ yes k ↦ k | no k ↦ absurd (eqb-false (a + c) (a + suc n) (or-false (eqb (a + c) (a + suc n)) (isIn (endsFrom (a + c) ps) (a + suc n)) q .0) (omega arith)) ] in
       let q′ : isIn (endsFrom (a + c) ps) (a + suc n) ≡ false = or-false (eqb (a + c) (a + suc n)) (isIn (endsFrom (a + c) ps) (a + suc n)) q .1 in
       let e : a + suc n ≡ a + c + suc (n - c) = omega arith in
-      let r : n - c < length (flat ps) = omega (arith, run-length c (fill 32 32 v) (flat ps)) in
-      steady-past c (fill 32 32 v) (flat ps) n far (quiet-steady ps (a + c) (n - c) (f .1) r (subst (λ (z : ℕ). isIn (endsFrom (a + c) ps) z ≡ false) e q′))
+      let r : n - c < length (flat ps) = omega (arith, run-length c (fill 32 v) (flat ps)) in
+      steady-past c (fill 32 v) (flat ps) n far (quiet-steady ps (a + c) (n - c) (f .1) r (subst (λ (z : ℕ). isIn (endsFrom (a + c) ps) z ≡ false) e q′))
 ]
 
 -- ---- the rows of one body
 
-fill-bit : (v j : ℕ) → v < 2 → j < 32 → bitAt (fill 32 32 v) j ≡ v
+fill-bit : (v j : ℕ) → v < 2 → j < 32 → bitAt (fill 32 v) j ≡ v
 unfolding bitAt fill allSet wordOf bit
 fill-bit zero j h g = word-at 32 (λ j. false) j g
 fill-bit (suc zero) j h g = word-at 32 (λ j. true) j g
@@ -161,7 +162,7 @@ module _ (R : ℕ) (b : List ℕ) (whole : Whole (lastLimit 32 R) 0 (segmentCoun
       let c : length (flat (pieces 0 b)) ≡ segmentCount 32 R = ap length flat-whole ∙ whole .count in
       rw flat-whole at (quiet-steady (pieces 0 b) 0 n (pieces-fine 0 b) (omega arith) (subst (λ (z : ℕ). isIn (endsFrom 0 (pieces 0 b)) z ≡ false) (omega arith) q))
 
-  body-row : (n v j : ℕ) → v < 2 → getD (segments b) n 0 ≡ fill 32 32 v → j < 32 → rowsOf b (n * 32 + j) ≡ eqb v 1
+  body-row : (n v j : ℕ) → v < 2 → getD (segments b) n 0 ≡ fill 32 v → j < 32 → rowsOf b (n * 32 + j) ≡ eqb v 1
   unfolding rowsOf bitAt
   body-row n v j hv e h = has-at 32 (omega arith) (segments b) n j h ∙ ap (λ (z : ℕ). eqb (z / 2 ^ j % 2) 1) e ∙ ap (λ (z : ℕ). eqb z 1) (fill-bit v j hv h)
 
@@ -198,7 +199,7 @@ level R (b ∷ bs) w i h q =
 
 -- ---- the answer's segments: row r is in it as `f` says of the number of sets that have r
 
-const-kind : (t : Bool) → kind 32 32 (wordOf 32 (λ j. t)) ≡ clean (bit t)
+const-kind : (t : Bool) → kind 32 (wordOf 32 (λ j. t)) ≡ clean (bit t)
 unfolding kind wordOf bit allSet
 const-kind true = refl
 const-kind false = refl
@@ -207,9 +208,9 @@ module _ (R : ℕ) (f : ℕ → Bool) (ps : List (ℕ → Bool)) where
   abbrev cell : ℕ → ℕ
   cell i = wordOf 32 (λ j. ltb (i * 32 + j) R && f (held ps (i * 32 + j)))
 
-  cell-clean : (c i : ℕ) → ((j : ℕ) → j < 32 → held ps (i * 32 + j) ≡ c) → i * 32 + 32 ≤ R → kind 32 32 (cell i) ≡ clean (bit (f c))
+  cell-clean : (c i : ℕ) → ((j : ℕ) → j < 32 → held ps (i * 32 + j) ≡ c) → i * 32 + 32 ≤ R → kind 32 (cell i) ≡ clean (bit (f c))
   cell-clean c i h g =
-      ap (kind 32 32) (word-ext 32 (λ j. ltb (i * 32 + j) R && f (held ps (i * 32 + j))) (λ j. f c) (λ j k. rw (h j k, lt-ltb (i * 32 + j) R (omega arith)))) ∙ const-kind (f c)
+      ap (kind 32) (word-ext 32 (λ j. ltb (i * 32 + j) R && f (held ps (i * 32 + j))) (λ j. f c) (λ j k. rw (h j k, lt-ltb (i * 32 + j) R (omega arith)))) ∙ const-kind (f c)
 
 -- ---- at most two words for each stretch
 
@@ -323,26 +324,29 @@ module _ (K : ℕ → Segment) (E : ℕ → Bool) (S : ℕ) (steady : (i : ℕ) 
 
 -- ---- and so the answer
 
-tabulate-snoc : (n : ℕ) (f : ℕ → ℕ) → tabulate (suc n) f ≡ tabulate n f ++ f n ∷ []
-unfolding tabulate
-tabulate-snoc zero f = refl
-tabulate-snoc (suc n) f = ap (λ (l : List ℕ). f 0 ∷ l) (tabulate-snoc n (λ i. f (suc i)))
-
-D-is : (f : ℕ → ℕ) (E : ℕ → Bool) (S n : ℕ) → D (λ i. kind 32 32 (f i)) E S n ≡ foldl put blank (map (kind 32 32) (tabulate n f))
-unfolding D tabulate
-D-is f E S zero = refl
-D-is f E S (suc n) =
-    ap (λ (d : Draft). put d (kind 32 32 (f n))) (D-is f E S n)
-    ∙ sym (foldl-append put blank (map (kind 32 32) (tabulate n f)) (kind 32 32 (f n) ∷ []))
-    ∙ sym (ap (λ (l : List Segment). foldl put blank l) (map-append (kind 32 32) (tabulate n f) (f n ∷ [])))
-    ∙ sym (ap (λ (l : List ℕ). foldl put blank (map (kind 32 32) l)) (tabulate-snoc n f))
+D-is : (ss : List Segment) (E : ℕ → Bool) (S n : ℕ) → n ≤ length ss → D (λ i. getD ss i (clean 0)) E S n ≡ upTo ss n
+unfolding D
+D-is ss E S zero h = refl
+D-is ss E S (suc n) h =
+    let e : n + 1 ≡ suc n = omega arith in
+    ap (λ (d : Draft). put d (getD ss n (clean 0))) (D-is ss E S n (omega arith)) ∙ sym (upTo-more ss n (clean 0) (omega arith)) ∙ ap (λ (k : ℕ). upTo ss k) e
 
 module _ (R : ℕ) (f : ℕ → Bool) (b : List ℕ) (bs : List (List ℕ)) (w : AllWhole R (b ∷ bs)) where
   abbrev ps : List (ℕ → Bool)
   ps = map rowsOf (b ∷ bs)
 
+  abbrev A : List ℕ
+  A = fromRows 32 R (λ r. f (held ps r))
+
   abbrev K : ℕ → Segment
-  K i = kind 32 32 (cell R f ps i)
+  K i = getD (kinds 32 R A) i (clean 0)
+
+  many : length A ≡ segmentCount 32 R
+  many = from-length 32 (omega arith) R (λ r. f (held ps r))
+
+  K-is : (i : ℕ) → suc i < segmentCount 32 R → K i ≡ kind 32 (cell R f ps i)
+  unfolding fromRows
+  K-is i h = kinds-inside 32 R A i (clean 0) (omega (arith, many)) ∙ ap (kind 32) (getD-tabulate (segmentCount 32 R) (cell R f ps) i (omega arith))
 
   steady : (i : ℕ) → i < segmentCount 32 R → endsAt (b ∷ bs) i ≡ false → Held K (endsAt (b ∷ bs)) (segmentCount 32 R) i
   unfolding endsAt
@@ -352,8 +356,8 @@ module _ (R : ℕ) (f : ℕ → Bool) (b : List ℕ) (bs : List (List ℕ)) (w :
       let more : suc i < segmentCount 32 R = omega (arith, s .more, w .0 .count) in
       record {
         v = bit (f (l .c));
-        here = cell-clean R f ps (l .c) i (l .here) (omega (arith, before-last 32 (omega arith) R (suc i) more));
-        next = λ y. cell-clean R f ps (l .c) (suc i) (l .next) (omega (arith, before-last 32 (omega arith) R (suc (suc i)) y));
+        here = K-is i more ∙ cell-clean R f ps (l .c) i (l .here) (omega (arith, before-last 32 (omega arith) R (suc i) more));
+        next = λ y. K-is (suc i) y ∙ cell-clean R f ps (l .c) (suc i) (l .next) (omega (arith, before-last 32 (omega arith) R (suc (suc i)) y));
         more = more;
       }
 
@@ -362,8 +366,11 @@ module _ (R : ℕ) (f : ℕ → Bool) (b : List ℕ) (bs : List (List ℕ)) (w :
   near n h = let i = body-near R b (w .0) n h in record { m = i .m; from = i .from; till = i .till; in-it = i .in-it; ends-there = ap (λ (t : Bool). t || endsAt bs (i .m)) (i .ends-there) }
 
   pub words-le : length (canonical R (λ r. f (held ps r))) ≤ 2 * stretches R (b ∷ bs)
-  unfolding stretches encoded canonicalOf fromRows
+  unfolding stretches encoded size
   words-le =
-      let e : length (canonical R (λ r. f (held ps r))) ≡ size (D K (endsAt (b ∷ bs)) (segmentCount 32 R) (segmentCount 32 R)) =
-      ap length (canonical-is R (λ r. f (held ps r))) ∙ (unfold size in ap (λ (d : Draft). length (body d)) (sym (D-is (cell R f ps) (endsAt (b ∷ bs)) (segmentCount 32 R) (segmentCount 32 R)))) in
-      omega (arith, twice-ends K (endsAt (b ∷ bs)) (segmentCount 32 R) steady near)
+      let S = segmentCount 32 R in
+      let long : length (kinds 32 R A) ≡ S = kinds-length 32 R A ∙ many in
+      let e : length (canonical R (λ r. f (held ps r))) ≡ size (D K (endsAt (b ∷ bs)) S S) =
+      ap length (canonical-is R (λ r. f (held ps r)) ∙ sym (upTo-all (kinds 32 R A) S (omega arith)))
+      ∙ (ap (λ (d : Draft). length (body d)) (sym (D-is (kinds 32 R A) (endsAt (b ∷ bs)) S S (omega arith)))) in
+      omega (arith, twice-ends K (endsAt (b ∷ bs)) S steady near)

@@ -14,12 +14,13 @@ use native.Mathlib.Decide.{decLe}
 use native.Mathlib.Omega.{arith}
 use borrow.Author.Tests.{lt-ltb, le-ltb}
 use Rattle.meaning.specs.Rows.{countBelow}
-use Rattle.meaning.specs.Segment.{Segment, clean, kind, isSet, bitAt, segmentCount, lastRows, allSet, fromRows}
+use Rattle.meaning.specs.Segment.{Segment, clean, kind, fill, rowsIn, isSet, bitAt, segmentCount, allSet, fromRows}
 use Rattle.meaning.specs.Canonical.{canonical, canonicalOf}
 use Rattle.meaning.specs.Ahead.{heldAt, answerRows, answerSegments, StretchAt}
-use Rattle.meaning.proofs.Segments.{canonical-is, encoded}
+use Rattle.meaning.proofs.Segments.{canonical-is, encoded, kinds-length, kind-fill}
+use Rattle.meaning.proofs.Cut.{kinds-at, rows-some, rows-le, rows-bit}
 use Rattle.meaning.proofs.Decoded.{and-false}
-use Rattle.meaning.proofs.RowWords.{word-by-bits, from-bit, from-below, from-length, count-zero, count-suc, before-last}
+use Rattle.meaning.proofs.RowWords.{word-by-bits, from-bit, from-below, from-length, before-last}
 use Rattle.meaning.proofs.Counting.{zero-clear, full-set, count-add, count-ext, count-all}
 use Rattle.meaning.proofs.Counted.{count-none}
 
@@ -40,30 +41,9 @@ ones-bit k j = elim (decLe (suc j) k) [
   | no h ↦ ones-past k j (omega arith) ∙ sym (le-ltb j k (omega arith))
 ]
 
-ltb-same : (a b c d : ℕ) → (a < b → c < d) → (b ≤ a → d ≤ c) → ltb a b ≡ ltb c d
-ltb-same a b c d h g = elim (decLe (suc a) b) [
-  | yes k ↦ lt-ltb a b k ∙ sym (lt-ltb c d (h k))
-  | no k ↦ let l : b ≤ a = omega arith in le-ltb a b l ∙ sym (le-ltb c d (g l))
-]
-
-module _ (w : ℕ) (pos : 0 < w) where
-  pub last-le : (R : ℕ) → lastRows w R ≤ w
-  unfolding lastRows
-  last-le R = omega (arith, mod-lt (R - 1) pos)
-
-  -- which bits of the last segment are rows
-  pub mask-last : (R i j : ℕ) → suc i ≡ segmentCount w R → isSet (2 ^ lastRows w R - 1) j ≡ ltb (i * w + j) R
-  unfolding lastRows
-  mask-last zero i j e = absurd (omega (arith, count-zero w pos))
-  mask-last (suc r) i j e =
-      let i-is : i ≡ r / w = omega (arith, count-suc w pos r) in
-      let k-is : suc r - 1 ≡ r = omega arith in
-      ones-bit ((suc r - 1) % w + 1) j
-      ∙ rw (k-is, i-is) (ltb-same j (r % w + 1) (r / w * w + j) (suc r) (λ h. omega (arith, div-add-mod' r w)) (λ h. omega (arith, div-add-mod' r w)))
-
-  -- of a segment without pad bits, all
-  pub mask-inside : (R i j : ℕ) → suc i * w ≤ R → j < w → ltb (i * w + j) R ≡ true
-  mask-inside R i j h l = lt-ltb (i * w + j) R (omega (arith, suc-mul i w))
+-- which bits of a segment are rows
+pub mask-bit : (w : ℕ) → 0 < w → (R i j : ℕ) → j < w → isSet (2 ^ rowsIn w R i - 1) j ≡ ltb (i * w + j) R
+mask-bit w pos R i j h = ones-bit (rowsIn w R i) j ∙ rows-bit w pos R i j h
 
 -- ---- the answer's segments
 
@@ -110,7 +90,7 @@ module _ (R : ℕ) (f : ℕ → Bool) (bodies : List (List ℕ)) where
 
   pub answer-length : length T ≡ segmentCount 32 R
   unfolding answerSegments
-  answer-length = length-map A (kind 32 32) ∙ from-length 32 (omega arith) R p
+  answer-length = kinds-length 32 R A ∙ from-length 32 (omega arith) R p
 
   pub answer-canonical : canonical R p ≡ canonicalOf T
   unfolding answerSegments encoded
@@ -118,16 +98,16 @@ module _ (R : ℕ) (f : ℕ → Bool) (bodies : List (List ℕ)) where
 
   -- the segment of a word whose bits are right
   segment-is : (i x : ℕ) → i < segmentCount 32 R → x < 2 ^ 32
-      → ((j : ℕ) → j < 32 → isSet x j ≡ ltb (i * 32 + j) R && f (heldAt bodies i j)) → getD T i (clean 0) ≡ kind 32 32 x
-  unfolding answerSegments kind allSet
+      → ((j : ℕ) → j < 32 → isSet x j ≡ ltb (i * 32 + j) R && f (heldAt bodies i j)) → getD T i (clean 0) ≡ kind (rowsIn 32 R i) x
+  unfolding answerSegments
   segment-is i x h l g =
-      List·getD-map (kind 32 32) A i 0
-      ∙ ap (kind 32 32) (word-by-bits 32 (getD A i 0) x (answer-below i) l (λ j k. answer-bit i j h k ∙ sym (g j k)))
+      kinds-at 32 (omega arith) R A i (clean 0) (from-length 32 (omega arith) R p) h
+      ∙ ap (kind (rowsIn 32 R i)) (word-by-bits 32 (getD A i 0) x (answer-below i) l (λ j k. answer-bit i j h k ∙ sym (g j k)))
 
   module _ (o n ones dirty : ℕ) (extra : ℕ → ℕ) (s : StretchAt R bodies o n ones dirty extra) where
     -- segment i of a clean stretch
     clean-segment : dirty ≡ 0 → (i x : ℕ) → i < n → x < 2 ^ 32 → ((j : ℕ) → j < 32 → isSet x j ≡ ltb ((o + i) * 32 + j) R && f ones)
-        → getD T (o + i) (clean 0) ≡ kind 32 32 x
+        → getD T (o + i) (clean 0) ≡ kind (rowsIn 32 R (o + i)) x
     clean-segment z i x h l g =
         segment-is (o + i) x (omega (arith, s .within)) l
         (λ j k. g j k ∙ sym (ap (λ (c : ℕ). ltb ((o + i) * 32 + j) R && f c) (s .clean z (o + i) (omega arith) (omega arith) j k)))
@@ -140,55 +120,29 @@ module _ (R : ℕ) (f : ℕ → Bool) (bodies : List (List ℕ)) where
         (λ i h. clean-segment z i 0 h (omega arith) (λ j k. zero-clear j ∙ sym (ap (λ (t : Bool). ltb ((o + i) * 32 + j) R && t) e ∙ and-false (ltb ((o + i) * 32 + j) R)))
         ∙ sym (getD-replicate n i (clean 0) (clean 0) h))
 
-    -- segment i of a clean stretch whose rows are in the answer, by a mask of those below R
-    ones-segment : dirty ≡ 0 → f ones ≡ true → (i k : ℕ) → i < n → k ≤ 32 → ((j : ℕ) → j < 32 → isSet (2 ^ k - 1) j ≡ ltb ((o + i) * 32 + j) R)
-        → getD T (o + i) (clean 0) ≡ kind 32 32 (2 ^ k - 1)
-    ones-segment z e i k h l g =
-        clean-segment z i (2 ^ k - 1) h (omega (arith, ones-lt k, pow-mono l))
-        (λ j b. g j b ∙ sym (ap (λ (t : Bool). ltb ((o + i) * 32 + j) R && t) e ∙ and-true (ltb ((o + i) * 32 + j) R)))
+    -- and one whose rows are in it: the last segment, too, is clean
+    ones-segment : dirty ≡ 0 → f ones ≡ true → (i : ℕ) → i < n → getD T (o + i) (clean 0) ≡ clean 1
+    unfolding fill allSet
+    ones-segment z e i h =
+        let k = rowsIn 32 R (o + i) in
+        let one : 1 * (2 ^ k - 1) ≡ 2 ^ k - 1 = omega arith in
+        clean-segment z i (2 ^ k - 1) h (omega (arith, ones-lt k, pow-mono (rows-le 32 (omega arith) R (o + i))))
+        (λ j b. mask-bit 32 (omega arith) R (o + i) j b ∙ sym (ap (λ (t : Bool). ltb ((o + i) * 32 + j) R && t) e ∙ and-true (ltb ((o + i) * 32 + j) R)))
+        ∙ ap (kind k) (sym one)
+        ∙ kind-fill k 1 (rows-some 32 (omega arith) R (o + i) (omega (arith, s .within))) (omega arith)
 
-    ones-inside : dirty ≡ 0 → f ones ≡ true → (i : ℕ) → i < n → suc (o + i) * 32 ≤ R → getD T (o + i) (clean 0) ≡ clean 1
-    unfolding kind allSet
-    ones-inside z e i h l = ones-segment z e i 32 h (omega arith) (λ j b. full-set 32 j b ∙ sym (mask-inside 32 (omega arith) R (o + i) j l b))
-
-    ones-last : dirty ≡ 0 → f ones ≡ true → (i : ℕ) → i < n → suc (o + i) ≡ segmentCount 32 R → getD T (o + i) (clean 0) ≡ kind 32 32 (2 ^ lastRows 32 R - 1)
-    ones-last z e i h l = ones-segment z e i (lastRows 32 R) h (last-le 32 (omega arith) R) (λ j b. mask-last 32 (omega arith) R (o + i) j l)
-
-    -- a clean stretch whose rows are in the answer, without pad bits
-    pub run-ones : dirty ≡ 0 → f ones ≡ true → (o + n) * 32 ≤ R → take n (drop o T) ≡ replicate n (clean 1)
-    run-ones z e h =
+    pub run-ones : dirty ≡ 0 → f ones ≡ true → take n (drop o T) ≡ replicate n (clean 1)
+    run-ones z e =
         part-is T (replicate n (clean 1)) o n (length-replicate n (clean 1)) (omega (arith, s .within, answer-length))
-        (λ i l. ones-inside z e i l (omega arith) ∙ sym (getD-replicate n i (clean 1) (clean 0) l))
-
-    -- and one that ends with the last segment, which may have pad bits
-    pub run-ones-last : dirty ≡ 0 → f ones ≡ true → o + n ≡ segmentCount 32 R
-        → take n (drop o T) ≡ replicate (n - 1) (clean 1) ++ kind 32 32 (2 ^ lastRows 32 R - 1) ∷ []
-    run-ones-last z e h = part-is T (run ++ last ∷ []) o n (length-append run (last ∷ []) ∙ omega (arith, m-is, s .some)) (omega (arith, s .within, answer-length)) each
-      where
-        run : List Segment
-        run = replicate (n - 1) (clean 1)
-
-        last : Segment
-        last = kind 32 32 (2 ^ lastRows 32 R - 1)
-
-        m-is : length run ≡ n - 1
-        m-is = length-replicate (n - 1) (clean 1)
-
-        each : (i : ℕ) → i < n → getD T (o + i) (clean 0) ≡ getD (run ++ last ∷ []) i (clean 0)
-        each i l = elim (decLe (suc i) (n - 1)) [
-          | yes k ↦
-              ones-inside z e i l (before-last 32 (omega arith) R (suc (o + i)) (omega arith))
-              ∙ sym (List·getD-append run (last ∷ []) (clean 0) i (omega (arith, m-is)) ∙ getD-replicate (n - 1) i (clean 1) (clean 0) k)
-          | no k ↦ ones-last z e i l (omega arith) ∙ sym (getD-at run last [] (clean 0) i (omega (arith, m-is)))
-        ]
+        (λ i l. ones-segment z e i l ∙ sym (getD-replicate n i (clean 1) (clean 0) l))
 
     -- a stretch with a dirty word
     pub one-word : (dirty ≡ 0 → ⊥) → (x : ℕ) → x < 2 ^ 32 → ((j : ℕ) → j < 32 → isSet x j ≡ ltb (o * 32 + j) R && f (ones + extra j))
-        → take n (drop o T) ≡ kind 32 32 x ∷ []
+        → take n (drop o T) ≡ kind (rowsIn 32 R o) x ∷ []
     one-word d x h g =
-        part-is T (kind 32 32 x ∷ []) o n (sym (s .single d)) (omega (arith, s .within, answer-length)) each
+        part-is T (kind (rowsIn 32 R o) x ∷ []) o n (sym (s .single d)) (omega (arith, s .within, answer-length)) each
       where
-        each : (i : ℕ) → i < n → getD T (o + i) (clean 0) ≡ getD (kind 32 32 x ∷ []) i (clean 0)
+        each : (i : ℕ) → i < n → getD T (o + i) (clean 0) ≡ getD (kind (rowsIn 32 R o) x ∷ []) i (clean 0)
         each zero l =
             ap (λ (k : ℕ). getD T k (clean 0)) (omega arith)
             ∙ segment-is o x (omega (arith, s .within)) h (λ j b. g j b ∙ sym (ap (λ (c : ℕ). ltb (o * 32 + j) R && f c) (s .mixed d j b)))

@@ -8,11 +8,11 @@ use lib.Dec.{eqb, ltb}
 use lib.ListN.{length, replicate, length-append}
 use native.Mathlib.Omega.{arith}
 use native.Mathlib.Decide.{decLe}
-use Rattle.meaning.proofs.Segments.{fits-clean, kind-fill, map-append, map-replicate, encoded}
+use Rattle.meaning.proofs.Segments.{fits-clean, seen, seen-run, seen-word}
 use mathlib.Core.Logic.{_⊎_, inl, inr}
 use borrow.Author.Tests.{lt-ltb, le-ltb, eq-eqb}
 use Rattle.meaning.specs.Limits.{mostClean, mostDirty}
-use Rattle.meaning.specs.Segment.{Segment, clean, mixed, kind, fill}
+use Rattle.meaning.specs.Segment.{Segment, clean, mixed, kinds, cut}
 use Rattle.meaning.specs.Ewah.{marker, decode, segments, valueOf, cleanOf, dirtyOf}
 use Rattle.meaning.specs.Canonical.{Draft, blank, draft, body, opened, put, canonicalOf}
 
@@ -30,7 +30,7 @@ unfolding size
 size-draft done v c ds = omega (arith, length-append done (marker v c (length ds) ∷ ds))
 
 -- one clean segment: at most one word more, and then no dirty word is taken
-put-clean : (d : Draft) (b : ℕ) → (size (put d (clean b)) ≤ size d + 1) × (taken (put d (clean b)) ≡ 0)
+pub put-clean : (d : Draft) (b : ℕ) → (size (put d (clean b)) ≤ size d + 1) × (taken (put d (clean b)) ≡ 0)
 unfolding put taken opened
 put-clean blank b = (omega (arith, size-draft [] b 1 []), refl)
 put-clean (draft done v c ds) b = go (eqb (length ds) 0 && eqb v b && ltb c mostClean) refl
@@ -45,14 +45,14 @@ put-clean (draft done v c ds) b = go (eqb (length ds) 0 && eqb v b && ltb c most
     go false e = (unfold size in omega (arith, size-draft old b 1 []), refl)
 
 -- one mixed segment where the last marker has room: one word more
-put-room : (d : Draft) (x : ℕ) → taken d < mostDirty → (size (put d (mixed x)) ≡ size d + 1) × (taken (put d (mixed x)) ≡ taken d + 1)
+pub put-room : (d : Draft) (x : ℕ) → taken d < mostDirty → (size (put d (mixed x)) ≡ size d + 1) × (taken (put d (mixed x)) ≡ taken d + 1)
 unfolding put taken
 put-room blank x h = absurd (omega arith)
 put-room (draft done v c ds) x h =
     rw (lt-ltb (length ds) mostDirty h)
     (omega (arith, size-draft done v c ds, size-draft done v c (ds ++ x ∷ []), length-append ds (x ∷ [])), omega (arith, length-append ds (x ∷ [])))
 
-put-full : (d : Draft) (x : ℕ) → mostDirty ≤ taken d → (size (put d (mixed x)) ≡ size d + 2) × (taken (put d (mixed x)) ≡ 1)
+pub put-full : (d : Draft) (x : ℕ) → mostDirty ≤ taken d → (size (put d (mixed x)) ≡ size d + 2) × (taken (put d (mixed x)) ≡ 1)
 unfolding put taken opened
 put-full blank x h = (unfold size in omega (arith, size-draft [] 0 0 (x ∷ [])), refl)
 put-full (draft done v c ds) x h =
@@ -162,23 +162,17 @@ pub least-reads : (b : List ℕ) (ss : List Segment) → Reads 0 b ss → length
 unfolding canonicalOf size
 least-reads b ss r = omega (arith, reads-cheap r (omega arith) .room blank (unfold taken in omega arith))
 
--- what a body decodes to is a reading of it
-kinds-run : (m : ℕ) (ys : List ℕ) → map (kind 32 32) (replicate (cleanOf m) (fill 32 32 (valueOf m)) ++ ys) ≡ replicate (cleanOf m) (clean (valueOf m)) ++ map (kind 32 32) ys
-unfolding valueOf
-kinds-run m ys =
-    map-append (kind 32 32) (replicate (cleanOf m) (fill 32 32 (valueOf m))) ys
-    ∙ rw (map-replicate, kind-fill 32 32 (m % 2) (omega arith) (omega arith))
-
-decode-reads : (due : ℕ) (b : List ℕ) → Reads due b (map (kind 32 32) (decode due b))
+-- what is seen of a body's segments is a reading of it, for any number of rows
+decode-reads : (R due : ℕ) (b : List ℕ) → Reads due b (seen 32 R (decode due b))
 unfolding decode
-decode-reads due [] = over
-decode-reads zero (m ∷ ws) = rw (kinds-run m (decode (dirtyOf m) ws)) (marked m (decode-reads (dirtyOf m) ws))
-decode-reads (suc due) (w ∷ ws) = dirty w (kind 32 32 w) (decode-reads due ws)
+decode-reads R due [] = unfold seen cut kinds in over
+decode-reads R zero (m ∷ ws) =
+    rw (seen-run 32 R (omega arith) (cleanOf m) (valueOf m) (decode (dirtyOf m) ws) (unfold valueOf in omega arith)) (marked m (decode-reads R (dirtyOf m) ws))
+decode-reads R (suc due) (w ∷ ws) = let s = seen-word 32 R (omega arith) w (decode due ws) in rw (s .1) (dirty w (s .0) (decode-reads R due ws))
 
--- No body that decodes to these segments has fewer words
-pub least : (b : List ℕ) → length (encoded (segments b)) ≤ length b
-unfolding encoded
-least b = least-reads b (map (kind 32 32) (segments b)) (decode-reads 0 b)
+-- No body with these segments has fewer words
+pub least : (R : ℕ) (b : List ℕ) → length (canonicalOf (seen 32 R (segments b))) ≤ length b
+least R b = least-reads b (seen 32 R (segments b)) (decode-reads R 0 b)
 
 -- ---- what one step adds
 

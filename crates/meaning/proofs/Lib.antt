@@ -1,11 +1,14 @@
 pub mod Tests
 pub mod Segments
 pub mod RowWords
+pub mod Cut
 pub mod Decoded
 pub mod Encoded
 pub mod Least
 pub mod Runs
 pub mod Prefixes
+pub mod WordJoin
+pub mod Lengthen
 pub mod Outcomes
 pub mod Numbered
 pub mod ByRuns

@@ -9,7 +9,7 @@ use lib.ListN.{length, getD, take, drop, length-append, length-map, List·getD-a
 use lib.Seq.{drop-append-add, take-append-seam, take-all}
 use native.Mathlib.Omega.{arith}
 use Rattle.meaning.specs.Limits.{mostRows, mostSegments, mostDirty, mostBitmaps, mostIndexWords, mostValueColumn, headWords, entryWords}
-use Rattle.meaning.specs.Segment.{segmentCount, fromRows, kind, kinds}
+use Rattle.meaning.specs.Segment.{segmentCount, fromRows, kinds}
 use Rattle.meaning.specs.Ewah.{rowsOf}
 use Rattle.meaning.specs.Canonical.{canonical}
 use Rattle.meaning.specs.Index.{rowCount, bitmapCount, entryPlace, startOf, lengthOf, bodyPlace, bodyAt, rowsAt}
@@ -18,7 +18,7 @@ use Rattle.meaning.specs.NewIndex.{entriesOf, joined, contentsEnd, assem
 use Rattle.meaning.specs.Laws.{SoundFacts, IndexFacts}
 use Rattle.meaning.specs.ColumnLaws.{none, NewIndex, NewIndexHolds}
 use Rattle.meaning.proofs.Decoded.{sound-iff}
-use Rattle.meaning.proofs.Segments.{kinds-map}
+use Rattle.meaning.proofs.Segments.{kinds-length}
 use Rattle.meaning.proofs.RowWords.{from-length}
 use Rattle.meaning.proofs.Least.{most-words-div}
 use Rattle.meaning.proofs.CanonicalBody.{canonical-sound, canonical-rows}
@@ -199,8 +199,7 @@ unfolding canonical
 canonical-words R p h =
     let ks = kinds 32 R (fromRows 32 R p) in
     let n : length ks ≡ segmentCount 32 R =
-    ap length (kinds-map 32 R (fromRows 32 R p))
-    ∙ length-map (fromRows 32 R p) (kind 32 32)
+    kinds-length 32 R (fromRows 32 R p)
     ∙ from-length 32 (omega arith) R p in
     let s : segmentCount 32 R ≤ 524288 = unfold segmentCount in omega arith in
     omega (arith, most-words-div ks)

@@ -9,8 +9,8 @@ use native.Mathlib.Omega.{arith}
 use Rattle.meaning.specs.Refusal.{Outcome, refused, answer, Verdict, sound, refuseIf, _then_, IsNumber, Numbered}
 use Rattle.meaning.specs.Limits.{mostRows, mostBitmaps, mostIndexWords, indexKind, headWords, mostColumn, mostValueColumn}
 use Rattle.meaning.specs.Rows.{countBelow, nthBelow}
-use Rattle.meaning.specs.Segment.{fill, lastRows, overPad, segmentCount, lastLimit, lastOf, hasRow, fromRows}
-use Rattle.meaning.specs.Ewah.{valueOf, cleanOf, dirtyOf, faultFrom, bodyFault, rowsOf}
+use Rattle.meaning.specs.Segment.{overPad, segmentCount, lastLimit, lastOf, hasRow, fromRows}
+use Rattle.meaning.specs.Ewah.{cleanOf, dirtyOf, faultFrom, bodyFault, rowsOf}
 use Rattle.meaning.specs.Canonical.{canonical}
 use Rattle.meaning.specs.Index.{bitmapCount, entryPlace, startOf, lengthOf, rowCount, bodyAt, rowsAt, entriesFault, bodiesFault, headFault, indexFault}
 use Rattle.meaning.specs.Question.{intersection, union, symmetricDifference, difference, complement, byTable}
@@ -52,8 +52,7 @@ fault bitmap R place due left [] = refuse (ltb 0 left) 6 bitmap place sound (ome
 fault bitmap R place zero left (m ∷ ws) =
     refuse (ltb (length ws) (dirtyOf m)) 5 bitmap place _ (omega arith)
     (refuse (ltb left (cleanOf m + dirtyOf m)) 6 bitmap place _ (omega arith)
-    (refuse (overPad 32 R left (cleanOf m) (fill 32 (lastRows 32 R) (valueOf m))) 7 bitmap place _ (omega arith)
-    (fault bitmap R (suc place) (dirtyOf m) (left - cleanOf m) ws)))
+    (fault bitmap R (suc place) (dirtyOf m) (left - cleanOf m) ws))
 fault bitmap R place (suc due) left (w ∷ ws) = refuse (overPad 32 R left 1 w) 7 bitmap place _ (omega arith) (fault bitmap R (suc place) due (left - 1) ws)
 
 body : (bitmap place R : ℕ) (b : List ℕ) → Numbered (bodyFault bitmap place R b)

@@ -1,15 +1,17 @@
 -- The draft of the first segments of a list: it grows by one segment at a time, stays within the canonical form of the whole list, and ends there.
 -- Assumes nothing.
-use Prim.Native.Nat.{ℕ, _+_, _*_, _≤_, _<_}
+use Prim.Native.Nat.{ℕ, _+_, _-_, _*_, _≤_, _<_}
 use mathlib.Core.Path.{_≡_, sym, ap, _∙_}
-use mathlib.Core.List.{List, [], _∷_, map, foldl, foldl-append}
-use lib.ListN.{length, take, drop, getD, take-append-drop, length-take, length-map, List·getD-map}
+use mathlib.Core.List.{List, [], _∷_, foldl, foldl-append}
+use lib.ListN.{length, take, drop, getD, take-append-drop, length-take}
 use lib.Seq.{take-suc, take-all, take-add}
 use native.Mathlib.Omega.{arith}
 use native.Mathlib.Numerals.{add-one}
-use Rattle.meaning.specs.Segment.{Segment, kind}
+use Rattle.meaning.specs.Segment.{Segment, clean, kind, kinds, rowsIn, segmentCount}
 use Rattle.meaning.specs.Canonical.{Draft, blank, body, put, canonicalOf}
 use Rattle.meaning.proofs.Least.{puts-grow, puts-add}
+use Rattle.meaning.proofs.Segments.{kinds-length}
+use Rattle.meaning.proofs.Cut.{kinds-at}
 
 -- of the first i segments
 abbrev pub upTo : List Segment → ℕ → Draft
@@ -22,11 +24,11 @@ upTo-more ss i s h =
     ∙ foldl-append put blank (take i ss) (getD ss i s ∷ [])
 
 -- where the segments are those of words
-pub upTo-word : (xs : List ℕ) (i : ℕ) → i < length xs
-    → upTo (map (kind 32 32) xs) (i + 1) ≡ put (upTo (map (kind 32 32) xs) i) (kind 32 32 (getD xs i 0))
-upTo-word xs i h =
-    upTo-more (map (kind 32 32) xs) i (kind 32 32 0) (rw length-map h)
-    ∙ ap (λ (s : Segment). put (upTo (map (kind 32 32) xs) i) s) (List·getD-map (kind 32 32) xs i 0)
+pub upTo-word : (R : ℕ) (xs : List ℕ) (i : ℕ) → length xs ≡ segmentCount 32 R → i < length xs
+    → upTo (kinds 32 R xs) (i + 1) ≡ put (upTo (kinds 32 R xs) i) (kind (rowsIn 32 R i) (getD xs i 0))
+upTo-word R xs i n h =
+    upTo-more (kinds 32 R xs) i (clean 0) (omega (arith, kinds-length 32 R xs))
+    ∙ ap (λ (s : Segment). put (upTo (kinds 32 R xs) i) s) (kinds-at 32 (omega arith) R xs i (clean 0) n (omega arith))
 
 pub upTo-all : (ss : List Segment) (i : ℕ) → length ss ≤ i → body (upTo ss i) ≡ canonicalOf ss
 unfolding canonicalOf

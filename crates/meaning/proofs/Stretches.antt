@@ -15,7 +15,7 @@ use Rattle.meaning.specs.Ewah.{Piece, runThen, pieces, pieceSize, decode
 use Rattle.meaning.specs.Ahead.{flat}
 use Rattle.meaning.specs.Question.{isIn, endsFrom, endsAt, stretches, totalWords}
 
-pub flat-run : (v n : ℕ) (ps : List Piece) → flat (runThen v n ps) ≡ replicate n (fill 32 32 v) ++ flat ps
+pub flat-run : (v n : ℕ) (ps : List Piece) → flat (runThen v n ps) ≡ replicate n (fill 32 v) ++ flat ps
 unfolding flat runThen
 flat-run v zero ps = refl
 flat-run v (suc n) ps = refl
@@ -23,7 +23,7 @@ flat-run v (suc n) ps = refl
 pub flat-pieces : (due : ℕ) (b : List ℕ) → flat (pieces due b) ≡ decode due b
 unfolding pieces decode flat
 flat-pieces due [] = refl
-flat-pieces zero (m ∷ ws) = flat-run (valueOf m) (cleanOf m) (pieces (dirtyOf m) ws) ∙ ap (λ (l : List ℕ). replicate (cleanOf m) (fill 32 32 (valueOf m)) ++ l) (flat-pieces (dirtyOf m) ws)
+flat-pieces zero (m ∷ ws) = flat-run (valueOf m) (cleanOf m) (pieces (dirtyOf m) ws) ∙ ap (λ (l : List ℕ). replicate (cleanOf m) (fill 32 (valueOf m)) ++ l) (flat-pieces (dirtyOf m) ws)
 flat-pieces (suc due) (w ∷ ws) = ap (λ (l : List ℕ). w ∷ l) (flat-pieces due ws)
 
 -- ---- counting

@@ -88,7 +88,7 @@ pub record At (b : List ℕ) (i due o : ℕ) : Type 0 where
 pub record Marked (b : List ℕ) (i o : ℕ) : Type 0 where
   pub fits : i + 1 + dirtyOf (getD b i 0) ≤ length b
   pub counts : o + cleanOf (getD b i 0) + dirtyOf (getD b i 0) ≤ length (segments b)
-  pub run : take (cleanOf (getD b i 0)) (drop o (segments b)) ≡ replicate (cleanOf (getD b i 0)) (fill 32 32 (valueOf (getD b i 0)))
+  pub run : take (cleanOf (getD b i 0)) (drop o (segments b)) ≡ replicate (cleanOf (getD b i 0)) (fill 32 (valueOf (getD b i 0)))
   pub dirty : take (dirtyOf (getD b i 0)) (drop (o + cleanOf (getD b i 0)) (segments b)) ≡ take (dirtyOf (getD b i 0)) (drop (i + 1) b)
   pub words : At b (i + 1) (dirtyOf (getD b i 0)) (o + cleanOf (getD b i 0))
   pub next : At b (i + 1 + dirtyOf (getD b i 0)) 0 (o + cleanOf (getD b i 0) + dirtyOf (getD b i 0))
@@ -123,8 +123,8 @@ at-marker b i o a h =
     let cons : drop i b ≡ m ∷ ws = drop-cons b i 0 h ∙ ap (λ (k : ℕ). m ∷ drop k b) (sym (add-one i)) in
     let due : dueAfter d ws ≡ 0 = rw cons at (a .ended) in
     let few : d ≤ length ws = due-le d ws due in
-    let all : replicate c (fill 32 32 (valueOf m)) ++ decode d ws ≡ drop o (segments b) = rw cons at (a .rest) in
-    let p = past b (replicate c (fill 32 32 (valueOf m))) (decode d ws) c o (a .passed) (length-replicate c (fill 32 32 (valueOf m))) all in
+    let all : replicate c (fill 32 (valueOf m)) ++ decode d ws ≡ drop o (segments b) = rw cons at (a .rest) in
+    let p = past b (replicate c (fill 32 (valueOf m))) (decode d ws) c o (a .passed) (length-replicate c (fill 32 (valueOf m))) all in
     let q = past b (take d ws) (decode 0 (drop d ws)) d (o + c) (p .0) (length-take-le d ws few) (sym (decode-dirty d ws few) ∙ p .2) in
     let e : drop d ws ≡ drop (i + 1 + d) b = drop-drop d (i + 1) b in
     record {
@@ -143,10 +143,10 @@ pub record Step (b : List ℕ) (i o v c d : ℕ) : Type 0 where
   pub fits : i + 1 + d ≤ length b
   pub counts : o + c + d ≤ length (segments b)
   -- each segment of its run and of its dirty words
-  pub run-at : (k : ℕ) → k < c → getD (segments b) (o + k) 0 ≡ fill 32 32 v
+  pub run-at : (k : ℕ) → k < c → getD (segments b) (o + k) 0 ≡ fill 32 v
   pub dirty-at : (k : ℕ) → k < d → getD (segments b) (o + c + k) 0 ≡ getD b (i + 1 + k) 0
   -- the segments up to the next marker
-  pub more : take (o + c + d) (segments b) ≡ take o (segments b) ++ (replicate c (fill 32 32 v) ++ take d (drop (i + 1) b))
+  pub more : take (o + c + d) (segments b) ≡ take o (segments b) ++ (replicate c (fill 32 v) ++ take d (drop (i + 1) b))
   pub next : At b (i + 1 + d) 0 (o + c + d)
 
 step-fields : (b : List ℕ) (i o : ℕ) → Marked b i o → Step b i o (valueOf (getD b i 0)) (cleanOf (getD b i 0)) (dirtyOf (getD b i 0))
@@ -154,7 +154,7 @@ step-fields b i o m =
     let s = segments b in
     let c = cleanOf (getD b i 0) in
     let d = dirtyOf (getD b i 0) in
-    let x = fill 32 32 (valueOf (getD b i 0)) in
+    let x = fill 32 (valueOf (getD b i 0)) in
     record {
       fits = m .fits;
       counts = m .counts;

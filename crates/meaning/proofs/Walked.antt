@@ -47,7 +47,7 @@ drop-run (suc n) (suc k) x ys h = let e : k - n ≡ suc k - suc n = omega arith 
 flat-advanced : (n : ℕ) (ps : List Piece) → 1 ≤ n → n ≤ firstSize ps → flat (advanced n ps) ≡ drop n (flat ps)
 unfolding flat advanced firstSize
 flat-advanced n [] h g = absurd (omega arith)
-flat-advanced n (cleanRun v k ∷ ps) h g = flat-run v (k - n) ps ∙ sym (drop-run n k (fill 32 32 v) (flat ps) g)
+flat-advanced n (cleanRun v k ∷ ps) h g = flat-run v (k - n) ps ∙ sym (drop-run n k (fill 32 v) (flat ps) g)
 flat-advanced n (dirtyWord x ∷ ps) h g = let e : n ≡ 1 = omega arith in rw e
 
 first-le : (ps : List Piece) → firstSize ps ≤ length (flat ps)
@@ -100,9 +100,9 @@ module _ (b : List ℕ) (o : ℕ) where
   ahead-at : (ps : List Piece) → Ahead b o ps → (j : ℕ) → getD (segments b) (o + j) 0 ≡ getD (flat ps) j 0
   ahead-at ps a j = sym (getD-drop o (segments b) j 0) ∙ ap (λ (l : List ℕ). getD l j 0) (sym (a .rest))
 
-  pub ahead-run : (v k : ℕ) (ps : List Piece) → Ahead b o (cleanRun v k ∷ ps) → (j : ℕ) → j < k → getD (segments b) (o + j) 0 ≡ fill 32 32 v
+  pub ahead-run : (v k : ℕ) (ps : List Piece) → Ahead b o (cleanRun v k ∷ ps) → (j : ℕ) → j < k → getD (segments b) (o + j) 0 ≡ fill 32 v
   unfolding flat
-  ahead-run v k ps a j h = ahead-at (cleanRun v k ∷ ps) a j ∙ run-at k (fill 32 32 v) (flat ps) j h
+  ahead-run v k ps a j h = ahead-at (cleanRun v k ∷ ps) a j ∙ run-at k (fill 32 v) (flat ps) j h
 
   pub ahead-dirty : (x : ℕ) (ps : List Piece) → Ahead b o (dirtyWord x ∷ ps) → getD (segments b) o 0 ≡ x
   unfolding flat

@@ -6,7 +6,7 @@ use mathlib.Core.Path.{_≡_}
 use mathlib.Core.List.{List, [], _∷_, _++_, map}
 use lib.ListN.{drop, replicate}
 use Rattle.meaning.specs.Rows.{countBelow}
-use Rattle.meaning.specs.Segment.{Segment, kind, fill, fromRows, segmentCount}
+use Rattle.meaning.specs.Segment.{Segment, kinds, fill, fromRows, segmentCount}
 use Rattle.meaning.specs.Ewah.{Piece, cleanRun, dirtyWord, runThen, pieces, pieceSize, segments, rowsOf}
 use Rattle.meaning.specs.Question.{held, isIn, endsFrom, endsAt}
 
@@ -14,7 +14,7 @@ use Rattle.meaning.specs.Question.{held, isIn, endsFrom, endsAt}
 unfoldable pub flat : List Piece → List ℕ
 unfolding fill
 flat [] = []
-flat (cleanRun v n ∷ ps) = replicate n (fill 32 32 v) ++ flat ps
+flat (cleanRun v n ∷ ps) = replicate n (fill 32 v) ++ flat ps
 flat (dirtyWord x ∷ ps) = x ∷ flat ps
 
 -- the pieces without the first n segments of the first one
@@ -53,8 +53,8 @@ answerRows f bodies r = f (held (map rowsOf bodies) r)
 
 -- and its segments, over R rows
 unfoldable pub answerSegments : (R : ℕ) → (ℕ → Bool) → List (List ℕ) → List Segment
-unfolding fromRows answerRows
-answerSegments R f bodies = map (kind 32 32) (fromRows 32 R (answerRows f bodies))
+unfolding kinds fromRows answerRows
+answerSegments R f bodies = kinds 32 R (fromRows 32 R (answerRows f bodies))
 
 -- one stretch of n segments from segment o on, over bodies of R rows: `ones` of them are in a run of ones there and `dirty` on a
 -- dirty word, and `extra j` of these words have bit j set. It ends at the first segment at which some piece ends

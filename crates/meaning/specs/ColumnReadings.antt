@@ -76,6 +76,11 @@ fortyRows =
     1 ∷ 40 ∷ 4 ∷ 11 ∷ 2 ∷ 13 ∷ 3 ∷ 16 ∷ 2 ∷ 18 ∷ 1
     ∷ 0x00020003 ∷ 0x000000FF ∷ 0x00040000 ∷ 0x00000001 ∷ 0x00000080 ∷ 0x00000003 ∷ 0x00000002 ∷ 0x00000004 ∷ []
 
+-- 40 rows. Bitmaps 0 and 1 have all of them, 0 with a dirty word for the last segment and 1 as a run of ones over its pad bits;
+-- 2 has all but row 39
+abbrev pub tailRows : List ℕ
+tailRows = 1 ∷ 40 ∷ 3 ∷ 9 ∷ 2 ∷ 11 ∷ 1 ∷ 12 ∷ 2 ∷ 0x00020003 ∷ 0x000000FF ∷ 0x00000005 ∷ 0x00020003 ∷ 0x0000007F ∷ []
+
 -- 3 rows, bitmap 0 has all, behind an idle marker, and 1 has row 1
 abbrev pub idleRows : List ℕ
 idleRows = 1 ∷ 3 ∷ 2 ∷ 7 ∷ 3 ∷ 10 ∷ 2 ∷ 0 ∷ 0x00020000 ∷ 0x7 ∷ 0x00020000 ∷ 0x2 ∷ []
@@ -100,7 +105,7 @@ newReadings =
     makes 3 [] (1 ∷ 3 ∷ 0 ∷ [])
     ∷ makes 3 (isIn (two 0 2) ∷ none ∷ []) (1 ∷ 3 ∷ 2 ∷ 7 ∷ 2 ∷ 9 ∷ 1 ∷ 0x00020000 ∷ 0x5 ∷ 0x00000002 ∷ [])
     ∷ makes 40 ((λ r. true) ∷ isIn (two 0 39) ∷ [])
-    (1 ∷ 40 ∷ 2 ∷ 7 ∷ 2 ∷ 9 ∷ 3 ∷ 0x00020003 ∷ 0x000000FF ∷ 0x00040000 ∷ 0x00000001 ∷ 0x00000080 ∷ [])
+    (1 ∷ 40 ∷ 2 ∷ 7 ∷ 1 ∷ 8 ∷ 3 ∷ 0x00000005 ∷ 0x00040000 ∷ 0x00000001 ∷ 0x00000080 ∷ [])
     ∷ makes 0 ((λ r. true) ∷ none ∷ []) noRows
     ∷ []
 
@@ -119,6 +124,11 @@ valueReadings =
     ∷ gives fortyRows (triple 0 1 2) 39 1
     ∷ gives fortyRows (triple 0 1 2) 31 2
     ∷ gives fortyRows (triple 0 1 2) 32 0
+    -- a bit past the last row is no stray row: a slice as a run over the last segment where existence has a dirty word, and
+    -- the reverse
+    ∷ gives tailRows (two 0 1) 39 1
+    ∷ gives tailRows (triple 1 0 2) 39 1
+    ∷ gives tailRows (triple 0 1 2) 38 3
     -- 8: the list is too short, too long, or names a bitmap that is not there
     ∷ denies threeRows [] 0 8 0 0
     ∷ denies threeRows (0 ∷ []) 0 8 0 0
@@ -138,6 +148,9 @@ valueReadings =
     ∷ denies fortyRows (two 2 1) 5 11 1 39
     ∷ denies fortyRows (two 2 0) 31 11 0 32
     ∷ denies fortyRows (two 1 2) 39 11 2 1
+    -- a real row of such a run is one
+    ∷ denies tailRows (two 2 1) 0 11 1 39
+    ∷ denies tailRows (two 2 0) 0 11 0 39
     -- 8 before 11: no such row, a row that does not exist, a bad list
     ∷ denies threeRows (two 3 2) 3 8 0 0
     ∷ denies threeRows (two 3 2) 1 8 0 0
@@ -155,23 +168,23 @@ sumReadings =
     ∷ adds threeRows (two 3 4) (triple 0 1 2) threeSum
     -- 7 and 1: a carry out of every slice
     ∷ adds threeRows (0 ∷ triple 0 0 0) (two 0 0)
-    (1 ∷ 3 ∷ 5 ∷ 13 ∷ 2 ∷ 15 ∷ 1 ∷ 16 ∷ 1 ∷ 17 ∷ 1 ∷ 18 ∷ 2
-    ∷ 0x00020000 ∷ 0x7 ∷ 0x00000002 ∷ 0x00000002 ∷ 0x00000002 ∷ 0x00020000 ∷ 0x7 ∷ [])
+    (1 ∷ 3 ∷ 5 ∷ 13 ∷ 1 ∷ 14 ∷ 1 ∷ 15 ∷ 1 ∷ 16 ∷ 1 ∷ 17 ∷ 1
+    ∷ 0x00000003 ∷ 0x00000002 ∷ 0x00000002 ∷ 0x00000002 ∷ 0x00000003 ∷ [])
     -- values 1, 0, 1 and zeros: the top slice is empty, and its body is there
     ∷ adds threeRows (two 0 1) (two 0 5)
-    (1 ∷ 3 ∷ 3 ∷ 9 ∷ 2 ∷ 11 ∷ 2 ∷ 13 ∷ 1 ∷ 0x00020000 ∷ 0x7 ∷ 0x00020000 ∷ 0x5 ∷ 0x00000002 ∷ [])
+    (1 ∷ 3 ∷ 3 ∷ 9 ∷ 1 ∷ 10 ∷ 2 ∷ 12 ∷ 1 ∷ 0x00000003 ∷ 0x00020000 ∷ 0x5 ∷ 0x00000002 ∷ [])
     -- a column twice
     ∷ adds threeRows (two 0 1) (two 0 1)
-    (1 ∷ 3 ∷ 3 ∷ 9 ∷ 2 ∷ 11 ∷ 1 ∷ 12 ∷ 2 ∷ 0x00020000 ∷ 0x7 ∷ 0x00000002 ∷ 0x00020000 ∷ 0x5 ∷ [])
+    (1 ∷ 3 ∷ 3 ∷ 9 ∷ 1 ∷ 10 ∷ 1 ∷ 11 ∷ 2 ∷ 0x00000003 ∷ 0x00000002 ∷ 0x00020000 ∷ 0x5 ∷ [])
     -- no row exists in both: three empty bitmaps, no value
     ∷ adds threeRows (two 5 5) (two 0 1) (1 ∷ 3 ∷ 3 ∷ 9 ∷ 1 ∷ 10 ∷ 1 ∷ 11 ∷ 1 ∷ 0x00000002 ∷ 0x00000002 ∷ 0x00000002 ∷ [])
     -- an idle marker read, and none written
     ∷ adds idleRows (two 0 1) (two 0 1)
-    (1 ∷ 3 ∷ 3 ∷ 9 ∷ 2 ∷ 11 ∷ 1 ∷ 12 ∷ 2 ∷ 0x00020000 ∷ 0x7 ∷ 0x00000002 ∷ 0x00020000 ∷ 0x2 ∷ [])
+    (1 ∷ 3 ∷ 3 ∷ 9 ∷ 1 ∷ 10 ∷ 1 ∷ 11 ∷ 2 ∷ 0x00000003 ∷ 0x00000002 ∷ 0x00020000 ∷ 0x2 ∷ [])
     -- 40 rows: row 0 has 3 + 1, rows 1 to 31 have 2 + 0, row 39 has 1 + 1
     ∷ adds fortyRows (triple 0 1 2) (two 0 1)
-    (1 ∷ 40 ∷ 4 ∷ 11 ∷ 2 ∷ 13 ∷ 1 ∷ 14 ∷ 3 ∷ 17 ∷ 3
-    ∷ 0x00020003 ∷ 0x000000FF ∷ 0x00000004 ∷ 0x00040000 ∷ 0xFFFFFFFE ∷ 0x00000080 ∷ 0x00020000 ∷ 0x00000001 ∷ 0x00000002 ∷ [])
+    (1 ∷ 40 ∷ 4 ∷ 11 ∷ 1 ∷ 12 ∷ 1 ∷ 13 ∷ 3 ∷ 16 ∷ 3
+    ∷ 0x00000005 ∷ 0x00000004 ∷ 0x00040000 ∷ 0xFFFFFFFE ∷ 0x00000080 ∷ 0x00020000 ∷ 0x00000001 ∷ 0x00000002 ∷ [])
     -- rows 0 to 31 of the first, with 1 each: row 39 of the second is not in the sum
     ∷ adds fortyRows (two 2 2) (two 0 1)
     (1 ∷ 40 ∷ 3 ∷ 9 ∷ 2 ∷ 11 ∷ 3 ∷ 14 ∷ 3
@@ -179,11 +192,17 @@ sumReadings =
     -- 64 rows, all of them with 1 + 1: clean runs alone
     ∷ adds (1 ∷ 64 ∷ 1 ∷ 5 ∷ 1 ∷ 0x00000005 ∷ []) (two 0 0) (two 0 0)
     (1 ∷ 64 ∷ 3 ∷ 9 ∷ 1 ∷ 10 ∷ 1 ∷ 11 ∷ 1 ∷ 0x00000005 ∷ 0x00000004 ∷ 0x00000005 ∷ [])
+    -- 40 rows, all of them with 1 + 1, read as a run and as a dirty word, written as runs; then rows 0 to 38 with 1 + 1 and
+    -- row 39 with 1 + 0
+    ∷ adds tailRows (two 0 1) (two 1 0)
+    (1 ∷ 40 ∷ 3 ∷ 9 ∷ 1 ∷ 10 ∷ 1 ∷ 11 ∷ 1 ∷ 0x00000005 ∷ 0x00000004 ∷ 0x00000005 ∷ [])
+    ∷ adds tailRows (two 1 1) (two 1 2)
+    (1 ∷ 40 ∷ 3 ∷ 9 ∷ 1 ∷ 10 ∷ 2 ∷ 12 ∷ 2 ∷ 0x00000005 ∷ 0x00020002 ∷ 0x00000080 ∷ 0x00020003 ∷ 0x0000007F ∷ [])
     -- no rows: the bodies have no words
     ∷ adds noRows (two 0 1) (two 1 0) (1 ∷ 0 ∷ 3 ∷ 9 ∷ 0 ∷ 9 ∷ 0 ∷ 9 ∷ 0 ∷ [])
-    -- 32 slices each, all digits set: twice 4,294,967,295, with 33 slices, in 3 + 68 + 2 + 1 + 32 * 2 words
-    ∷ addsTo threeRows (replicate 33 0) (replicate 33 0) 138 (whole 33) 2 8589934590
-    ∷ declines threeRows (replicate 33 0) (replicate 33 0) 137 9 0 138
+    -- 32 slices each, all digits set: twice 4,294,967,295, with 33 slices, in 3 + 68 + 34 words
+    ∷ addsTo threeRows (replicate 33 0) (replicate 33 0) 105 (whole 33) 2 8589934590
+    ∷ declines threeRows (replicate 33 0) (replicate 33 0) 104 9 0 105
     -- 8: either list is too short, too long for a sum, or names a bitmap that is not there
     ∷ declines threeRows (0 ∷ []) (two 0 1) 99 8 0 0
     ∷ declines threeRows (two 0 1) [] 99 8 0 0

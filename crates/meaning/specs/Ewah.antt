@@ -7,7 +7,7 @@ use mathlib.Core.Path.{_≡_}
 use mathlib.Core.List.{List, [], _∷_, _++_}
 use lib.Dec.{ltb}
 use lib.ListN.{length, replicate}
-use Rattle.meaning.specs.Segment.{fill, lastRows, segmentCount, overPad, hasRow}
+use Rattle.meaning.specs.Segment.{fill, segmentCount, overPad, hasRow}
 use Rattle.meaning.specs.Refusal.{Verdict, sound, refuseIf}
 
 -- ---- a marker
@@ -52,18 +52,25 @@ unfoldable pub pieceSize : Piece → ℕ
 pieceSize (cleanRun v n) = n
 pieceSize (dirtyWord x) = 1
 
+-- the word of the last piece if that is a dirty word, and else 0
+unfoldable pub lastDirty : List Piece → ℕ
+lastDirty [] = 0
+lastDirty (cleanRun v n ∷ []) = 0
+lastDirty (dirtyWord x ∷ []) = x
+lastDirty (p ∷ q ∷ ps) = lastDirty (q ∷ ps)
+
 -- the segments that a body's pieces stand for, in order (paper 01: the pieces spell them)
 unfoldable pub decode : (due : ℕ) → List ℕ → List ℕ
 unfolding valueOf cleanOf dirtyOf fill
 decode due [] = []
-decode zero (m ∷ ws) = replicate (cleanOf m) (fill 32 32 (valueOf m)) ++ decode (dirtyOf m) ws
+decode zero (m ∷ ws) = replicate (cleanOf m) (fill 32 (valueOf m)) ++ decode (dirtyOf m) ws
 decode (suc due) (w ∷ ws) = w ∷ decode due ws
 
 -- the segments of a whole body
 abbrev pub segments : List ℕ → List ℕ
 segments body = decode 0 body
 
--- the rows of a body
+-- the rows of a body; only those below R are asked for, so a run of ones over the last segment means its real rows
 unfoldable pub rowsOf : List ℕ → ℕ → Bool
 unfolding hasRow decode
 rowsOf body r = hasRow 32 (segments body) r
@@ -80,15 +87,14 @@ dueAfter (suc due) (w ∷ ws) = dueAfter due ws
 module _ (bitmap R : ℕ) where
   -- `place` is the next word's, `left` the number of segments still to come
   unfoldable pub faultFrom : (place due left : ℕ) → List ℕ → Verdict
-  unfolding refuseIf overPad valueOf cleanOf dirtyOf fill lastRows
+  unfolding refuseIf overPad valueOf cleanOf dirtyOf
   -- 6, at the place past the body: it ends and segments are missing
   faultFrom place due left [] = refuseIf (ltb 0 left) 6 bitmap place sound
-  -- a marker: 5, fewer words follow than its dirty count; 6, its two counts pass the segments left; 7, its run of ones sets a pad bit
+  -- a marker: 5, fewer words follow than its dirty count; 6, its two counts pass the segments left
   faultFrom place zero left (m ∷ ws) =
       refuseIf (ltb (length ws) (dirtyOf m)) 5 bitmap place
       (refuseIf (ltb left (cleanOf m + dirtyOf m)) 6 bitmap place
-      (refuseIf (overPad 32 R left (cleanOf m) (fill 32 (lastRows 32 R) (valueOf m))) 7 bitmap place
-      (faultFrom (suc place) (dirtyOf m) (left - cleanOf m) ws)))
+      (faultFrom (suc place) (dirtyOf m) (left - cleanOf m) ws))
   -- a dirty word: 7, it sets a pad bit
   faultFrom place (suc due) left (w ∷ ws) =
       refuseIf (overPad 32 R left 1 w) 7 bitmap place

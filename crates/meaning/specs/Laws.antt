@@ -8,9 +8,9 @@ use mathlib.Core.Logic.{_↔_}
 use mathlib.Core.List.{List, [], foldl}
 use lib.ListN.{length, getD, replicate}
 use Rattle.meaning.specs.Limits.{mostClean, mostRows, mostBitmaps, mostIndexWords, indexKind, headWords, histogramCounts}
-use Rattle.meaning.specs.Segment.{Segment, clean, segmentCount, lastLimit, lastOf}
+use Rattle.meaning.specs.Segment.{Segment, clean, segmentCount, lastLimit}
 use Rattle.meaning.specs.Refusal.{refused, answer, sound}
-use Rattle.meaning.specs.Ewah.{Sound, segments, rowsOf, dueAfter}
+use Rattle.meaning.specs.Ewah.{Sound, segments, rowsOf, dueAfter, pieces, lastDirty}
 use Rattle.meaning.specs.Canonical.{Draft, body, put, canonicalOf, canonical, Canonical}
 use Rattle.meaning.specs.Index.{rowCount, bitmapCount, entryPlace, startOf, bodyPlace, bodyAt, rowsAt, SoundIndex}
 use Rattle.meaning.specs.Question.{complement, byTable, sumOf}
@@ -19,11 +19,11 @@ use Rattle.meaning.specs.Demands.{BodyOf, Fewest}
 use Rattle.meaning.specs.Paragraph.{groups, groupsWords}
 
 -- the plain facts of a sound body of R rows: its last marker has all its dirty words, it stands for as many segments as
--- R rows have, and no pad bit of the last one is set
+-- R rows have, and a dirty word that is the last of them sets no pad bit
 pub record SoundFacts (R : ℕ) (b : List ℕ) : Type 0 where
   pub ended : dueAfter 0 b ≡ 0
   pub count : length (segments b) ≡ segmentCount 32 R
-  pub pads : lastOf (segments b) < lastLimit 32 R
+  pub pads : lastDirty (pieces 0 b) < lastLimit 32 R
 
 pub record BodyLaws : Type 0 where
   -- a body is sound exactly if these facts hold
@@ -85,11 +85,10 @@ pub record PartLaws : Type 0 where
 
 -- ---- what is written
 
--- a sound body in canonical form with exactly the rows p; no pad bit of it is set
+-- a sound body in canonical form with exactly the rows p
 pub record Answers (R : ℕ) (p : ℕ → Bool) (b : List ℕ) : Type 0 where
   pub right : BodyOf R p b
   pub form : Canonical R b
-  pub pads : lastOf (segments b) < lastLimit 32 R
 
 -- each question over bitmaps agrees with the rows, NOT and tables that say yes at 0 included
 pub record AnswerLaws : Type 0 where

@@ -112,10 +112,11 @@ readings =
     ∷ encodes 64 (λ r. false) (0x00000004 ∷ [])
     ∷ encodes 64 (λ r. true) (0x00000005 ∷ [])
     -- 40 rows: all set, rows 0 and 39
-    ∷ encodes 40 (λ r. true) (0x00020003 ∷ 0x000000FF ∷ [])
+    ∷ encodes 40 (λ r. true) (0x00000005 ∷ [])
     ∷ encodes 40 (isIn (0 ∷ 39 ∷ [])) (0x00040000 ∷ 0x00000001 ∷ 0x00000080 ∷ [])
-    -- 40 rows, a run of ones over pad bits
-    ∷ faulty 40 (0x00000005 ∷ []) 7 0
+    -- 40 rows, the last segment spelled by a dirty word; the same with a pad bit
+    ∷ holds 40 (λ r. true) (0x00020003 ∷ 0x000000FF ∷ [])
+    ∷ faulty 40 (0x00020003 ∷ 0x000001FF ∷ []) 7 1
     -- 96 rows: rows 5 and 64, and the same wastefully
     ∷ encodes 96 (isIn (5 ∷ 64 ∷ [])) ninetySix
     ∷ holds 96 (isIn (5 ∷ 64 ∷ [])) wasteful

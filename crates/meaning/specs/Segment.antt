@@ -1,7 +1,7 @@
 -- Segments of w bits, for any width w: rows laid out in them, clean and mixed ones, pad bits. No format is known here.
 -- Section "A body" of paper 01, which has w = 32.
 -- Assumes nothing.
-use Prim.Native.Nat.{ℕ, zero, suc, _+_, _-_, _*_, _/_, _%_, _^_}
+use Prim.Native.Nat.{ℕ, zero, suc, _+_, _-_, _*_, _/_, _%_, _^_, min}
 use mathlib.Core.Bool.{Bool, cond, _&&_}
 use mathlib.Core.List.{List, [], _∷_}
 use lib.Dec.{eqb, leb, ltb}
@@ -17,6 +17,10 @@ segmentCount w R = (R + (w - 1)) / w
 -- how many rows lie in the last segment, where there are rows: w if it has no pad bits
 unfoldable pub lastRows : (w R : ℕ) → ℕ
 lastRows w R = (R - 1) % w + 1
+
+-- how many rows segment i has: w, but the last one perhaps fewer
+unfoldable pub rowsIn : (w R i : ℕ) → ℕ
+rowsIn w R i = min w (R - i * w)
 
 -- bit j of a word, the lowest being bit 0
 unfoldable pub bitAt : (x j : ℕ) → ℕ
@@ -61,27 +65,27 @@ pub data Segment : Type 0 where
   clean : (v : ℕ) → Segment
   mixed : (x : ℕ) → Segment
 
--- THE TAIL RULE: the word of a clean segment of ones that has `real` rows. Here all w bits are set, pad bits among them,
--- so a last segment with pad bits is never a clean one of ones
-unfoldable pub allSet : (w real : ℕ) → ℕ
-allSet w real = 2 ^ w - 1
+-- THE TAIL RULE: the word of a clean segment of ones that has `real` rows. All its rows are set; pad bits are not, so that
+-- a last segment is clean by its rows alone
+unfoldable pub allSet : (real : ℕ) → ℕ
+allSet real = 2 ^ real - 1
 
 -- the word of a clean segment of value v
-unfoldable pub fill : (w real v : ℕ) → ℕ
+unfoldable pub fill : (real v : ℕ) → ℕ
 unfolding allSet
-fill w real v = v * allSet w real
+fill real v = v * allSet real
 
--- a word of all zeros or of all ones is clean, any other is mixed
-unfoldable pub kind : (w real x : ℕ) → Segment
+-- a word whose rows are all clear or all set is clean, any other is mixed
+unfoldable pub kind : (real x : ℕ) → Segment
 unfolding allSet
-kind w real x = cond (eqb x 0) (clean 0) (cond (eqb x (allSet w real)) (clean 1) (mixed x))
+kind real x = cond (eqb x 0) (clean 0) (cond (eqb x (allSet real)) (clean 1) (mixed x))
 
 -- of each segment of R rows; the last has `lastRows w R` of them, the others w
 unfoldable pub kinds : (w R : ℕ) → List ℕ → List Segment
 unfolding kind lastRows
 kinds w R [] = []
-kinds w R (x ∷ []) = kind w (lastRows w R) x ∷ []
-kinds w R (x ∷ y ∷ ys) = kind w w x ∷ kinds w R (y ∷ ys)
+kinds w R (x ∷ []) = kind (lastRows w R) x ∷ []
+kinds w R (x ∷ y ∷ ys) = kind w x ∷ kinds w R (y ∷ ys)
 
 -- ---- pad bits
 
@@ -89,6 +93,13 @@ kinds w R (x ∷ y ∷ ys) = kind w w x ∷ kinds w R (y ∷ ys)
 unfoldable pub lastLimit : (w R : ℕ) → ℕ
 unfolding lastRows
 lastLimit w R = 2 ^ lastRows w R
+
+-- segments of R rows without the pad bits of the last
+unfoldable pub cut : (w R : ℕ) → List ℕ → List ℕ
+unfolding lastLimit
+cut w R [] = []
+cut w R (x ∷ []) = x % lastLimit w R ∷ []
+cut w R (x ∷ y ∷ ys) = x ∷ cut w R (y ∷ ys)
 
 -- of `left` segments still to come the next c are the word x, and the last of all is one of them and has a pad bit set
 unfoldable pub overPad : (w R left c x : ℕ) → Bool

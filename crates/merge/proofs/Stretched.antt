@@ -76,7 +76,7 @@ no-term (suc m) f e i h = elim (decLe (suc i) m) [
 
 -- ---- one cursor
 
-pub bit-fill : (v j : ℕ) → v < 2 → j < 32 → bit (isSet (fill 32 32 v) j) ≡ v
+pub bit-fill : (v j : ℕ) → v < 2 → j < 32 → bit (isSet (fill 32 v) j) ≡ v
 unfolding fill bit
 bit-fill zero j h l = rw (zero-clear j)
 bit-fill (suc zero) j h l = rw (full-set 32 j l)
@@ -106,7 +106,7 @@ module _ (b : List ℕ) (o : ℕ) (c : Cursor) (a : CursorAt b o c) where
         go (Clean v (suc n)) e z h =
             let f : Ahead b o (cleanRun v (suc n) ∷ others) = unfold pieceThen runThen in ahead-of (Clean v (suc n)) e in
             let at : o + (i - o) ≡ i = omega arith in
-            let word : getD (segments b) i 0 ≡ fill 32 32 v = ap (λ (m : ℕ). getD (segments b) m 0) (sym at) ∙ ahead-run b o v (suc n) others f (i - o) (omega arith) in
+            let word : getD (segments b) i 0 ≡ fill 32 v = ap (λ (m : ℕ). getD (segments b) m 0) (sym at) ∙ ahead-run b o v (suc n) others f (i - o) (omega arith) in
             let low : v < 2 = subst ValueLow e (a .in-order .value-low) in
             rw word (bit-fill v j low k)
 

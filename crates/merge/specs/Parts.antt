@@ -18,7 +18,7 @@ use Rattle.merge.specs.Operations.{chosen}
 -- the segments of a part
 abbrev pub partSegments : Part → List Segment
 partSegments (Run v n) = replicate n (clean v)
-partSegments (Tail n x) = replicate n (clean 1) ++ kind 32 32 x ∷ []
+partSegments (Tail n x) = replicate n (clean 1) ++ kind 32 x ∷ []
 
 -- its numbers are in range: a marker can hold the run
 abbrev pub PartLow : Part → Type 0

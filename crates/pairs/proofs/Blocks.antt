@@ -82,18 +82,18 @@ module _ (index : List ℕ) (s j : ℕ) (low : j < 32) where
 -- ---- the segments of a set of rows
 
 abbrev pub segs : (R : ℕ) → (ℕ → Bool) → List Segment
-segs R p = map (kind 32 32) (fromRows 32 R p)
+segs R p = map (kind 32) (fromRows 32 R p)
 
 pub segs-length : (R : ℕ) (p : ℕ → Bool) → length (segs R p) ≡ segmentCount 32 R
-segs-length R p = length-map (fromRows 32 R p) (kind 32 32) ∙ from-length 32 (omega arith) R p
+segs-length R p = length-map (fromRows 32 R p) (kind 32) ∙ from-length 32 (omega arith) R p
 
 -- the segment of a word whose bits are right
 segment-is : (R : ℕ) (p : ℕ → Bool) (i y : ℕ) → i < segmentCount 32 R → y < 2 ^ 32
-    → ((j : ℕ) → j < 32 → isSet y j ≡ ltb (i * 32 + j) R && p (i * 32 + j)) → getD (segs R p) i (clean 0) ≡ kind 32 32 y
+    → ((j : ℕ) → j < 32 → isSet y j ≡ ltb (i * 32 + j) R && p (i * 32 + j)) → getD (segs R p) i (clean 0) ≡ kind 32 y
 unfolding kind allSet
 segment-is R p i y h l g =
-    List·getD-map (kind 32 32) (fromRows 32 R p) i 0
-    ∙ ap (kind 32 32) (word-by-bits 32 (getD (fromRows 32 R p) i 0) y (from-below 32 (omega arith) R p i) l
+    List·getD-map (kind 32) (fromRows 32 R p) i 0
+    ∙ ap (kind 32) (word-by-bits 32 (getD (fromRows 32 R p) i 0) y (from-below 32 (omega arith) R p i) l
     (λ j k. from-bit 32 (omega arith) R p i j h k ∙ sym (g j k)))
 
 -- ---- the answer's segment
@@ -146,5 +146,5 @@ module _ (index first second : List ℕ) (n : ℕ) (f1 : 1 ≤ length first) (f2
         ∙ unfold slice in ap₂ (λ (a : Bool) (t : ℕ). a && isSet t b) (both-is j k) (v-is j k)))
 
     -- the word of body b is its segment
-    pub block-segment : (b : ℕ) → b ≤ n → s < segmentCount 32 R → getD (segs R (sets index first second n b)) s (clean 0) ≡ kind 32 32 (z b)
+    pub block-segment : (b : ℕ) → b ≤ n → s < segmentCount 32 R → getD (segs R (sets index first second n b)) s (clean 0) ≡ kind 32 (z b)
     block-segment b l h = segment-is R (sets index first second n b) s (z b) h (p .low b l) (rows b l)

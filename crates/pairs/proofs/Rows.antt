@@ -154,20 +154,20 @@ module _ (index first second : List ℕ) (N : ℕ) (cs : Columns index first sec
   abbrev pub T : ℕ → List Segment
   T b = segs R (sets index first second N b)
 
-  row-at : (t : Bool) → even ≡ t → (b i : ℕ) → b ≤ N → i < n → getD (rowOf z n t b) i (clean 0) ≡ kind 32 32 (wordAt t z (b * blockSegments) i)
+  row-at : (t : Bool) → even ≡ t → (b i : ℕ) → b ≤ N → i < n → getD (rowOf z n t b) i (clean 0) ≡ kind 32 (wordAt t z (b * blockSegments) i)
   unfolding rowOf rowSegments wordAt kind allSet
   row-at true q b i l h =
-      getD-replicate n i (kind 32 32 (getD (take 1 (drop (b * blockSegments) z)) 0 0)) (clean 0) h
-      ∙ ap (kind 32 32) (getD-take 1 (drop (b * blockSegments) z) 0 0 (omega arith) ∙ getD-drop (b * blockSegments) z 0 0)
+      getD-replicate n i (kind 32 (getD (take 1 (drop (b * blockSegments) z)) 0 0)) (clean 0) h
+      ∙ ap (kind 32) (getD-take 1 (drop (b * blockSegments) z) 0 0 (omega arith) ∙ getD-drop (b * blockSegments) z 0 0)
   row-at false q b i l h =
-      List·getD-map (kind 32 32) (take n (drop (b * blockSegments) z)) i 0
-      ∙ ap (kind 32 32) (getD-take n (drop (b * blockSegments) z) i 0 h ∙ getD-drop (b * blockSegments) z i 0)
+      List·getD-map (kind 32) (take n (drop (b * blockSegments) z)) i 0
+      ∙ ap (kind 32) (getD-take n (drop (b * blockSegments) z) i 0 h ∙ getD-drop (b * blockSegments) z i 0)
 
   row-length : (t : Bool) → even ≡ t → (b : ℕ) → b ≤ N → length (rowOf z n t b) ≡ n
   unfolding rowOf rowSegments
-  row-length true q b l = length-replicate n (kind 32 32 (getD (take 1 (drop (b * blockSegments) z)) 0 0))
+  row-length true q b l = length-replicate n (kind 32 (getD (take 1 (drop (b * blockSegments) z)) 0 0))
   row-length false q b l =
-      length-map (take n (drop (b * blockSegments) z)) (kind 32 32)
+      length-map (take n (drop (b * blockSegments) z)) (kind 32)
       ∙ length-take-le n (drop (b * blockSegments) z) (omega (arith, length-drop (b * blockSegments) z, p .long, ch .in-block q, cs .few))
 
   pub row-part : (b : ℕ) → b ≤ N → rowOf z n even b ≡ take n (drop o (T b))

@@ -76,13 +76,13 @@ module _ (R : ℕ) (plain : List ℕ) where
       }
 
   -- valid plain words are the segments of their rows
-  canonical-plain : PlainRows R plain → canonical R (hasRow 32 plain) ≡ canonicalOf (map (kind 32 32) plain)
+  canonical-plain : PlainRows R plain → canonical R (hasRow 32 plain) ≡ canonicalOf (map (kind 32) plain)
   canonical-plain g =
       canonical-is R (hasRow 32 plain)
       ∙ ap encoded (sym (rows-decide 32 (omega arith) R (hasRow 32 plain) plain (g .count) (g .words) (g .pads) (λ r h. refl)))
       ∙ (unfold encoded in refl)
 
-  module _ (g : PlainRows R plain) (out : List ℕ) (n : ℕ) (is : n ≡ length (canonicalOf (map (kind 32 32) plain))) where
+  module _ (g : PlainRows R plain) (out : List ℕ) (n : ℕ) (is : n ≡ length (canonicalOf (map (kind 32) plain))) where
     same-length : n ≡ length (canonical R (hasRow 32 plain))
     same-length = is ∙ ap length (sym (canonical-plain g))
 
@@ -90,8 +90,8 @@ module _ (R : ℕ) (plain : List ℕ) where
     unfolding write
     write-none r e h = rw e (wrote-none out (canonical R (hasRow 32 plain)) n same-length h)
 
-    pub write-words : (out′ : List ℕ) → n ≤ length out → out′ ≡ canonicalOf (map (kind 32 32) plain) ++ drop n out → Wrote (write R (hasRow 32 plain) (length out)) (written.Words n) out out′
+    pub write-words : (out′ : List ℕ) → n ≤ length out → out′ ≡ canonicalOf (map (kind 32) plain) ++ drop n out → Wrote (write R (hasRow 32 plain) (length out)) (written.Words n) out out′
     unfolding write
     write-words out′ h e =
         wrote-words out (canonical R (hasRow 32 plain)) n same-length out′ h
-        (rw (canonical-plain g) (e ∙ ap (λ (k : ℕ). canonicalOf (map (kind 32 32) plain) ++ drop k out) is))
+        (rw (canonical-plain g) (e ∙ ap (λ (k : ℕ). canonicalOf (map (kind 32) plain) ++ drop k out) is))

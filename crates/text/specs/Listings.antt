@@ -20,7 +20,7 @@ restOf body R row = linesFrom (rowsOf body) row (R - row)
 
 -- the word of each of a piece's segments
 abbrev pub wordIn : code.Piece → ℕ
-wordIn (Clean v n) = fill 32 32 v
+wordIn (Clean v n) = fill 32 v
 wordIn (Dirty x) = x
 
 -- the body has segments for R rows, and not too many

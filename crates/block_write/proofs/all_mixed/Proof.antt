@@ -15,7 +15,7 @@ use Rattle.block_write.proofs.all_mixed.Statement.{statement}
 use Rattle.block_write.proofs.all_mixed.Tie as tie
 
 abbrev Inv-loop : tie.InvT-loop
-Inv-loop words i₀ i = (i ≤ length words) × (map (kind 32 32) (take i words) ≡ map mixed (take i words))
+Inv-loop words i₀ i = (i ≤ length words) × (map (kind 32) (take i words) ≡ map mixed (take i words))
 
 abbrev μ-loop : tie.MeasureT-loop
 μ-loop words i₀ i = length words - i
@@ -47,14 +47,14 @@ loop-again c =
     let words = now (c .before .before .before .before .before .args .words) in
     let h = c .before .before .before .loop-test .taken in
     let next = kind-other (c .before .if1 .left) (c .if2 .left) in
-    (omega arith, agree-more (kind 32 32) mixed words (l .i) h next (l .inv .1))
+    (omega arith, agree-more (kind 32) mixed words (l .i) h next (l .inv .1))
 
 returns-3 : tie.Need-returns-3 Inv-loop μ-loop
 returns-3 c = λ e.
     let l = c .before .loop in
     let words = now (c .before .before .args .words) in
     let h = c .loop-test .left in
-    sym (first-all (kind 32 32) words (l .i) h) ∙ l .inv .1 ∙ first-all mixed words (l .i) h
+    sym (first-all (kind 32) words (l .i) h) ∙ l .inv .1 ∙ first-all mixed words (l .i) h
 
 pub all-mixed-spec : {M : Type 1} → statement M
 all-mixed-spec =

@@ -14,7 +14,7 @@ use Rattle.block_write.proofs.grow_each.Statement.{statement}
 use Rattle.block_write.proofs.grow_each.Tie as tie
 
 abbrev Inv-loop : tie.InvT-loop
-Inv-loop words v₀ i₀ v i = (i ≤ length words) × Grown v₀ (map (kind 32 32) (take i words)) v
+Inv-loop words v₀ i₀ v i = (i ≤ length words) × Grown v₀ (map (kind 32) (take i words)) v
 
 abbrev μ-loop : tie.MeasureT-loop
 μ-loop words v₀ i₀ v i = length words - i
@@ -34,7 +34,7 @@ grow-segment-requires c κs =
     let s = c .before .before .before .before in
     let words = now (s .args .words) in
     let u = used-first words (l .i) (c .before .loop-test .taken) (s .pre .0) (l .inv .1) in
-    (still-writing (map (kind 32 32) (take (l .i) words)) (s .pre .0) (l .inv .1), omega (arith, u, s .pre .1))
+    (still-writing (map (kind 32) (take (l .i) words)) (s .pre .0) (l .inv .1), omega (arith, u, s .pre .1))
 
 add-i : tie.Need-add-i Inv-loop μ-loop
 add-i c = search needs
@@ -52,7 +52,7 @@ returns : tie.Need-returns Inv-loop μ-loop
 returns c =
     let l = c .before .loop in
     let words = now (c .before .before .before .args .words) in
-    rw (first-all (kind 32 32) words (l .i) (c .loop-test .left)) at (l .inv .1)
+    rw (first-all (kind 32) words (l .i) (c .loop-test .left)) at (l .inv .1)
 
 pub grow-each-spec : {M : Type 1} → statement M
 grow-each-spec =

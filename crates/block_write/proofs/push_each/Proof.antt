@@ -15,7 +15,7 @@ use Rattle.block_write.proofs.push_each.Tie as tie
 
 abbrev Inv-loop : tie.InvT-loop
 Inv-loop out₀ words v₀ i₀ out v i =
-    (i ≤ length words) × (length out ≡ length out₀) × Pushed out₀ out v₀ (map (kind 32 32) (take i words)) v
+    (i ≤ length words) × (length out ≡ length out₀) × Pushed out₀ out v₀ (map (kind 32) (take i words)) v
 
 abbrev μ-loop : tie.MeasureT-loop
 μ-loop out₀ words v₀ i₀ out v i = length words - i
@@ -58,7 +58,7 @@ returns : tie.Need-returns Inv-loop μ-loop
 returns c =
     let l = c .before .loop in
     let words = now (c .before .before .before .before .args .words) in
-    rw (first-all (kind 32 32) words (l .i) (c .loop-test .left)) at (l .inv .2)
+    rw (first-all (kind 32) words (l .i) (c .loop-test .left)) at (l .inv .2)
 
 pub push-each-spec : {M : Type 1} → statement M
 push-each-spec =

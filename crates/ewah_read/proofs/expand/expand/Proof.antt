@@ -115,11 +115,11 @@ loop-again c =
     let l = now (h .before .before .before .args .out) in
     let o = h .loop .o in
     let end = o + m .clean + m .dirty in
-    let new : t .place .last .0 ≡ replicate (m .clean) (fill 32 32 (m .value)) ++ take (m .dirty) (drop (h .loop .at + 1) b) = rw part-is at (t .place .ensures) in (
+    let new : t .place .last .0 ≡ replicate (m .clean) (fill 32 (m .value)) ++ take (m .dirty) (drop (h .loop .at + 1) b) = rw part-is at (t .place .ensures) in (
       s .next,
       c .before .out .given .1 ∙ h .loop .inv .1,
       ap₂ (λ (xs ys : List ℕ). take o xs ++ (ys ++ drop (end - o) (drop o xs))) (h .loop .inv .2) new
-          ∙ replace-part (take o (segments b)) l (replicate (m .clean) (fill 32 32 (m .value)) ++ take (m .dirty) (drop (h .loop .at + 1) b)) o end (length-take-le o (segments b) (omega arith)) (omega arith)
+          ∙ replace-part (take o (segments b)) l (replicate (m .clean) (fill 32 (m .value)) ++ take (m .dirty) (drop (h .loop .at + 1) b)) o end (length-take-le o (segments b) (omega arith)) (omega arith)
           ∙ ap (λ (xs : List ℕ). xs ++ drop end l) (sym (s .more)),
     )
 

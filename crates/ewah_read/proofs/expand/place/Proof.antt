@@ -50,7 +50,7 @@ returns c =
     let s = c .before .before .before .before .before .before in
     let a = s .before .before .before .before .before .args in
     let n = a .clean in
-    let x = fill 32 32 (a .value) in
+    let x = fill 32 (a .value) in
     let l = now (a .out) in
     let f : s .fill .last .0 ≡ replicate n x =
     s .fill .ensures ∙ ap₂ (λ (k y : ℕ). replicate k y) (length-take-le n l (omega arith)) (s .before .segment .ensures) in

@@ -41,7 +41,7 @@ told : (c : tie.After-seek Inv-loop μ-loop)
     → let r = c .before .before in
     let h = r .before .before .before in
     let m = r .read .result in
-    SoughtIn (replicate (m .clean) (fill 32 32 (m .value)) ++ take (m .dirty) (drop (h .loop .at + 1) (now (h .before .before .args .body)))) (h .loop .ahead) (c .seek .result)
+    SoughtIn (replicate (m .clean) (fill 32 (m .value)) ++ take (m .dirty) (drop (h .loop .at + 1) (now (h .before .before .args .body)))) (h .loop .ahead) (c .seek .result)
 told c = rw part-is at (c .seek .ensures)
 
 -- the row that they have, as one of the body's
@@ -122,7 +122,7 @@ loop-again c =
     let b = now (h .before .before .args .body) in
     let m = r .read .result in
     let e : t .seek .result ≡ Ahead (k .given .0 .0) = k .given .1 in
-    let left-over : ones 32 (replicate (m .clean) (fill 32 32 (m .value)) ++ take (m .dirty) (drop (h .loop .at + 1) b)) + k .given .0 .0 ≡ h .loop .ahead = rw e at (told t) in
+    let left-over : ones 32 (replicate (m .clean) (fill 32 (m .value)) ++ take (m .dirty) (drop (h .loop .at + 1) b)) + k .given .0 .0 ≡ h .loop .ahead = rw e at (told t) in
     (over r .next, omega (arith, h .loop .inv .1, ones-step b (h .loop .at) (h .loop .behind) (m .value) (m .clean) (m .dirty) (over r)))
 
 returns-2 : tie.Need-returns-2 Inv-loop μ-loop

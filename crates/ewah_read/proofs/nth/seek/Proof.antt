@@ -19,24 +19,24 @@ use Rattle.ewah_read.proofs.nth.seek.Tie as tie
 -- the set row with k set rows before it, of a run with words behind it
 module _ (clean value : ℕ) (ws : List ℕ) where
   abbrev both : List ℕ
-  both = replicate clean (fill 32 32 value) ++ ws
+  both = replicate clean (fill 32 value) ++ ws
 
   -- in the run it is row k
-  in-run : (k : ℕ) → value < 2 → k < ones 32 (replicate clean (fill 32 32 value))
+  in-run : (k : ℕ) → value < 2 → k < ones 32 (replicate clean (fill 32 value))
       → IsNth (length both * 32) (hasRow 32 both) k k
   in-run k h few =
-      nth-left 32 (lit< tt) (replicate clean (fill 32 32 value)) ws k k (nth-run 32 (lit< tt) clean 32 value k h few)
+      nth-left 32 (lit< tt) (replicate clean (fill 32 value)) ws k k (nth-run 32 (lit< tt) clean 32 value k h few)
 
   -- in the words it is theirs, behind the run's rows
-  in-words : (j k r : ℕ) → ones 32 (replicate clean (fill 32 32 value)) + j ≡ k
+  in-words : (j k r : ℕ) → ones 32 (replicate clean (fill 32 value)) + j ≡ k
       → IsNth (length ws * 32) (hasRow 32 ws) j r → IsNth (length both * 32) (hasRow 32 both) k (clean * 32 + r)
   in-words j k r e found =
-      let n : length (replicate clean (fill 32 32 value)) ≡ clean = length-replicate clean (fill 32 32 value) in
-      rw (n, e) at (nth-right 32 (lit< tt) (replicate clean (fill 32 32 value)) ws j r found)
+      let n : length (replicate clean (fill 32 value)) ≡ clean = length-replicate clean (fill 32 value) in
+      rw (n, e) at (nth-right 32 (lit< tt) (replicate clean (fill 32 value)) ws j r found)
 
 -- the clean run, and the dirty words
 abbrev run : (t : tie.After-count-run) → List ℕ
-run t = let a = t .before .before .args in replicate (a .clean) (fill 32 32 (a .value))
+run t = let a = t .before .before .args in replicate (a .clean) (fill 32 (a .value))
 
 abbrev words : (t : tie.After-count-run) → List ℕ
 words t = let a = t .before .before .args in take (a .to - a .from) (drop (a .from) (now (a .body)))

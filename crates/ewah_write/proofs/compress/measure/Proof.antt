@@ -14,7 +14,7 @@ use Rattle.ewah_write.proofs.compress.measure.Statement.{statement}
 use Rattle.ewah_write.proofs.compress.measure.Tie as tie
 
 abbrev Inv-loop : tie.InvT-loop
-Inv-loop plain w₀ i₀ w i = (i ≤ length plain) × Tracks w (upTo (map (kind 32 32) plain) i)
+Inv-loop plain w₀ i₀ w i = (i ≤ length plain) × Tracks w (upTo (map (kind 32) plain) i)
 
 abbrev μ-loop : tie.MeasureT-loop
 μ-loop plain w₀ i₀ w i = length plain - i
@@ -34,7 +34,7 @@ shared-slice-read-grow-segment c = search needs
 grow-segment-requires : tie.Need-grow-segment-requires Inv-loop μ-loop
 grow-segment-requires c κs =
     let h = c .before .before .loop in
-    let ss = map (kind 32 32) (now (c .before .before .before .before .before .args .plain)) in
+    let ss = map (kind 32) (now (c .before .before .before .before .before .args .plain)) in
     ((upTo ss (h .i), h .inv .1), omega (arith, used-is (upTo ss (h .i)) (h .inv .1), upTo-low ss (h .i), c .before .before .before .before .before .good))
 
 add-i : tie.Need-add-i Inv-loop μ-loop
@@ -47,12 +47,12 @@ loop-again : tie.Need-loop-again Inv-loop μ-loop
 loop-again c =
     let h = c .before .before .before .loop in
     let plain = now (c .before .before .before .before .before .before .args .plain) in
-    (omega arith, rw (upTo-word plain (h .i) (c .before .before .loop-test .taken)) (c .grow-segment .ensures (upTo (map (kind 32 32) plain) (h .i)) (h .inv .1)))
+    (omega arith, rw (upTo-word plain (h .i) (c .before .before .loop-test .taken)) (c .grow-segment .ensures (upTo (map (kind 32) plain) (h .i)) (h .inv .1)))
 
 returns : tie.Need-returns Inv-loop μ-loop
 returns c =
     let h = c .before .loop in
-    let ss = map (kind 32 32) (now (c .before .before .before .before .args .plain)) in
+    let ss = map (kind 32) (now (c .before .before .before .before .args .plain)) in
     used-is (upTo ss (h .i)) (h .inv .1) ∙ ap length (upTo-all ss (h .i) (rw length-map (c .loop-test .left)))
 
 pub measure-spec : {M : Type 1} → statement M

@@ -15,7 +15,7 @@ use Rattle.ewah_write.proofs.compress.write.Tie as tie
 
 abbrev Inv-loop : tie.InvT-loop
 Inv-loop plain out₀ w₀ i₀ out w i =
-    (i ≤ length plain) × (length out ≡ length out₀) × Written out₀ out w (upTo (map (kind 32 32) plain) i)
+    (i ≤ length plain) × (length out ≡ length out₀) × Written out₀ out w (upTo (map (kind 32) plain) i)
 
 abbrev μ-loop : tie.MeasureT-loop
 μ-loop plain out₀ w₀ i₀ out w i = length plain - i
@@ -38,7 +38,7 @@ push-segment-requires c κs =
     let h = c .before .before .before .loop in
     let s = c .before .before .before .before .before .before .before in
     let plain = now (s .args .plain) in
-    let ss = map (kind 32 32) plain in
+    let ss = map (kind 32) plain in
     let e = upTo-word plain (h .i) (c .before .before .loop-test .taken) in
     (upTo ss (h .i), h .inv .2 .drawn .tracks, rw (← e) (omega (arith, upTo-within ss (h .i + 1), s .pre)))
 
@@ -54,9 +54,9 @@ loop-again c =
     let h = c .before .before .before .before .before .before .loop in
     let s = c .before .before .before .before .before .before .before .before .before .before in
     let plain = now (s .args .plain) in
-    let d = upTo (map (kind 32 32) plain) (h .i) in
+    let d = upTo (map (kind 32) plain) (h .i) in
     let t = c .before .before .before .before .before .loop-test .taken in
-    (omega arith, p .kept .0 ∙ h .inv .1, rw (upTo-word plain (h .i) t) (written-more (now (s .args .out)) (h .out) (p .last .0) (h .w) (p .result) d (kind 32 32 (getD plain (h .i) 0) ∷ []) (h .inv .2) (p .ensures)))
+    (omega arith, p .kept .0 ∙ h .inv .1, rw (upTo-word plain (h .i) t) (written-more (now (s .args .out)) (h .out) (p .last .0) (h .w) (p .result) d (kind 32 (getD plain (h .i) 0) ∷ []) (h .inv .2) (p .ensures)))
 
 same-length : tie.Need-same-length Inv-loop μ-loop
 same-length c = search needs
@@ -65,7 +65,7 @@ returns : tie.Need-returns Inv-loop μ-loop
 returns c =
     let h = c .before .loop in
     let s = c .before .before .before .before .before in
-    let ss = map (kind 32 32) (now (s .args .plain)) in
+    let ss = map (kind 32) (now (s .args .plain)) in
     let e = upTo-all ss (h .i) (rw length-map (c .loop-test .left)) in
     (used-is (upTo ss (h .i)) (h .inv .2 .drawn .tracks) ∙ ap length e, rw (← e) (written-all (now (s .args .out)) (h .out) (h .w) (upTo ss (h .i)) (h .inv .2)))
 

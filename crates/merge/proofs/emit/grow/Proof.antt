@@ -39,7 +39,7 @@ returns-2 : tie.Need-returns-2
 returns-2 c =
     let v = c .before .before .before .part2 .given .0 in
     rw (c .before .before .before .part2 .given .1)
-    (grown-more (replicate (v .0) (clean 1)) (kind 32 32 (v .1 .0) ∷ []) (c .before .grow-run2 .ensures) (c .grow-segment .ensures))
+    (grown-more (replicate (v .0) (clean 1)) (kind 32 (v .1 .0) ∷ []) (c .before .grow-run2 .ensures) (c .grow-segment .ensures))
 
 pub grow-spec : {M : Type 1} → statement M
 grow-spec =

@@ -11,13 +11,13 @@ use Rattle.merge.proofs.emit.push_tail.Tie as tie
 push-run-requires : tie.Need-push-run-requires
 push-run-requires c κs =
     let s = c .before .before in
-    (room-first (replicate (s .args .n) (clean 1)) (kind 32 32 (s .args .x) ∷ []) (s .pre .0), search needs)
+    (room-first (replicate (s .args .n) (clean 1)) (kind 32 (s .args .x) ∷ []) (s .pre .0), search needs)
 
 push-segment-requires : tie.Need-push-segment-requires
 push-segment-requires c κs =
     let s = c .before .before .before .before .before .before in
     let p = c .before .before .before .push-run in
-    rw (p .kept .0) (room-rest (replicate (s .args .n) (clean 1)) (kind 32 32 (s .args .x) ∷ []) (s .pre .0) (p .ensures .grown))
+    rw (p .kept .0) (room-rest (replicate (s .args .n) (clean 1)) (kind 32 (s .args .x) ∷ []) (s .pre .0) (p .ensures .grown))
 
 same-length : tie.Need-same-length
 same-length c = search needs
@@ -26,7 +26,7 @@ returns : tie.Need-returns
 returns c =
     let s = c .before .before .before .before .before .before .before .before .before in
     let r = s .pre .0 in
-    pushed-more (replicate (s .args .n) (clean 1)) (kind 32 32 (s .args .x) ∷ []) (r .0, r .1)
+    pushed-more (replicate (s .args .n) (clean 1)) (kind 32 (s .args .x) ∷ []) (r .0, r .1)
     (c .before .before .before .before .before .before .push-run .ensures) (c .before .before .push-segment .ensures)
 
 pub push-tail-spec : {M : Type 1} → statement M
