@@ -5,14 +5,14 @@ use mathlib.Core.Bool.{Bool, true, false, true≢false}
 use mathlib.Core.Path.{_≡_, refl, sym, _∙_, subst}
 use mathlib.Core.List.{List}
 use native.Mathlib.Omega.{arith}
-use lib.Dec.{leb, ltb}
+use lib.Dec.{ltb}
 use borrow.Author.Tests.{lt-ltb, le-ltb}
 use lib.ListN.{length, drop, getD, length-drop, drop-of-length-le}
 use lib.Seq.{drop-cons, getD-drop, drop-drop}
-use Rattle.meaning.specs.Segment.{fill, lastRows, lastLimit, overPad, segmentCount}
+use Rattle.meaning.specs.Segment.{overPad, segmentCount}
 use Rattle.meaning.specs.Refusal.{sound, refuseIf}
-use Rattle.meaning.specs.Ewah.{valueOf, cleanOf, dirtyOf, faultFrom}
-use Rattle.meaning.proofs.Walk.{skip-dirty, over-none, over-last}
+use Rattle.meaning.specs.Ewah.{cleanOf, dirtyOf, faultFrom}
+use Rattle.meaning.proofs.Walk.{skip-dirty, over-none}
 use Rattle.ewah.specs.Checking.{Passed, Faulty, Stepped}
 use Rattle.ewah.specs.declared.check.Step.{Step}
 use Rattle.ewah.specs.declared.check.Step.the-variants.{Next, Fault}
@@ -22,11 +22,6 @@ pub some-rows : (R left c : ℕ) → left ≤ segmentCount 32 R → (c ≡ 0 →
 unfolding segmentCount
 some-rows R left c h k e = omega arith
 
--- a clean run that reaches the last segment; x is the word of its segments
-pub run-last : (R left c v x : ℕ) (t : Bool) → (c ≡ 0 → ⊥) → c ≡ left → x ≡ fill 32 v → t ≡ leb (lastLimit 32 R) x → t ≡ overPad 32 R left c (fill (lastRows 32 R) v)
-unfolding fill
-run-last R left c v x t h e f g = rw (← f) (over-last 32 R left c x t h e g)
-
 -- the last of d dirty words behind word `at`, if there is one
 last-word : (R left d at : ℕ) (b : List ℕ) → overPad 32 R left d (getD (drop (suc at) b) (d - 1) 0) ≡ overPad 32 R left d (getD b (at + d) 0)
 last-word R left zero at b = sym (over-none 32 R left 0 (getD (drop (suc at) b) (0 - 1) 0) refl) ∙ over-none 32 R left 0 (getD b (at + 0) 0) refl
@@ -34,16 +29,15 @@ last-word R left (suc d) at b =
     let e : suc at + (suc d - 1) ≡ at + suc d = omega arith in
     rw (getD-drop (suc at) b (suc d - 1) 0, e)
 
-module _ (b : List ℕ) (R at left c d v : ℕ) (h : at < length b) (hc : c ≡ cleanOf (getD b at 0)) (hd : d ≡ dirtyOf (getD b at 0)) (hv : v ≡ valueOf (getD b at 0)) where
+module _ (b : List ℕ) (R at left c d : ℕ) (h : at < length b) (hc : c ≡ cleanOf (getD b at 0)) (hd : d ≡ dirtyOf (getD b at 0)) where
   -- the faults at the marker, and then those of its dirty words
   chain : (k place : ℕ) → faultFrom k R place 0 left (drop at b) ≡ refuseIf (ltb (length b - at - 1) d) 5 k place
       (refuseIf (ltb left (c + d)) 6 k place
-      (refuseIf (overPad 32 R left c (fill (lastRows 32 R) v)) 7 k place
-      (faultFrom k R (suc place) d (left - c) (drop (suc at) b))))
+      (faultFrom k R (suc place) d (left - c) (drop (suc at) b)))
   unfolding faultFrom
   chain k place =
       let e : length (drop (suc at) b) ≡ length b - at - 1 = omega (arith, length-drop (suc at) b) in
-      rw (drop-cons b at 0 h, e, hc, hd, hv)
+      rw (drop-cons b at 0 h, e, hc, hd)
 
   pub step-5 : length b - at - 1 < d → Faulty b R at left 5 at
   unfolding refuseIf
@@ -55,22 +49,18 @@ module _ (b : List ℕ) (R at left c d v : ℕ) (h : at < length b) (hc : c ≡ 
     step-6 l = record { inside = h; first = λ k start. chain k (start + at) ∙ rw (le-ltb (length b - at - 1) d g, lt-ltb left (c + d) l) }
 
     module _ (l : c + d ≤ left) where
-      -- past the counts; s is the answer on the run, t that on the dirty words
-      counted : (s : Bool) → s ≡ overPad 32 R left c (fill (lastRows 32 R) v) → (k place : ℕ)
-          → faultFrom k R place 0 left (drop at b) ≡ refuseIf s 7 k place (faultFrom k R (suc place) d (left - c) (drop (suc at) b))
+      -- past the counts
+      counted : (k place : ℕ) → faultFrom k R place 0 left (drop at b) ≡ faultFrom k R (suc place) d (left - c) (drop (suc at) b)
       unfolding refuseIf
-      counted s e k place = chain k place ∙ rw (le-ltb (length b - at - 1) d g, le-ltb left (c + d) l, e)
+      counted k place = chain k place ∙ rw (le-ltb (length b - at - 1) d g, le-ltb left (c + d) l)
 
-      pub step-7 : (s : Bool) → s ≡ overPad 32 R left c (fill (lastRows 32 R) v) → s ≡ true → Faulty b R at left 7 at
-      unfolding refuseIf
-      step-7 s e y = record { inside = h; first = λ k start. counted s e k (start + at) ∙ rw y }
-
-      module _ (s t : Bool) (e : s ≡ overPad 32 R left c (fill (lastRows 32 R) v)) (n : s ≡ false) (f : t ≡ overPad 32 R (left - c) d (getD b (at + d) 0)) where
+      -- t is the answer on the dirty words
+      module _ (t : Bool) (f : t ≡ overPad 32 R (left - c) d (getD b (at + d) 0)) where
         skipped : (k place : ℕ) → faultFrom k R place 0 left (drop at b) ≡ refuseIf t 7 k (suc place + (d - 1)) (faultFrom k R (suc place + d) 0 (left - c - d) (drop (at + d + 1) b))
         unfolding refuseIf
         skipped k place =
             let i : suc at + d ≡ at + d + 1 = omega arith in
-            counted s e k place ∙ rw (n, skip-dirty k R (suc place) d (left - c) (drop (suc at) b) (omega (arith, length-drop (suc at) b)) (omega arith), last-word R (left - c) d at b, f, drop-drop d (suc at) b, i)
+            counted k place ∙ rw (skip-dirty k R (suc place) d (left - c) (drop (suc at) b) (omega (arith, length-drop (suc at) b)) (omega arith), last-word R (left - c) d at b, f, drop-drop d (suc at) b, i)
 
         pub step-dirty : t ≡ true → Faulty b R at left 7 (at + d)
         unfolding refuseIf

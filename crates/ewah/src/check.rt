@@ -3,7 +3,7 @@ ghost use mathlib.Core.Path.{_≡_};
 ghost use Prim.Native.Nat.{_+_, _-_, _*_, _≤_, _<_, _^_};
 ghost use lib.ListN.{length, getD};
 ghost use Rattle.meaning.specs.Limits.{mostRows};
-ghost use Rattle.meaning.specs.Segment.{segmentCount, lastRows, fill, overPad};
+ghost use Rattle.meaning.specs.Segment.{segmentCount, overPad};
 ghost use Rattle.meaning.specs.Ewah.{bodyFault};
 ghost use Rattle.answers.specs.Told.{verdictOf};
 ghost use Rattle.ewah.specs.Checking.{Stepped};
@@ -18,22 +18,8 @@ enum Step {
     Fault(u32, usize),
 }
 
-// Whether c clean segments of that value, where `left` are to come, reach the last one and set a pad bit.
-fn run_over_pad(rows: u32, left: u32, c: u32, value: u32) -> bool
-    requires { ⌜ left ≤ segmentCount 32 rows ⌝ }
-    requires { ⌜ value < 2 ⌝ }
-    ensures { λ r. ⌜ r ≡ overPad 32 rows left c (fill (lastRows 32 rows) value) ⌝ }
-{
-    if c == 0 {
-        return false;
-    }
-    if c != left {
-        return false;
-    }
-    rows::sets_pad(rows, marker::segment(value))
-}
-
-// The same of d dirty words, the last of which stands at `last`.
+// Whether d dirty words, where `left` segments are to come, reach the last one and set a pad bit there. The last of these words
+// stands at `last`.
 fn dirty_over_pad(body: &[u32], last: usize, rows: u32, left: u32, d: u32) -> bool
     requires { ⌜ left ≤ segmentCount 32 rows ⌝ }
     requires { ⌜ last < length (now body) ⌝ }
@@ -57,16 +43,12 @@ fn marker_step(body: &[u32], at: usize, rows: u32, left: u32) -> Step
     let m = marker::read(body[at]);
     let clean = m.clean;
     let dirty = m.dirty;
-    let value = m.value;
     let words = dirty as usize;
     if body.len() - at - 1 < words {
         return Step::Fault(5, at);
     }
     if left < clean + dirty {
         return Step::Fault(6, at);
-    }
-    if run_over_pad(rows, left, clean, value) {
-        return Step::Fault(7, at);
     }
     if dirty_over_pad(body, at + words, rows, left - clean, dirty) {
         return Step::Fault(7, at + words);

@@ -6,7 +6,7 @@ use mathlib.Core.Path.{_≡_, refl, ap, ap₂, _∙_}
 use mathlib.Core.List.{List, [], _∷_, _++_, map}
 use lib.Dec.{eqb, ltb}
 use lib.ListN.{length, getD, replicate}
-use lib.Pow.{pow-pos, not-mod}
+use lib.Pow.{pow-pos, pow-mono, not-mod}
 use native.Mathlib.Nat.{mod-lt, mod-le, zero-mod, zero-mul, one-mul, mod-eq-of-lt}
 use native.Mathlib.Omega.{arith}
 use borrow.Author.Tests.{ltb-true, eq-eqb, eqb-true, ne-eqb}
@@ -45,6 +45,19 @@ kind-fill real (suc (suc v)) h g = absurd (omega arith)
 pub kind-mixed : (real x : ℕ) → (x ≡ 0 → ⊥) → (x ≡ allSet real → ⊥) → kind real x ≡ mixed x
 unfolding kind
 kind-mixed real x h g = rw (ne-eqb x 0 h, ne-eqb x (allSet real) g)
+
+-- all rows set
+pub kind-full : (real : ℕ) → 0 < real → kind real (allSet real) ≡ clean 1
+unfolding kind
+kind-full real h = let p = ones-pos real h in rw (ne-eqb (allSet real) 0 (omega arith), eq-eqb (allSet real) (allSet real) refl)
+
+-- a word without pad bits, and not all of whose rows are set, is of the kind that it has with w rows
+pub kind-wider : (w real x : ℕ) → real ≤ w → x < 2 ^ real → (x ≡ allSet real → ⊥) → kind w x ≡ kind real x
+unfolding kind allSet
+kind-wider w real x h low g =
+    let m : 2 ^ real ≤ 2 ^ w = pow-mono {i = real} {j = w} h in
+    let n : x ≡ 2 ^ w - 1 → ⊥ = λ e. g (omega arith) in
+    rw (ne-eqb x (2 ^ real - 1) g, ne-eqb x (2 ^ w - 1) n)
 
 pub word-kind : (real x : ℕ) → word real (kind real x) ≡ x
 unfolding word kind fill

@@ -1,8 +1,8 @@
 // Rows laid out in words of 32 bits: how many words, and what the last one holds.
 ghost use mathlib.Core.Path.{_≡_};
-ghost use Prim.Native.Nat.{_≤_};
+ghost use Prim.Native.Nat.{ℕ, _%_, _-_, _^_, _≤_};
 ghost use lib.Dec.{leb};
-ghost use Rattle.meaning.specs.Segment.{segmentCount, lastRows, lastLimit};
+ghost use Rattle.meaning.specs.Segment.{segmentCount, lastRows, lastLimit, kind};
 use crate::bits;
 
 // How many segments that many rows have.
@@ -27,4 +27,17 @@ pub fn sets_pad(rows: u32, x: u32) -> bool
     ensures { λ r. ⌜ r ≡ leb (lastLimit 32 rows) x ⌝ }
 {
     bits::low_ones(last_rows(rows)) < x
+}
+
+// The word that a segment is written as, of whose bits the mask has the rows: all ones where all its rows are set, so that it
+// is a clean segment like any other; else its rows, with no pad bit.
+pub fn spelled(x: u32, mask: u32) -> u32
+    ensures { λ r. ⌜ ((real : ℕ) → 1 ≤ real → real ≤ 32 → mask ≡ 2 ^ real - 1
+        → kind 32 r ≡ kind real (x % 2 ^ real)) ⌝ }
+{
+    let seen = x & mask;
+    if seen == mask {
+        return 0xFFFF_FFFF;
+    }
+    seen
 }
