@@ -2,7 +2,7 @@
 ghost use mathlib.Core.Path.{_≡_};
 ghost use Prim.Native.Nat.{ℕ, _%_, _-_, _^_, _≤_};
 ghost use lib.Dec.{leb};
-ghost use Rattle.meaning.specs.Segment.{segmentCount, lastRows, lastLimit, kind};
+ghost use Rattle.meaning.specs.Segment.{segmentCount, lastRows, lastLimit, rowsIn, allSet, kind};
 use crate::bits;
 
 // How many segments that many rows have.
@@ -29,10 +29,21 @@ pub fn sets_pad(rows: u32, x: u32) -> bool
     bits::low_ones(last_rows(rows)) < x
 }
 
+// The bits of the segment before `end` that are rows: all of them, or those of the last segment.
+pub fn mask_before(rows: u32, segments: u32, end: u32) -> u32
+    requires { ⌜ (segments ≡ segmentCount 32 rows) × (1 ≤ end) × (end ≤ segments) ⌝ }
+    ensures { λ r. ⌜ r ≡ allSet (rowsIn 32 rows (end - 1)) ⌝ }
+{
+    if end < segments {
+        return 0xFFFF_FFFF;
+    }
+    bits::low_ones(last_rows(rows))
+}
+
 // The word that a segment is written as, of whose bits the mask has the rows: all ones where all its rows are set, so that it
 // is a clean segment like any other; else its rows, with no pad bit.
 pub fn spelled(x: u32, mask: u32) -> u32
-    ensures { λ r. ⌜ ((real : ℕ) → 1 ≤ real → real ≤ 32 → mask ≡ 2 ^ real - 1
+    ensures { λ r. ⌜ ((real : ℕ) → 1 ≤ real → real ≤ 32 → mask ≡ allSet real
         → kind 32 r ≡ kind real (x % 2 ^ real)) ⌝ }
 {
     let seen = x & mask;

@@ -1,6 +1,6 @@
 -- `words::rows::spelled` meets its contract: the mask's rows are the remainder by 2 ^ real. Assumes nothing.
-use Prim.Native.Nat.{ℕ, _-_, _%_, _^_, _≤_}
-use mathlib.Core.Path.{_≡_, sym, ap, _∙_}
+use Prim.Native.Nat.{ℕ, _%_, _^_}
+use mathlib.Core.Path.{sym, ap, _∙_}
 use lib.Bits.{bitAnd, and-mask}
 use lib.Pow.{pow-pos}
 use native.Mathlib.Nat.{mod-lt}
