@@ -1,12 +1,13 @@
 -- Corner cases of the definitions, read by hand off paper 01: zero rows, empty bodies and indexes, the limits, faults that come together.
 -- Files are proved in the order of their names, so a wrong definition is refused here or in `AllReadings` before a law's proof is.
 -- Assumes nothing.
+use Prim.Native.Nat.{ℕ}
 use mathlib.Core.Bool.{Bool, true, false, not, _&&_}
 use mathlib.Core.Path.{_≡_, refl}
 use mathlib.Core.List.{List, [], _∷_}
 use lib.ListN.{replicate}
 use Rattle.meaning.specs.Refusal.{Outcome, refused, answer}
-use Rattle.meaning.specs.Answer.{checkBody, bodyRow, bodyCount, bodyNth, expand, compress, check, bitmapRefusal, bitmap, partOf, threshold, symmetric}
+use Rattle.meaning.specs.Answer.{checkBody, bodyRow, bodyCount, bodyNth, expand, compress, check, bitmapRefusal, bitmap, partOf, notOf, threshold, symmetric}
 use Rattle.meaning.specs.Readings.{isSound, isRefused, isAnswer, isNumber, same, looped, three, ninetySix}
 
 unfoldable pub every : List Bool → Bool
@@ -37,6 +38,28 @@ bodies =
     ∷ isRefused (checkBody 40 (0x00040000 ∷ 1 ∷ 0x180 ∷ [])) 7 0 2
     ∷ isRefused (checkBody 64 (4 ∷ 2 ∷ [])) 6 0 1
     ∷ isRefused (checkBody 96 (2 ∷ [])) 6 0 1
+    -- a run of ones over the last segment: its real rows and no others, behind idle markers and before them; the same segment as a
+    -- dirty word, and with a pad bit
+    ∷ isSound (checkBody 40 (5 ∷ []))
+    ∷ isSound (checkBody 40 (0 ∷ 3 ∷ 1 ∷ 3 ∷ 1 ∷ []))
+    ∷ isSound (checkBody 40 (0x00020003 ∷ 0xFF ∷ []))
+    ∷ isRefused (checkBody 40 (0x00020003 ∷ 0xFFFFFFFF ∷ [])) 7 0 1
+    ∷ isRefused (checkBody 40 (5 ∷ 3 ∷ [])) 6 0 1
+    ∷ isNumber (bodyCount 40 (5 ∷ [])) 40
+    ∷ isNumber (bodyCount 40 (3 ∷ 3 ∷ 1 ∷ [])) 40
+    ∷ isNumber (bodyCount 40 (0x00020003 ∷ 0xFF ∷ 1 ∷ [])) 40
+    ∷ isNumber (bodyNth 40 (5 ∷ []) 39) 39
+    ∷ isRefused (bodyNth 40 (5 ∷ []) 40) 8 0 0
+    ∷ isYes (bodyRow 40 (5 ∷ []) 39)
+    ∷ isRefused (bodyRow 40 (5 ∷ []) 40) 8 0 0
+    ∷ isAnswer (expand 40 (5 ∷ []) 2) (0xFFFFFFFF ∷ 0xFF ∷ [])
+    -- it is written so, down to one row
+    ∷ isAnswer (compress 40 (0xFFFFFFFF ∷ 0xFF ∷ []) 1) (5 ∷ [])
+    ∷ isAnswer (compress 40 (0 ∷ 0xFF ∷ []) 2) (2 ∷ 3 ∷ [])
+    ∷ isAnswer (compress 40 (1 ∷ 0xFF ∷ []) 3) (0x00020000 ∷ 1 ∷ 3 ∷ [])
+    ∷ isAnswer (compress 33 (0xFFFFFFFF ∷ 1 ∷ []) 1) (5 ∷ [])
+    ∷ isAnswer (compress 1 (1 ∷ []) 1) (3 ∷ [])
+    ∷ isRefused (compress 40 (0xFFFFFFFF ∷ 0xFF ∷ []) 0) 9 0 1
     -- 5 before 6, 6 before 7, a marker before its dirty words
     ∷ isRefused (checkBody 32 (0x00040006 ∷ [])) 5 0 0
     ∷ isRefused (checkBody 40 (7 ∷ [])) 6 0 0
@@ -70,6 +93,10 @@ bodies =
     ∷ isRefused (compress 40 (1 ∷ 2 ∷ 0x100 ∷ []) 9) 8 0 0
     ∷ isRefused (compress 40 (1 ∷ 0x100 ∷ []) 0) 7 0 1
     ∷ []
+
+-- 40 rows: all of them as one run, none, and all of them with a dirty word at the end
+abbrev fullTail : List ℕ
+fullTail = 1 ∷ 40 ∷ 3 ∷ 9 ∷ 1 ∷ 10 ∷ 1 ∷ 11 ∷ 2 ∷ 5 ∷ 4 ∷ 0x00020003 ∷ 0xFF ∷ []
 
 pub indexes : List Bool
 indexes =
@@ -117,6 +144,13 @@ indexes =
     ∷ isAnswer (symmetric (1 ∷ 0 ∷ 1 ∷ 5 ∷ 0 ∷ []) (0 ∷ []) (1 ∷ 1 ∷ []) 0) []
     -- a table that says yes at 0 leaves the pad bits clear
     ∷ isAnswer (symmetric looped (2 ∷ []) (1 ∷ 0 ∷ []) 2) (0x00020000 ∷ 0x7 ∷ [])
+    -- over a run of ones that covers pad bits, and over all rows
+    ∷ isAnswer (notOf fullTail 0 1) (4 ∷ [])
+    ∷ isAnswer (notOf fullTail 1 1) (5 ∷ [])
+    ∷ isAnswer (symmetric fullTail (0 ∷ []) (1 ∷ 0 ∷ []) 1) (4 ∷ [])
+    ∷ isAnswer (symmetric fullTail (0 ∷ []) (1 ∷ 1 ∷ []) 1) (5 ∷ [])
+    ∷ isAnswer (threshold fullTail (0 ∷ 2 ∷ []) 2 1) (5 ∷ [])
+    ∷ isAnswer (threshold fullTail (0 ∷ 1 ∷ []) 2 1) (4 ∷ [])
     ∷ []
 
 pub bodies-hold : every bodies ≡ true
@@ -124,5 +158,5 @@ unfolding every bodies isYes isNo isNumber isSound isRefused isAnswer checkBody 
 bodies-hold = refl
 
 pub indexes-hold : every indexes ≡ true
-unfolding every indexes isSound isRefused isAnswer same check bitmapRefusal bitmap partOf threshold symmetric
+unfolding every indexes isSound isRefused isAnswer same check bitmapRefusal bitmap partOf notOf threshold symmetric
 indexes-hold = refl

@@ -12,6 +12,7 @@ use Rattle.meaning.specs.Laws.{SoundFacts, BodyLaws}
 use Rattle.meaning.proofs.Decoded.{sound-iff}
 use Rattle.meaning.proofs.Least.{run-adds, segment-adds}
 use Rattle.meaning.proofs.CanonicalBody.{canonical-body, canonical-form, canonical-fewest, canonical-ext}
+use Rattle.meaning.proofs.Lengthen.{never-shorter}
 use Rattle.meaning.proofs.ByRuns.{by-runs}
 
 sound-means : (R : ℕ) (b : List ℕ) → Sound R b ↔ SoundFacts R b
@@ -33,6 +34,7 @@ body-laws = record {
   same-rows = canonical-ext;
   by-runs = by-runs;
   no-rows = no-rows;
+  never-shorter = never-shorter;
   run-adds = run-adds;
   segment-adds = segment-adds;
 }

@@ -39,6 +39,8 @@ pub record BodyLaws : Type 0 where
   -- the canonical form is the one that paper 01 tells by longest runs; of no segments it has no words
   pub by-runs : (ss : List Segment) → canonicalOf ss ≡ groupsWords (groups ss)
   pub no-rows : (p : ℕ → Bool) → canonical 0 p ≡ []
+  -- more rows never need fewer words: k rows more behind the same R rows
+  pub never-shorter : (R k : ℕ) (p q : ℕ → Bool) → ((r : ℕ) → r < R → p r ≡ q r) → length (canonical R p) ≤ length (canonical (R + k) q)
   -- a clean run that one marker can hold adds at most one word, and one segment at most two
   pub run-adds : (d : Draft) (v n : ℕ) → n ≤ mostClean → length (body (foldl put d (replicate n (clean v)))) ≤ length (body d) + 1
   pub segment-adds : (d : Draft) (s : Segment) → length (body (put d s)) ≤ length (body d) + 2

@@ -114,7 +114,8 @@ readings =
     -- 40 rows: all set, rows 0 and 39
     ∷ encodes 40 (λ r. true) (0x00000005 ∷ [])
     ∷ encodes 40 (isIn (0 ∷ 39 ∷ [])) (0x00040000 ∷ 0x00000001 ∷ 0x00000080 ∷ [])
-    -- 40 rows, the last segment spelled by a dirty word; the same with a pad bit
+    -- 40 rows, body 00000005: all of them (request 3). The last segment as a dirty word; the same with a pad bit
+    ∷ holds 40 (λ r. true) (0x00000005 ∷ [])
     ∷ holds 40 (λ r. true) (0x00020003 ∷ 0x000000FF ∷ [])
     ∷ faulty 40 (0x00020003 ∷ 0x000001FF ∷ []) 7 1
     -- 96 rows: rows 5 and 64, and the same wastefully

@@ -101,7 +101,7 @@ cut w R [] = []
 cut w R (x ∷ []) = x % lastLimit w R ∷ []
 cut w R (x ∷ y ∷ ys) = x ∷ cut w R (y ∷ ys)
 
--- of `left` segments still to come the next c are the word x, and the last of all is one of them and has a pad bit set
+-- of `left` segments still to come the next c end with the word x; that is the last of all, and has a pad bit set
 unfoldable pub overPad : (w R left c x : ℕ) → Bool
 unfolding lastLimit
 overPad w R left c x = ltb 0 c && eqb c left && leb (lastLimit w R) x
