@@ -17,12 +17,12 @@
  * Of the words themselves nothing is owed: what is wrong with them is refused.
  *
  * ROWS. Row r stands in segment r / ZV_WORD_BITS, at bit r % ZV_WORD_BITS, the lowest bit first. R rows have
- * ZV_SEGMENTS(R) segments. What the last one has behind row R - 1 are pad bits, of which none may be set. Plain words
- * are the segments themselves.
+ * ZV_SEGMENTS(R) segments. What the last one has behind row R - 1 are pad bits, which are no rows: a dirty word or a
+ * plain word may have none of them set. Plain words are the segments themselves.
  *
  * A BODY says the segments by markers, each with its dirty words behind it, which are segments as they are. Bit 0 of a
- * marker is the value of the clean segments before them, all zeros or all ones; from bit ZV_CLEAN_SHIFT on stands how
- * many these are, at most ZV_MOST_CLEAN, and from bit ZV_DIRTY_SHIFT on how many dirty words follow, at most
+ * marker is the value of the clean segments before them, whose rows are all clear or all set, those of a last segment
+ * with pad bits too; from bit ZV_CLEAN_SHIFT on stands how many these are, at most ZV_MOST_CLEAN, and from bit ZV_DIRTY_SHIFT on how many dirty words follow, at most
  * ZV_MOST_DIRTY. docs/FORMAT.md has examples. zv_compress writes a body of plain words.
  *
  * AN INDEX has a head of ZV_HEAD_WORDS words: ZV_INDEX_KIND in word 0, the rows in word 1, the number N of bitmaps in
@@ -144,8 +144,7 @@ extern "C" {
 /* The clean and dirty counts of a marker pass the segments left: its bitmap, and the marker's place. Or the body ends
  * with segments missing: its bitmap, and the place behind the body. */
 #define ZV_BAD_COUNT 6u
-/* A pad bit is set: the bitmap, and the place of the marker whose run of ones covers it, or of the dirty or plain word
- * that has it. */
+/* A pad bit is set in a dirty word, or in a plain word: the bitmap, and the place of that word. */
 #define ZV_PAD_BIT 7u
 /* A bad argument: no such bitmap; no such row; fewer set rows than asked for; a list of no numbers or more than
  * ZV_MOST_NAMED; a threshold of 0 or above the list's length; a table that is not exactly one entry longer than the

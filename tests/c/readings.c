@@ -102,7 +102,7 @@ static void one_body(void)
 {
     static const uint32_t plain[] = {0x00000001, 0x00000080};
     static const uint32_t over[] = {0x00000001, 0x00000100};
-    static const uint32_t ones_over_pad[] = {0x00000005};
+    static const uint32_t pad_bit[] = {0x00020003, 0x000001FF};
     static const uint32_t too_many_dirty[] = {0x00040000, 1};
     static const uint32_t too_many_clean[] = {0x00000006};
     static const uint32_t too_few[] = {0x00000002};
@@ -112,7 +112,7 @@ static void one_body(void)
     REFUSED(zv_check_body(WORDS(too_many_dirty), 40), ZV_DIRTY_PAST_END, 0, 0);
     REFUSED(zv_check_body(WORDS(too_many_clean), 40), ZV_BAD_COUNT, 0, 0);
     REFUSED(zv_check_body(WORDS(too_few), 40), ZV_BAD_COUNT, 0, 1);
-    REFUSED(zv_check_body(WORDS(ones_over_pad), 40), ZV_PAD_BIT, 0, 0);
+    REFUSED(zv_check_body(WORDS(pad_bit), 40), ZV_PAD_BIT, 0, 1);
 
     FINE(zv_body_row(WORDS(forty), 40, 39));
     SAME("row 39", zv_body_row(WORDS(forty), 40, 39).value, 1);
@@ -120,7 +120,7 @@ static void one_body(void)
     REFUSED(zv_body_row(WORDS(forty), 40, 40), ZV_BAD_ARGUMENT, 0, 0);
     FINE(zv_body_count(WORDS(forty), 40));
     SAME("the count", zv_body_count(WORDS(forty), 40).value, 2);
-    SAME("a refused count", zv_body_count(WORDS(ones_over_pad), 40).value, 0);
+    SAME("a refused count", zv_body_count(WORDS(pad_bit), 40).value, 0);
     FINE(zv_body_nth(WORDS(forty), 40, 1));
     SAME("set row 1", zv_body_nth(WORDS(forty), 40, 1).value, 39);
     REFUSED(zv_body_nth(WORDS(forty), 40, 2), ZV_BAD_ARGUMENT, 0, 0);
@@ -131,6 +131,27 @@ static void one_body(void)
     NOT_WRITTEN(zv_compress(40, WORDS(plain), out, 2), ZV_NO_ROOM, 0, 3);
     NOT_WRITTEN(zv_compress(40, WORDS(over), WORDS(out)), ZV_PAD_BIT, 0, 1);
     NOT_WRITTEN(zv_compress(65, WORDS(plain), WORDS(out)), ZV_BAD_ARGUMENT, 0, 0);
+}
+
+/* 40 rows, all of them set: a run of ones over the last segment means its real rows, and is what is written; a dirty word may
+ * say them too */
+static void full_tail(void)
+{
+    static const uint32_t run[] = {0x00000005};
+    static const uint32_t word[] = {0x00020003, 0x000000FF};
+    static const uint32_t plain[] = {0xFFFFFFFF, 0x000000FF};
+
+    FINE(zv_check_body(WORDS(run), 40));
+    SAME("row 39", zv_body_row(WORDS(run), 40, 39).value, 1);
+    REFUSED(zv_body_row(WORDS(run), 40, 40), ZV_BAD_ARGUMENT, 0, 0);
+    FINE(zv_body_count(WORDS(run), 40));
+    SAME("the count", zv_body_count(WORDS(run), 40).value, 40);
+    FINE(zv_body_nth(WORDS(run), 40, 39));
+    SAME("set row 39", zv_body_nth(WORDS(run), 40, 39).value, 39);
+    REFUSED(zv_body_nth(WORDS(run), 40, 40), ZV_BAD_ARGUMENT, 0, 0);
+    WROTE(zv_expand(WORDS(run), 40, WORDS(out)), plain);
+    WROTE(zv_expand(WORDS(word), 40, WORDS(out)), plain);
+    WROTE(zv_compress(40, WORDS(plain), WORDS(out)), run);
 }
 
 static void one_index(void)
@@ -331,6 +352,7 @@ int main(void)
 {
     clear();
     one_body();
+    full_tail();
     one_index();
     bad_indexes();
     two_bitmaps();

@@ -121,7 +121,7 @@ impl Error for NotImported {
 /// use zvonurel::{import, NotImported};
 ///
 /// // a run of two segments of ones for 40 bits: its 40 rows are set, also of 96
-/// assert_eq!(import(&[0x5], 40, 40), Ok(vec![0x20003, 0xFF]));
+/// assert_eq!(import(&[0x5], 40, 40), Ok(vec![0x5]));
 /// assert_eq!(import(&[0x5], 40, 96), Ok(vec![0x20003, 0xFF, 0x2]));
 /// // 64 bits, all set, of which 40 rows are wanted
 /// assert_eq!(import(&[0x5], 64, 40), Err(NotImported::RowNotWanted { row: 40, rows: 40 }));
@@ -169,7 +169,7 @@ pub fn import(words: &[u32], bits: u64, rows: u32) -> Result<Vec<u32>, NotImport
 /// ```
 /// // 40 bits, one word, a run of two segments of ones, which is the last marker
 /// let file = [0, 0, 0, 40, 0, 0, 0, 1, 0, 0, 0, 5, 0, 0, 0, 0];
-/// assert_eq!(zvonurel::import_java(&file, 40), Ok(vec![0x20003, 0xFF]));
+/// assert_eq!(zvonurel::import_java(&file, 40), Ok(vec![0x5]));
 /// ```
 pub fn import_java(file: &[u8], rows: u32) -> Result<Vec<u32>, NotImported> {
     let numbers: Vec<u32> =

@@ -136,8 +136,10 @@ fn words(n: u64) -> usize {
 /// ```
 /// // rows 0 and 39 of 40
 /// assert!(zvonurel::check_body(&[0x40000, 0x1, 0x80], 40).is_ok());
-/// // a run of ones over the bits behind row 39
-/// assert_eq!(zvonurel::check_body(&[0x5], 40).unwrap_err().number, 7);
+/// // all of them: a run of ones over the last segment means its real rows
+/// assert!(zvonurel::check_body(&[0x5], 40).is_ok());
+/// // a dirty word with a bit behind row 39
+/// assert_eq!(zvonurel::check_body(&[0x40000, 0x1, 0x180], 40).unwrap_err().number, 7);
 /// ```
 pub fn check_body(body: &[u32], rows: u32) -> Result<(), Refusal> {
     // SAFETY: each pointer is a slice's, with its length.

@@ -71,15 +71,19 @@ fn listing_and_nth() {
     assert_eq!(listed.next(), body_nth(&body, 96, 0).ok());
     assert_eq!(listed.next(), body_nth(&body, 96, 1).ok());
     assert_eq!((listed.len(), listed.next(), listed.next()), (0, None, None));
-    let mut all = spells(&[0x5], 64).unwrap();
-    assert_eq!(all.next(), Some(Spell { first: 0, length: 64 }));
-    assert_eq!((all.next(), all.next()), (None, None));
+    // all rows, where the last segment has pad bits too
+    for rows in [64, 40] {
+        let mut all = spells(&[0x5], rows).unwrap();
+        assert_eq!(all.next(), Some(Spell { first: 0, length: rows }));
+        assert_eq!((all.next(), all.next()), (None, None));
+        assert!(set_rows(&[0x5], rows).unwrap().eq(0..rows));
+    }
 }
 
 /// A wrong body, or too many rows, are refused as by the calls.
 #[test]
 fn listings_refuse() {
-    assert_eq!(set_rows(&[0x5], 40).unwrap_err().numbers(), (Refusal::PAD_BIT, 0, 0));
+    assert_eq!(set_rows(&[0x20003, 0x100], 40).unwrap_err().numbers(), (Refusal::PAD_BIT, 0, 1));
     assert_eq!(spells(&[0x2], 40).unwrap_err().numbers(), (Refusal::BAD_COUNT, 0, 1));
     assert_eq!(set_rows(&[], u32::MAX).unwrap_err().numbers(), (Refusal::TOO_LARGE, 0, 1));
 }
@@ -157,14 +161,14 @@ fn builder() {
     assert_eq!(builder.add_plain(&[!0, 0xFF]), Ok(1));
     assert_eq!(builder.add_rows([39, 0, 39]), Ok(2));
     // what is refused adds nothing
-    assert_eq!(builder.add_body(&[0x5]).unwrap_err().numbers(), (Refusal::PAD_BIT, 0, 0));
+    assert_eq!(builder.add_body(&[0x20003, 0x180]).unwrap_err().numbers(), (Refusal::PAD_BIT, 0, 1));
     assert_eq!(builder.add_plain(&[0, 0x100]).unwrap_err().numbers(), (Refusal::PAD_BIT, 0, 1));
     assert_eq!(builder.add_plain(&[0]).unwrap_err().numbers(), (Refusal::BAD_ARGUMENT, 0, 0));
     let refusal = builder.add_rows([0, 40]).unwrap_err();
     assert_eq!(refusal.argument, Some(BadArgument::Row { row: 40, rows: 40 }));
     assert_eq!(refusal.numbers(), (Refusal::BAD_ARGUMENT, 0, 0));
     let index = builder.build().unwrap();
-    let want = [1, 40, 3, 9, 3, 12, 2, 14, 3, 0x40000, 0x1, 0x80, 0x20003, 0xFF, 0x40000, 0x1, 0x80];
+    let want = [1, 40, 3, 9, 3, 12, 1, 13, 3, 0x40000, 0x1, 0x80, 0x5, 0x40000, 0x1, 0x80];
     assert_eq!(index, want);
 }
 

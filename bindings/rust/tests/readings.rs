@@ -21,7 +21,7 @@ fn bodies() {
     body_of(0, &[], &[]);
     body_of(64, &[0, 0], &[0x4]);
     body_of(64, &[!0, !0], &[0x5]);
-    body_of(40, &[!0, 0xFF], &[0x20003, 0xFF]);
+    body_of(40, &[!0, 0xFF], &[0x5]);
     body_of(40, &[0x1, 0x80], &FORTY);
     body_of(96, &[0x20, 0, 0x1], &[0x20000, 0x20, 0x20002, 0x1]);
     body_of(2_097_152, &vec![0; 65_536], &[0x1FFFE, 0x2]);
@@ -31,6 +31,7 @@ fn bodies() {
     body_of(16_777_216, &vec![0; 524_288], &most);
     assert_eq!(told(check_body(&most, MOST_ROWS + 1)), Err((3, 0, 1)));
     // sound, and wasteful
+    writes(&[!0, 0xFF], |out| expand(&[0x20003, 0xFF], 40, out));
     writes(&[0x20, 0, 0x1], |out| expand(&[0x60000, 0x20, 0, 1], 96, out));
 }
 
@@ -47,7 +48,14 @@ fn one_body() {
     assert_eq!(told(check_body(&[0x40000, 1], 40)), Err((5, 0, 0)));
     assert_eq!(told(check_body(&[0x6], 40)), Err((6, 0, 0)));
     assert_eq!(told(check_body(&[0x2], 40)), Err((6, 0, 1)));
-    assert_eq!(told(check_body(&[0x5], 40)), Err((7, 0, 0)));
+    assert_eq!(told(check_body(&[0x20003, 0x1FF], 40)), Err((7, 0, 1)));
+    // a run of ones over the last segment: 40 rows and no more
+    assert_eq!(check_body(&[0x5], 40), Ok(()));
+    assert_eq!(body_count(&[0x5], 40), Ok(40));
+    assert_eq!(body_nth(&[0x5], 40, 39), Ok(39));
+    assert_eq!(told(body_nth(&[0x5], 40, 40)), Err(BAD));
+    assert_eq!(body_row(&[0x5], 40, 39), Ok(true));
+    assert_eq!(told(body_row(&[0x5], 40, 40)), Err(BAD));
 }
 
 #[test]

@@ -5,15 +5,22 @@ use meaning::HISTOGRAM_COUNTS;
 mod cases;
 mod told;
 
-// Bodies of 0, 64 and 40 rows.
+// Bodies of 0 and 64 rows.
 fn short_bodies() {
     let none = [0];
     cases::compresses(0, &none[0..0], 0, &[7, 7, 7, 7]);
     cases::compresses(64, &[0, 0], 1, &[0x0000_0004, 7, 7, 7]);
     cases::compresses(64, &[0xFFFF_FFFF, 0xFFFF_FFFF], 1, &[0x0000_0005, 7, 7, 7]);
-    cases::compresses(40, &[0xFFFF_FFFF, 0xFF], 2, &[0x0002_0003, 0xFF, 7, 7]);
+}
+
+// Bodies of 40 rows: all set, written and read as a run, and read with the last segment as a dirty word; rows 0 and 39; a
+// pad bit.
+fn forty_rows() {
+    cases::compresses(40, &[0xFFFF_FFFF, 0xFF], 1, &[0x0000_0005, 7, 7, 7]);
     cases::compresses(40, &[1, 0x80], 3, &[0x0004_0000, 1, 0x80, 7]);
-    cases::faulty(&[0x0000_0005], 40, 7, 0);
+    cases::expands(40, &[0x0000_0005], 2, &[0xFFFF_FFFF, 0xFF, 7, 7]);
+    cases::expands(40, &[0x0002_0003, 0xFF], 2, &[0xFFFF_FFFF, 0xFF, 7, 7]);
+    cases::faulty(&[0x0002_0003, 0x1FF], 40, 7, 1);
 }
 
 // Rows 5 and 64 of 96, in canonical form and wastefully.
@@ -97,6 +104,7 @@ fn stretches() {
 
 fn main() {
     short_bodies();
+    forty_rows();
     ninety_six_rows();
     looped();
     eight_rows();
