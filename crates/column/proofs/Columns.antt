@@ -1,10 +1,9 @@
 -- The slices of a column of a sound index: the first that has a row which does not exist, and the digits of a value.
 -- Assumes nothing.
 use Prim.Native.Nat.{ℕ, suc, _+_, _-_, _*_, _^_, _≤_, _<_}
-use mathlib.Core.Bool.{Bool, true, false, not, true≢false}
-use mathlib.Core.Path.{_≡_, refl, sym, ap, _∙_}
+use mathlib.Core.Bool.{Bool}
+use mathlib.Core.Path.{_≡_, refl, ap, _∙_}
 use mathlib.Core.List.{List, [], _∷_}
-use native.Mathlib.Decide.{decLe}
 use native.Mathlib.Omega.{arith}
 use borrow.Author.Tests.{lt-ltb}
 use lib.Dec.{ltb}
@@ -12,82 +11,69 @@ use lib.ListN.{length, getD, drop, drop-of-length-le}
 use lib.Pow.{pow-mono}
 use Rattle.meaning.specs.Limits.{mostValueColumn}
 use Rattle.meaning.specs.Rows.{bit, countBelow}
-use Rattle.meaning.specs.Segment.{segmentCount}
-use Rattle.meaning.specs.Ewah.{segments, rowsOf}
-use Rattle.meaning.specs.Refusal.{refused, sound, refuseIf}
+use Rattle.meaning.specs.Ewah.{segments}
+use Rattle.meaning.specs.Refusal.{refused, sound}
 use Rattle.meaning.specs.Index.{rowCount, bitmapCount, rowsAt, bodyAt}
-use Rattle.meaning.specs.Question.{difference}
 use Rattle.meaning.specs.Answer.{named}
 use Rattle.meaning.specs.Column.{valueOf}
 use Rattle.meaning.specs.Columns.{existing, slicesOf, valueAt, strayRows, straysIn, strays}
 use Rattle.meaning.specs.Laws.{IndexFacts}
 use Rattle.meaning.specs.Demands.{IsNth}
-use Rattle.meaning.proofs.Outcomes.{refuse-no}
-use Rattle.meaning.proofs.Segments.{both}
+use Rattle.meaning.proofs.Outcomes.{refuse-no, refuse-yes}
 use Rattle.meaning.proofs.Counted.{count-none, nth-below, nth-eq}
-use Rattle.meaning.proofs.RowWords.{rows-fit, pad-clear}
+use Rattle.meaning.proofs.RowWords.{rows-fit}
 use Rattle.ewah.proofs.Pieces.{cons-at}
 use Rattle.column.specs.Outside.{outside, NoneBelow, Lowest}
 
-module _ (index : List ℕ) (f : IndexFacts index) (k : ℕ) (h : k < bitmapCount index) where
-  -- a row lies in a segment of each body
-  pub row-within : (r : ℕ) → r < rowCount index → r < length (segments (bodyAt index k)) * 32
-  row-within r l = rw (f .bodies k h .count) (omega (arith, rows-fit 32 (omega arith) (rowCount index)))
-
-  -- what a body has is a row of the index
-  row-inside : (r : ℕ) → rowsAt index k r ≡ true → r < rowCount index
-  unfolding rowsAt rowsOf
-  row-inside r e = elim (decLe (rowCount index) r) [
-    | yes l ↦
-        let s = f .bodies k h in
-        absurd (true≢false (sym e ∙ pad-clear 32 (omega arith) (rowCount index) (segments (bodyAt index k)) (s .count) (s .pads) r l))
-    | no l ↦ omega arith
-  ]
+-- a row lies in a segment of each body
+pub row-within : (index : List ℕ) → IndexFacts index → (k : ℕ) → k < bitmapCount index → (r : ℕ) → r < rowCount index
+    → r < length (segments (bodyAt index k)) * 32
+row-within index f k h r l = rw (f .bodies k h .count) (omega (arith, rows-fit 32 (omega arith) (rowCount index)))
 
 -- ---- a slice k, and the others behind it
 
-in-first : (p q : ℕ → Bool) (r : ℕ) → difference p q r ≡ true → p r ≡ true
-unfolding difference
-in-first p q r h = both (p r) (not (q r)) h .0
+module _ (index : List ℕ) (j k : ℕ) (ks : List ℕ) where
+  abbrev stray : ℕ → Bool
+  stray = strayRows index (rowsAt index j) k
 
-module _ (index : List ℕ) (f : IndexFacts index) (j k : ℕ) (ks : List ℕ) (count : ℕ) (c : count ≡ segmentCount 32 (rowCount index)) where
   abbrev strayed : ℕ → Bool
   strayed = outside (bodyAt index k) (bodyAt index j)
 
-  same : strayRows index (rowsAt index j) k ≡ strayed
+  same : stray ≡ strayed
   unfolding strayRows rowsAt
   same = refl
 
   -- it has no such row
-  pub stray-none : NoneBelow (count * 32) strayed → straysIn index (rowsAt index j) (k ∷ ks) ≡ straysIn index (rowsAt index j) ks
+  pub stray-none : NoneBelow (rowCount index) strayed
+      → straysIn index (rowsAt index j) (k ∷ ks) ≡ straysIn index (rowsAt index j) ks
   unfolding straysIn
   stray-none n =
-      refuse-no _ _ _ _ _ (ap (λ (m : ℕ). ltb 0 m) (count-none (rowCount index) (strayRows index (rowsAt index j) k)
-      (λ r l. ap (λ (p : ℕ → Bool). p r) same ∙ n r (omega (arith, rows-fit 32 (omega arith) (rowCount index))))))
+      refuse-no _ _ _ _ _
+      (ap (ltb 0) (ap (countBelow (rowCount index)) same ∙ count-none (rowCount index) strayed n))
 
   -- it has one
-  pub stray-row : k < bitmapCount index → (row : ℕ) → Lowest (count * 32) strayed row → straysIn index (rowsAt index j) (k ∷ ks) ≡ refused 11 k row
-  unfolding straysIn refuseIf
-  stray-row h row l =
-      rw (lt-ltb 0 (countBelow (rowCount index) (strayRows index (rowsAt index j) k)) (nth-below (rowCount index) (strayRows index (rowsAt index j) k) 0 row is))
-      (ap (refused 11 k) (nth-eq (rowCount index) (strayRows index (rowsAt index j) k) 0 row is))
+  pub stray-row : (row : ℕ) → Lowest (rowCount index) strayed row
+      → straysIn index (rowsAt index j) (k ∷ ks) ≡ refused 11 k row
+  unfolding straysIn
+  stray-row row l =
+      refuse-yes _ _ _ _ _ (lt-ltb 0 (countBelow (rowCount index) stray) (nth-below (rowCount index) stray 0 row is))
+      ∙ ap (refused 11 k) (nth-eq (rowCount index) stray 0 row is)
     where
-      held : rowsAt index k row ≡ true
-      held = unfold rowsAt in in-first (rowsOf (bodyAt index k)) (rowsOf (bodyAt index j)) row (l .set)
-
-      is : IsNth (rowCount index) (strayRows index (rowsAt index j) k) 0 row
-      is = rw same (record { below = row-inside index f k h row held; set = l .set; before = count-none row strayed (l .before) })
+      is : IsNth (rowCount index) stray 0 row
+      is = rw same (record { below = l .below; set = l .set; before = count-none row strayed (l .before) })
 
 -- ---- the whole list, from place i on
 
 module _ (index : List ℕ) where
   -- the slices of a list of at least one number
-  pub strays-first : (list : List ℕ) → 1 ≤ length list → strays index list ≡ straysIn index (rowsAt index (getD list 0 0)) (drop 1 list)
+  pub strays-first : (list : List ℕ) → 1 ≤ length list
+      → strays index list ≡ straysIn index (rowsAt index (getD list 0 0)) (drop 1 list)
   unfolding strays
   strays-first [] h = absurd (omega arith)
   strays-first (k ∷ ks) h = refl
 
-  pub strays-place : (e : ℕ → Bool) (list : List ℕ) (i : ℕ) → i < length list → straysIn index e (drop i list) ≡ straysIn index e (getD list i 0 ∷ drop (i + 1) list)
+  pub strays-place : (e : ℕ → Bool) (list : List ℕ) (i : ℕ) → i < length list
+      → straysIn index e (drop i list) ≡ straysIn index e (getD list i 0 ∷ drop (i + 1) list)
   strays-place e list i h = ap (straysIn index e) (cons-at list i h)
 
   pub strays-end : (e : ℕ → Bool) (list : List ℕ) (i : ℕ) → length list ≤ i → straysIn index e (drop i list) ≡ sound
@@ -104,7 +90,8 @@ module _ (index : List ℕ) where
   unfolding valueOf named
   value-none list row i h = rw (drop-of-length-le list h)
 
-  pub value-more : (list : List ℕ) (row i v d : ℕ) → i < length list → v ≡ valueFrom list row (i + 1) → d ≡ bit (rowsAt index (getD list i 0) row) → 2 * v + d ≡ valueFrom list row i
+  pub value-more : (list : List ℕ) (row i v d : ℕ) → i < length list → v ≡ valueFrom list row (i + 1)
+      → d ≡ bit (rowsAt index (getD list i 0) row) → 2 * v + d ≡ valueFrom list row i
   unfolding valueOf named
   value-more list row i v d h e g = rw (cons-at list i h) (omega (arith, e, g))
 
@@ -124,7 +111,8 @@ value-low n i v d g h l b =
     rw e (omega arith)
 
 -- what exists
-pub exists-first : (index list : List ℕ) (row : ℕ) → 1 ≤ length list → rowsAt index (getD list 0 0) row ≡ existing index list row
+pub exists-first : (index list : List ℕ) (row : ℕ) → 1 ≤ length list
+    → rowsAt index (getD list 0 0) row ≡ existing index list row
 unfolding existing
 exists-first index [] row h = absurd (omega arith)
 exists-first index (k ∷ ks) row h = refl

@@ -13,7 +13,6 @@ use crate::outside::Found;
 use answers::answer;
 use answers::refusal::Checked;
 use ewah_read::row;
-use words::rows;
 
 mod outside;
 
@@ -24,12 +23,12 @@ pub fn strays(index: &[u32], list: &[u32]) -> Checked
         × ((i : ℕ) → i < length (now list) → getD (now list) i 0 < bitmapCount (now index)) ⌝ }
     ensures { λ r. ⌜ verdictOf r ≡ meaning.strays (now (index .entry)) (now (list .entry)) ⌝ }
 {
-    let segments = rows::segment_count(contents::rows(index));
+    let rows = contents::rows(index);
     let exists = contents::body(index, list[0]);
     let mut i: usize = 1;
     while i < list.len() {
         let k = list[i];
-        let found = outside::first(contents::body(index, k), exists, segments);
+        let found = outside::first(contents::body(index, k), exists, rows);
         match found {
             Found::Row(row) => return Checked::Refused(answer::stray(k, row as u64)),
             Found::Nothing => i += 1,

@@ -1,20 +1,22 @@
-// The lowest row that one body has and another has not, for a slice and its column's existence. The two are gone through
-// together, at most to the next marker of either at a time: where a run says that nothing strays all its segments are
-// passed at once.
+// The lowest row that one body has and another has not, for a slice and its column's existence. The two are gone
+// through together, at most to the next marker of either at a time: where a run says that nothing strays all its
+// segments are passed at once. A run of ones may cover pad bits of the last segment: the lowest bit may be no row.
 ghost use mathlib.Core.Bool.{Bool, true};
 ghost use mathlib.Core.Path.{_≡_};
 ghost use Prim.Native.Nat.{ℕ, _+_, _*_, _≤_, _<_};
 ghost use lib.ListN.{length, getD};
-ghost use Rattle.meaning.specs.Limits.{mostSegments, mostDirty};
+ghost use Rattle.meaning.specs.Limits.{mostRows, mostSegments, mostDirty};
+ghost use Rattle.meaning.specs.Segment.{segmentCount};
 ghost use Rattle.meaning.specs.Ewah.{segments};
 ghost use Rattle.meaning.specs.Ahead.{Ahead};
 ghost use Rattle.ewah.specs.declared.cursor.Piece.the-variants.{Clean, Dirty};
 ghost use Rattle.ewah.specs.Cursors.{InOrder, piecesFrom, spanOf, behind};
-ghost use Rattle.column.specs.Outside.{OverBits, Spells, SeenIn, FoundIn, outside};
+ghost use Rattle.column.specs.Outside.{OverBits, Spells, Lowest, SeenIn, FoundIn, outside};
 use ewah::cursor;
 use ewah::cursor::Cursor;
 use ewah::cursor::Piece;
 use words::bits;
+use words::rows;
 
 // The lowest row, or that there is none.
 pub enum Found {
@@ -73,13 +75,14 @@ fn is_dirty(piece: Piece) -> bool
     }
 }
 
-// The next n segments of both, at most to the next marker of either. Where dirty words face a run that decides nothing, they
-// are looked at one by one: in canonical bodies the first has a stray row.
+// The next n segments of both, at most to the next marker of either. Where dirty words face a run that decides nothing,
+// they are looked at one by one: in canonical bodies the first has a stray row.
 fn look(slice: &[u32], c: Cursor, exists: &[u32], e: Cursor, n: u32) -> Seen
     requires { ⌜ InOrder (now slice) c ⌝ }
     requires { ⌜ InOrder (now exists) e ⌝ }
     requires { ⌜ (1 ≤ n) × (n ≤ mostSegments) × (n ≤ spanOf c) × (n ≤ spanOf e)
-        × (c .next + behind (c .piece) n ≤ length (now slice)) × (e .next + behind (e .piece) n ≤ length (now exists)) ⌝ }
+        × (c .next + behind (c .piece) n ≤ length (now slice))
+        × (e .next + behind (e .piece) n ≤ length (now exists)) ⌝ }
     ensures { λ r. ⌜ ((o : ℕ) → Ahead (now (slice .entry)) o (piecesFrom (now (slice .entry)) c)
         → Ahead (now (exists .entry)) o (piecesFrom (now (exists .entry)) e)
         → SeenIn n (λ k. outside (now (slice .entry)) (now (exists .entry)) (o * 32 + k)) r) ⌝ }
@@ -123,12 +126,23 @@ fn common(c: Cursor, e: Cursor, left: u32) -> u32
     left
 }
 
-// The lowest row of a slice of that many segments that does not exist.
-pub fn first(slice: &[u32], exists: &[u32], count: u32) -> Found
-    requires { ⌜ (count ≤ mostSegments) × (length (segments (now slice)) ≡ count)
-        × (length (segments (now exists)) ≡ count) ⌝ }
-    ensures { λ r. ⌜ FoundIn (count * 32) (outside (now (slice .entry)) (now (exists .entry))) r ⌝ }
+// What the lowest bit r says of so many rows: past the last row it is a pad bit, and no row is found.
+fn row_below(r: u32, rows: u32) -> Found
+    ensures { λ f. ⌜ ((n : ℕ) (p : ℕ → Bool) → Lowest n p r → FoundIn rows p f) ⌝ }
 {
+    if r < rows {
+        return Found::Row(r);
+    }
+    Found::Nothing
+}
+
+// The lowest row of a slice of that many rows that does not exist.
+pub fn first(slice: &[u32], exists: &[u32], rows: u32) -> Found
+    requires { ⌜ (rows ≤ mostRows) × (length (segments (now slice)) ≡ segmentCount 32 rows)
+        × (length (segments (now exists)) ≡ segmentCount 32 rows) ⌝ }
+    ensures { λ r. ⌜ FoundIn rows (outside (now (slice .entry)) (now (exists .entry))) r ⌝ }
+{
+    let count = rows::segment_count(rows);
     let mut c = cursor::open(slice);
     let mut e = cursor::open(exists);
     let mut o: u32 = 0;
@@ -136,7 +150,7 @@ pub fn first(slice: &[u32], exists: &[u32], count: u32) -> Found
         let n = common(c, e, count - o);
         let seen = look(slice, c, exists, e, n);
         match seen {
-            Seen::Row(r) => return Found::Row(o * 32 + r),
+            Seen::Row(r) => return row_below(o * 32 + r, rows),
             Seen::Clear(m) => {
                 let d = cursor::pass(slice, c, m);
                 let f = cursor::pass(exists, e, m);

@@ -1,2 +1,3 @@
 pub mod Growing
 pub mod Pushing
+pub mod WordByWord

@@ -1,14 +1,12 @@
 -- Growing or pushing twice is doing so once with the segments of both; what room that takes.
 -- Assumes nothing.
-use Prim.Native.Nat.{ℕ, _+_, _≤_}
+use Prim.Native.Nat.{ℕ, _≤_}
 use mathlib.Core.Path.{_∙_}
 use mathlib.Core.List.{List, _++_, foldl, foldl-append}
 use native.Mathlib.Omega.{arith}
-use lib.ListN.{replicate}
-use Rattle.meaning.specs.Limits.{mostClean}
-use Rattle.meaning.specs.Segment.{Segment, clean}
+use Rattle.meaning.specs.Segment.{Segment}
 use Rattle.meaning.specs.Canonical.{put}
-use Rattle.meaning.proofs.Least.{puts-grow, run-adds}
+use Rattle.meaning.proofs.Least.{puts-grow}
 use Rattle.ewah_write.specs.declared.writer.Writer.{Writer}
 use Rattle.ewah_write.specs.Drafts.{Writing, RoomFor, Grown, Pushed}
 use Rattle.ewah_write.proofs.Growing.{used-is}
@@ -16,13 +14,6 @@ use Rattle.ewah_write.proofs.Pushing.{drop-more}
 
 pub still-writing : {w r : Writer} (ss : List Segment) → Writing w → Grown w ss r → Writing r
 still-writing ss p g = (foldl put (p .0) ss, g (p .0) (p .1))
-
--- a run takes one word more at most
-pub run-used : {w r : Writer} (v n : ℕ) → Writing w → n ≤ mostClean → Grown w (replicate n (clean v)) r → r .used ≤ w .used + 1
-run-used v n p l g =
-    let d = p .0 in
-    let ss = replicate n (clean v) in
-    omega (arith, used-is d (p .1), used-is (foldl put d ss) (g d (p .1)), run-adds d v n l)
 
 module _ (ss ts : List Segment) where
   pub grown-more : {w r q : Writer} → Grown w ss r → Grown r ts q → Grown w (ss ++ ts) q

@@ -1,13 +1,13 @@
 -- The engine's loop: what holds where it has passed o segments, and at its end.
 -- Assumes nothing.
-use Prim.Native.Nat.{ℕ, _+_, _*_, _≤_}
+use Prim.Native.Nat.{ℕ, _+_, _-_, _*_, _≤_}
 use mathlib.Core.Bool.{Bool, true, false}
 use mathlib.Core.Path.{_≡_, refl, sym, ap, _∙_, subst}
 use mathlib.Core.List.{List, _++_, foldl}
 use native.Mathlib.Omega.{arith}
 use lib.ListN.{length, drop}
 use Rattle.meaning.specs.Rows.{countBelow, sumBelow}
-use Rattle.meaning.specs.Segment.{Segment, segmentCount}
+use Rattle.meaning.specs.Segment.{Segment, segmentCount, allSet, rowsIn}
 use Rattle.meaning.specs.Canonical.{Draft, blank, body, put, canonicalOf}
 use Rattle.meaning.specs.Index.{rowCount}
 use Rattle.meaning.specs.Question.{endsAt, stretches}
@@ -24,7 +24,7 @@ use Rattle.merge.specs.declared.evaluate.Operation.{Operation}
 use Rattle.merge.specs.declared.evaluate.Part.{Part}
 use Rattle.merge.specs.Operations.{chosen}
 use Rattle.walk.specs.Surveys.{MovedAll}
-use Rattle.merge.specs.Parts.{Evaluated, MaskOf, PartLow, partSegments}
+use Rattle.merge.specs.Parts.{Evaluated, PartLow, partSegments}
 use Rattle.merge.specs.Emitted.{Emitted}
 use Rattle.merge.specs.Merges.{bodiesOf, answerBody, MergedTo}
 use Rattle.merge.proofs.Along.{Along, NextStretch, along-more}
@@ -76,7 +76,9 @@ module _ {index list : List ℕ} {op : Operation} {table old : List ℕ} {store 
     steps-low = omega (arith, g .counted, count-le o (endsAt bodies))
 
     -- ---- one stretch more
-    module _ (n : NextStretch index list ns s o) {mask : ℕ} (m : MaskOf (rowCount index) (o + s .least) mask) {p : Part} (e : Evaluated op table s mask p) where
+    module _ (n : NextStretch index list ns s o)
+        {mask : ℕ} (m : mask ≡ allSet (rowsIn 32 (rowCount index) (o + s .least - 1)))
+        {p : Part} (e : Evaluated op table s mask p) where
       put-is : foldl put (upTo T o) (partSegments p) ≡ upTo T (o + s .least)
       put-is = ap (λ (ss : List Segment). foldl put (upTo T o) ss) (e .segments R o bodies (n .is) m) ∙ upTo-on T o (s .least)
 

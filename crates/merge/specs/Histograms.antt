@@ -1,16 +1,16 @@
 -- What the histogram's numbers are where it has passed some segments, and what one stretch more does to them.
 -- Assumes nothing.
-use Prim.Native.Nat.{ℕ, _+_, _*_, _<_, min}
+use Prim.Native.Nat.{ℕ, _+_, _-_, _*_, _<_, min}
 use mathlib.Core.Path.{_≡_}
 use mathlib.Core.List.{List}
 use lib.Dec.{eqb}
 use lib.ListN.{length, getD}
 use Rattle.meaning.specs.Limits.{histogramCounts}
 use Rattle.meaning.specs.Rows.{countBelow}
+use Rattle.meaning.specs.Segment.{allSet, rowsIn}
 use Rattle.meaning.specs.Ahead.{StretchAt, answerRows}
 use Rattle.words.specs.Counters.{countAt}
 use Rattle.walk.specs.declared.survey.Survey.{Survey}
-use Rattle.merge.specs.Parts.{MaskOf}
 
 -- of the rows of the first o segments, how many exactly c of the bodies have
 abbrev pub heldBefore : (R : ℕ) (bodies : List (List ℕ)) (o c : ℕ) → ℕ
@@ -23,5 +23,7 @@ HistogramBefore R bodies o counts = (c : ℕ) → c < histogramCounts → getD c
 -- the stretch that the survey s is of is counted in, wherever it stands and whatever bodies it is over
 pub record StretchCounted (counts : List ℕ) (s : Survey) (mask : ℕ) (r : List ℕ) : Type 0 where
   pub long : length r ≡ histogramCounts
-  pub on : (R o : ℕ) (bodies : List (List ℕ)) → StretchAt R bodies o (s .least) (s .ones) (s .dirty) (countAt (s .planes)) → MaskOf R (o + s .least) mask
+  pub on : (R o : ℕ) (bodies : List (List ℕ))
+      → StretchAt R bodies o (s .least) (s .ones) (s .dirty) (countAt (s .planes))
+      → mask ≡ allSet (rowsIn 32 R (o + s .least - 1))
       → HistogramBefore R bodies o counts → HistogramBefore R bodies (o + s .least) r

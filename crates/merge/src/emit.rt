@@ -1,9 +1,8 @@
 // A part of the answer goes to the writer.
 ghost use mathlib.Core.Path.{_≡_};
 ghost use mathlib.Core.Bool.{true};
-ghost use Prim.Native.Nat.{_<_, _≤_, _^_};
+ghost use Prim.Native.Nat.{_<_, _^_};
 ghost use lib.ListN.{length};
-ghost use Rattle.meaning.specs.Limits.{mostClean};
 ghost use Rattle.ewah_write.specs.Drafts.{Writing, RoomFor, Grown, Pushed};
 ghost use Rattle.merge.specs.Parts.{partSegments, PartLow};
 ghost use Rattle.merge.specs.Emitted.{Emitted};
@@ -19,10 +18,7 @@ fn grow(w: Writer, part: Part) -> Writer
 {
     match part {
         Part::Run(value, n) => writer::grow_run(w, value, n),
-        Part::Tail(n, x) => {
-            let r = writer::grow_run(w, 1, n);
-            writer::grow_segment(r, x)
-        }
+        Part::Word(x) => writer::grow_segment(w, x),
     }
 }
 
@@ -34,18 +30,8 @@ fn push(out: &mut [u32], w: Writer, part: Part) -> Writer
 {
     match part {
         Part::Run(value, n) => writer::push_run(out, w, value, n),
-        Part::Tail(n, x) => push_tail(out, w, n, x),
+        Part::Word(x) => writer::push_segment(out, w, x),
     }
-}
-
-// So many segments of ones, and then a word.
-fn push_tail(out: &mut [u32], w: Writer, n: u32, x: u32) -> Writer
-    requires { ⌜ RoomFor (partSegments (Part.Tail n x)) w (length (now out)) ⌝ }
-    requires { ⌜ n ≤ mostClean ⌝ }
-    ensures { λ r. ⌜ Pushed (now (out .entry)) (now (out .exit)) w (partSegments (Part.Tail n x)) r ⌝ }
-{
-    let r = writer::push_run(out, w, 1, n);
-    writer::push_segment(out, r, x)
 }
 
 // A part is written where `store` says so, and else only measured.

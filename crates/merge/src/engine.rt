@@ -40,7 +40,7 @@ pub fn merge(
     let mut stretches: u32 = 0;
     while o < segments {
         let n = s.least;
-        let mask = evaluate::mask_before(rows, segments, o + n);
+        let mask = rows::mask_before(rows, segments, o + n);
         let part = evaluate::evaluate(op, table, s, mask);
         let v = emit::emit(out, w, part, store);
         w = v;

@@ -4,13 +4,12 @@ ghost use Prim.Native.Nat.{ℕ, _+_, _≤_, _<_};
 ghost use lib.Dec.{eqb};
 ghost use lib.ListN.{length, getD};
 ghost use Rattle.meaning.specs.Limits.{mostNamed, histogramCounts};
-ghost use Rattle.meaning.specs.Segment.{isSet, segmentCount};
+ghost use Rattle.meaning.specs.Segment.{isSet};
 ghost use Rattle.words.specs.Counters.{countAt};
 ghost use Rattle.merge.specs.Operations.{chosen, LowNumber};
-ghost use Rattle.merge.specs.Parts.{Evaluated, MaskOf};
+ghost use Rattle.merge.specs.Parts.{Evaluated};
 use meaning::PLANES;
 use walk::survey::Survey;
-use words::bits;
 use words::counters;
 use words::rows;
 
@@ -66,40 +65,26 @@ fn word(op: Operation, table: &[u32], base: u32, planes: [u32; PLANES]) -> u32
     }
 }
 
-// The bits of the segment before `end` that are rows.
-pub fn mask_before(rows: u32, segments: u32, end: u32) -> u32
-    requires { ⌜ (segments ≡ segmentCount 32 rows) × (1 ≤ end) × (end ≤ segments) ⌝ }
-    ensures { λ r. ⌜ MaskOf rows end r ⌝ }
-{
-    if end < segments {
-        return 0xFFFF_FFFF;
-    }
-    bits::low_ones(rows::last_rows(rows))
-}
-
-// The segments of the answer in one stretch: a clean run, with its value and its length; or so many segments of ones, and then one
-// word.
+// The segments of the answer in one stretch: a clean run, with its value and its length; or one word.
 pub enum Part {
     Run(u32, u32),
-    Tail(u32, u32),
+    Word(u32),
 }
 
-// The part of the answer in a stretch of n segments, of whose last one the mask has the rows.
+// The part of the answer in a stretch of n segments, of whose last one the mask has the rows. With no dirty word it is
+// a run, also over a last segment with pad bits.
 pub fn evaluate(op: Operation, table: &[u32], s: Survey, mask: u32) -> Part
-    requires { ⌜ (length (now table) ≤ histogramCounts) × LowNumber op × (s .ones ≤ mostNamed) × (1 ≤ s .least) ⌝ }
+    requires { ⌜ (length (now table) ≤ histogramCounts) × LowNumber op × (s .ones ≤ mostNamed) ⌝ }
     ensures { λ r. ⌜ Evaluated op (now (table .entry)) s mask r ⌝ }
 {
     let n = s.least;
     let base = s.ones;
     if s.dirty != 0 {
         let planes = s.planes;
-        return Part::Tail(0, mask & word(op, table, base, planes));
+        return Part::Word(rows::spelled(word(op, table, base, planes), mask));
     }
     if holds(op, table, base) {
-        if mask == 0xFFFF_FFFF {
-            return Part::Run(1, n);
-        }
-        return Part::Tail(n - 1, mask);
+        return Part::Run(1, n);
     }
     Part::Run(0, n)
 }

@@ -10,7 +10,6 @@ ghost use Rattle.meaning.specs.Question.{histogramOf};
 ghost use Rattle.words.specs.Counters.{countAt};
 ghost use Rattle.merge.specs.Merges.{Walkable, bodiesOf};
 ghost use Rattle.merge.specs.Histograms.{StretchCounted};
-use crate::evaluate;
 use meaning::HISTOGRAM_COUNTS;
 use walk::survey;
 use walk::survey::Survey;
@@ -52,7 +51,7 @@ pub fn histogram(index: &[u32], list: &[u32]) -> [u32; HISTOGRAM_COUNTS]
     let mut o: u32 = 0;
     while o < segments {
         let n = s.least;
-        let mask = evaluate::mask_before(rows, segments, o + n);
+        let mask = rows::mask_before(rows, segments, o + n);
         let d = count_stretch(counts, s, mask);
         counts = d;
         let t = survey::advance(index, list, &mut q.numbers, n);

@@ -1,6 +1,6 @@
 -- `column::strays` meets its contract. The invariant: the slices from place i on give the list's verdict.
 -- Assumes nothing.
-use Prim.Native.Nat.{ℕ, _-_, _*_, _≤_, _<_}
+use Prim.Native.Nat.{ℕ, _-_, _≤_, _<_}
 use mathlib.Core.Bool.{Bool}
 use mathlib.Core.Path.{_≡_, sym, ap, _∙_, subst, subst₂}
 use mathlib.Core.List.{List}
@@ -8,7 +8,6 @@ use native.Mathlib.Omega.{arith}
 use borrow.Author.Needs.{needs}
 use denote.Ref.{now}
 use lib.ListN.{length, getD, drop}
-use Rattle.meaning.specs.Limits.{mostSegments}
 use Rattle.meaning.specs.Ewah.{segments}
 use Rattle.meaning.specs.Segment.{segmentCount}
 use Rattle.meaning.specs.Index.{rowCount, bitmapCount, rowsAt, bodyAt}
@@ -20,56 +19,58 @@ use Rattle.column.proofs.strays.Statement.{statement}
 use Rattle.column.proofs.strays.Tie as tie
 
 abbrev Inv-loop : tie.InvT-loop
-Inv-loop index list segments exists i₀ i =
+Inv-loop index list rows exists i₀ i =
     (1 ≤ i) × (i ≤ length list)
     × (meaning.strays index list ≡ meaning.straysIn index (rowsAt index (getD list 0 0)) (drop i list))
 
 abbrev μ-loop : tie.MeasureT-loop
-μ-loop index list segments exists i₀ i = length list - i
+μ-loop index list rows exists i₀ i = length list - i
 
 -- slice i is about to be looked at
 module _ (b : tie.After-body2 Inv-loop μ-loop) where
   abbrev start : tie.Start Inv-loop μ-loop
-  start = b .before .before .before .before .before .before .before .before .before .before
+  start = b .before .before .before .before .before .before .before .before .before
 
   abbrev place : ℕ
   place = getD (now (start .args .list)) (b .before .before .before .loop .i) 0
 
   abbrev strayed : ℕ → Bool
-  strayed = outside (bodyAt (now (start .args .index)) place) (bodyAt (now (start .args .index)) (getD (now (start .args .list)) 0 0))
+  strayed =
+      let index = now (start .args .index) in
+      outside (bodyAt index place) (bodyAt index (getD (now (start .args .list)) 0 0))
 
   place-low : place < bitmapCount (now (start .args .index))
   place-low = start .pre .1 .2 (b .before .before .before .loop .i) (b .before .before .loop-test .taken)
 
-  total : b .before .before .before .before .before .before .segment-count .result ≡ segmentCount 32 (rowCount (now (start .args .index)))
-  total =
-      let g = b .before .before .before .before .before .before in
-      g .segment-count .ensures ∙ ap (segmentCount 32) (g .before .rows .ensures)
+  abbrev rows : ℕ
+  rows = b .before .before .before .before .before .before .rows .result
+
+  rows-are : rows ≡ rowCount (now (start .args .index))
+  rows-are = b .before .before .before .before .before .before .rows .ensures
 
 -- it was
 told : (t : tie.After-first Inv-loop μ-loop)
-    → FoundIn (t .before .before .before .before .before .before .before .segment-count .result * 32) (strayed (t .before)) (t .first .result)
+    → FoundIn (rowCount (now (start (t .before) .args .index))) (strayed (t .before)) (t .first .result)
 told t =
-    subst₂ (λ (x y : List ℕ). FoundIn (t .before .before .before .before .before .before .before .segment-count .result * 32) (outside x y) (t .first .result))
-    (t .before .body2 .ensures .0) (t .before .before .before .before .before .body .ensures .0) (t .first .ensures)
+    let b = t .before in
+    subst (λ (n : ℕ). FoundIn n (strayed b) (t .first .result)) (rows-are b)
+    (subst₂ (λ (x y : List ℕ). FoundIn (rows b) (outside x y) (t .first .result)) (b .body2 .ensures .0)
+    (b .before .before .before .before .body .ensures .0) (t .first .ensures))
 
 rows-requires : tie.Need-rows-requires Inv-loop μ-loop
 rows-requires c κs = search needs
-
-segment-count-requires : tie.Need-segment-count-requires Inv-loop μ-loop
-segment-count-requires c κs = omega (arith, c .rows .ensures, c .before .before .before .pre .0 .head .few-rows)
 
 shared-slice-read-body : tie.Need-shared-slice-read-body Inv-loop μ-loop
 shared-slice-read-body c = search needs
 
 body-requires : tie.Need-body-requires Inv-loop μ-loop
 body-requires c κs =
-    let p = c .before .before .before .before .before .pre in
+    let p = c .before .before .before .before .pre in
     (p .0 .head, (p .0 .entries, p .1 .2 0 (omega (arith, p .1 .0))))
 
 loop-holds : tie.Need-loop-holds Inv-loop μ-loop
 loop-holds c =
-    let s = c .before .before .before .before .before .before in
+    let s = c .before .before .before .before .before in
     let some : 1 ≤ length (now (s .args .list)) = omega (arith, s .pre .1 .0) in
     (omega arith, some, strays-first (now (s .args .index)) (now (s .args .list)) some)
 
@@ -81,7 +82,7 @@ shared-slice-read-k c = search needs
 
 body-requires-2 : tie.Need-body-requires-2 Inv-loop μ-loop
 body-requires-2 c κs =
-    let p = c .before .before .before .before .before .before .before .before .before .pre in
+    let p = c .before .before .before .before .before .before .before .before .pre in
     (p .0 .head, (p .0 .entries, p .1 .2 (c .before .before .loop .i) (c .before .loop-test .taken)))
 
 first-requires : tie.Need-first-requires Inv-loop μ-loop
@@ -89,10 +90,12 @@ first-requires c κs =
     let s = start c in
     let a = s .args in
     let f = s .pre .0 in
-    let few : segmentCount 32 (rowCount (now (a .index))) ≤ mostSegments = unfold segmentCount in omega (arith, f .head .few-rows) in (
-      omega (arith, total c),
-      ap (λ (b : List ℕ). length (segments b)) (c .body2 .ensures .0) ∙ f .bodies (place c) (place-low c) .count ∙ sym (total c),
-      ap (λ (b : List ℕ). length (segments b)) (c .before .before .before .before .body .ensures .0) ∙ f .bodies (getD (now (a .list)) 0 0) (s .pre .1 .2 0 (omega (arith, s .pre .1 .0))) .count ∙ sym (total c),
+    let e = ap (segmentCount 32) (rows-are c) in (
+      omega (arith, rows-are c, f .head .few-rows),
+      ap (λ (b : List ℕ). length (segments b)) (c .body2 .ensures .0)
+          ∙ f .bodies (place c) (place-low c) .count ∙ sym e,
+      ap (λ (b : List ℕ). length (segments b)) (c .before .before .before .before .body .ensures .0)
+          ∙ f .bodies (getD (now (a .list)) 0 0) (s .pre .1 .2 0 (omega (arith, s .pre .1 .0))) .count ∙ sym e,
     )
 
 enum-known-found : tie.Need-enum-known-found Inv-loop μ-loop
@@ -115,7 +118,7 @@ returns c =
     let found = subst (FoundIn _ (strayed b)) (c .before .before .found .given .1) (told t) in
     ap refusedBy (c .stray .ensures)
     ∙ sym (l .inv .2 ∙ strays-place (now (a .index)) _ (now (a .list)) (l .i) (b .before .before .loop-test .taken)
-    ∙ stray-row (now (a .index)) (s .pre .0) (getD (now (a .list)) 0 0) (place b) _ _ (total b) (place-low b) _ found)
+    ∙ stray-row (now (a .index)) (getD (now (a .list)) 0 0) (place b) _ _ found)
 
 enum-told : tie.Need-enum-told Inv-loop μ-loop
 enum-told c = search needs
@@ -137,14 +140,14 @@ loop-again c =
       omega arith,
       omega (arith, b .before .before .loop-test .taken),
       l .inv .2 ∙ strays-place (now (a .index)) _ (now (a .list)) (l .i) (b .before .before .loop-test .taken)
-          ∙ stray-none (now (a .index)) (s .pre .0) (getD (now (a .list)) 0 0) (place b) _ _ (total b) none,
+          ∙ stray-none (now (a .index)) (getD (now (a .list)) 0 0) (place b) _ none,
     )
 
 returns-2 : tie.Need-returns-2 Inv-loop μ-loop
 unfolding verdictOf
 returns-2 c =
     let l = c .before .loop in
-    let a = c .before .before .before .before .before .before .before .before .args in
+    let a = c .before .before .before .before .before .before .before .args in
     sym (l .inv .2 ∙ strays-end (now (a .index)) _ (now (a .list)) (l .i) (c .loop-test .left))
 
 pub strays-spec : {M : Type 1} → statement M
@@ -154,7 +157,6 @@ strays-spec =
     Inv-loop
     μ-loop
     rows-requires
-    segment-count-requires
     shared-slice-read-body
     body-requires
     loop-holds

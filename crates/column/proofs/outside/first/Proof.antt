@@ -1,61 +1,112 @@
--- `column::outside::first` meets its contract. The invariant `Going`: both cursors stand at segment o, and no row before it is in the
--- slice alone.
+-- `column::outside::first` meets its contract. The invariant `Going`: both cursors stand at segment o, and no row
+-- before it is in the slice alone.
 -- Assumes nothing.
 use Prim.Native.Nat.{ℕ, _+_, _-_, _*_, _≤_}
-use mathlib.Core.Path.{_≡_, subst}
+use mathlib.Core.Path.{_≡_, sym, _∙_}
+use mathlib.Core.List.{List}
 use native.Mathlib.Omega.{arith}
 use borrow.Author.Needs.{needs}
 use denote.Ref.{now}
 use lib.ListN.{length}
+use Rattle.meaning.specs.Limits.{mostSegments}
+use Rattle.meaning.specs.Segment.{segmentCount}
+use Rattle.meaning.specs.Ewah.{segments}
+use Rattle.meaning.proofs.RowWords.{rows-fit}
 use Rattle.ewah.specs.Cursors.{behind}
-use Rattle.column.specs.Outside.{outside, NoneBelow, Lowest, SeenIn}
-use Rattle.column.proofs.Going.{Going, going-first, some-left, pass-within, going-row, clear-some, clear-few, going-on}
+use Rattle.column.specs.Outside.{outside, Lowest, SeenIn}
+use Rattle.column.proofs.Going.{Going, going-first, some-left, pass-within}
+use Rattle.column.proofs.Going.{going-row, clear-some, clear-few, going-on}
 use Rattle.column.proofs.outside.first.Statement.{statement}
 use Rattle.column.proofs.outside.first.Tie as tie
 
 abbrev Inv-loop : tie.InvT-loop
-Inv-loop slice exists count c₀ e₀ o₀ c e o = Going slice exists count c e o
+Inv-loop slice exists rows count c₀ e₀ o₀ c e o = Going slice exists count c e o
 
 abbrev μ-loop : tie.MeasureT-loop
-μ-loop slice exists count c₀ e₀ o₀ c e o = count - o
+μ-loop slice exists rows count c₀ e₀ o₀ c e o = count - o
 
--- where the function begins, from the loop's test
-abbrev start : tie.In-loop Inv-loop μ-loop → tie.Start Inv-loop μ-loop
-start i = i .before .before .before .before .before .before
+-- the segments are counted
+module _ (s : tie.After-segment-count Inv-loop μ-loop) where
+  abbrev start : tie.Start Inv-loop μ-loop
+  start = s .before .before .before
+
+  abbrev slice : List ℕ
+  slice = now (start .args .slice)
+
+  abbrev exists : List ℕ
+  exists = now (start .args .exists)
+
+  abbrev total : ℕ
+  total = s .segment-count .result
+
+  few : total ≤ mostSegments
+  unfolding segmentCount
+  few = omega (arith, s .segment-count .ensures, start .pre .0)
+
+  slice-total : length (segments slice) ≡ total
+  slice-total = start .pre .1 ∙ sym (s .segment-count .ensures)
+
+  exists-total : length (segments exists) ≡ total
+  exists-total = start .pre .2 ∙ sym (s .segment-count .ensures)
+
+  rows-within : start .args .rows ≤ total * 32
+  rows-within = omega (arith, s .segment-count .ensures, rows-fit 32 (omega arith) (start .args .rows))
+
+-- they were, from the loop's test
+abbrev counted : tie.In-loop Inv-loop μ-loop → tie.After-segment-count Inv-loop μ-loop
+counted i = i .before .before .before .before
 
 -- n segments are to be looked at
 module _ (w : tie.After-common Inv-loop μ-loop) where
-  within : w .before .before .loop .o + w .common .result ≤ start (w .before) .args .count
+  abbrev n : ℕ
+  n = w .common .result
+
+  within : w .before .before .loop .o + n ≤ total (counted (w .before))
   within = omega (arith, w .common .ensures .3, w .before .loop-test .taken)
 
-  slice-room : (m : ℕ) → 1 ≤ m → m ≤ w .common .result → w .before .before .loop .c .next + behind (w .before .before .loop .c .piece) m ≤ length (now (start (w .before) .args .slice))
+  slice-room : (m : ℕ) → 1 ≤ m → m ≤ n → let c = w .before .before .loop .c in
+      c .next + behind (c .piece) m ≤ length (slice (counted (w .before)))
   slice-room m g h =
-      pass-within (w .before .before .loop .inv .slice-at) m g (omega (arith, w .common .ensures .1)) (omega (arith, within, start (w .before) .pre .1))
+      pass-within (w .before .before .loop .inv .slice-at) m g (omega (arith, w .common .ensures .1))
+      (omega (arith, within, slice-total (counted (w .before))))
 
-  exists-room : (m : ℕ) → 1 ≤ m → m ≤ w .common .result → w .before .before .loop .e .next + behind (w .before .before .loop .e .piece) m ≤ length (now (start (w .before) .args .exists))
+  exists-room : (m : ℕ) → 1 ≤ m → m ≤ n → let e = w .before .before .loop .e in
+      e .next + behind (e .piece) m ≤ length (exists (counted (w .before)))
   exists-room m g h =
-      pass-within (w .before .before .loop .inv .exists-at) m g (omega (arith, w .common .ensures .2)) (omega (arith, within, start (w .before) .pre .2))
+      pass-within (w .before .before .loop .inv .exists-at) m g (omega (arith, w .common .ensures .2))
+      (omega (arith, within, exists-total (counted (w .before))))
 
 -- they were
 seen : (l : tie.After-look Inv-loop μ-loop)
     → let b = l .before .before .before .loop in
-    let a = start (l .before .before) .args in
-    SeenIn (l .before .common .result) (λ k. outside (now (a .slice)) (now (a .exists)) (b .o * 32 + k)) (l .look .result)
-seen l = let b = l .before .before .before .loop in l .look .ensures (b .o) (b .inv .slice-at .ahead) (b .inv .exists-at .ahead)
+    let s = counted (l .before .before) in
+    SeenIn (n (l .before)) (λ k. outside (slice s) (exists s) (b .o * 32 + k)) (l .look .result)
+seen l =
+    let b = l .before .before .before .loop in
+    l .look .ensures (b .o) (b .inv .slice-at .ahead) (b .inv .exists-at .ahead)
 
 row-found : (c : tie.After-known-told Inv-loop μ-loop)
     → let l = c .before .before .before in
-    let a = start (l .before .before) .args in
-    Lowest (a .count * 32) (outside (now (a .slice)) (now (a .exists))) (l .before .before .before .loop .o * 32 + c .before .seen .given .0 .0)
+    let s = counted (l .before .before) in
+    let b = l .before .before .before .loop in
+    Lowest (total s * 32) (outside (slice s) (exists s)) (b .o * 32 + c .before .seen .given .0 .0)
 row-found c =
     let l = c .before .before .before in
-    going-row (l .before .before .before .loop .inv) _ (within (l .before)) (l .look .result) (seen l) _ (c .before .seen .given .1)
+    let g = l .before .before .before .loop .inv in
+    going-row g _ (within (l .before)) (l .look .result) (seen l) _ (c .before .seen .given .1)
 
-clear-size : (c : tie.After-known-told2 Inv-loop μ-loop) → (1 ≤ c .before .seen2 .given .0 .0) × (c .before .seen2 .given .0 .0 ≤ c .before .before .before .before .common .result)
+clear-size : (c : tie.After-known-told2 Inv-loop μ-loop)
+    → let m = c .before .seen2 .given .0 .0 in (1 ≤ m) × (m ≤ n (c .before .before .before .before))
 clear-size c =
     let l = c .before .before .before in
     let g = l .before .before .before .loop .inv in
-    (clear-some g _ (within (l .before)) (l .look .result) (seen l) _ (c .before .seen2 .given .1), clear-few g _ (within (l .before)) (l .look .result) (seen l) _ (c .before .seen2 .given .1))
+    let t = c .before .seen2 .given .1 in (
+      clear-some g _ (within (l .before)) (l .look .result) (seen l) _ t,
+      clear-few g _ (within (l .before)) (l .look .result) (seen l) _ t,
+    )
+
+segment-count-requires : tie.Need-segment-count-requires Inv-loop μ-loop
+segment-count-requires c κs = search needs
 
 open-requires : tie.Need-open-requires Inv-loop μ-loop
 open-requires c κs = search needs
@@ -65,8 +116,9 @@ open-requires-2 c κs = search needs
 
 loop-holds : tie.Need-loop-holds Inv-loop μ-loop
 loop-holds c =
-    let a = c .before .before .before .before .args in
-    going-first (now (a .slice)) (now (a .exists)) (a .count) (c .before .«open» .result) (c .open2 .result) (c .before .«open» .ensures) (c .open2 .ensures)
+    let s = c .before .before in
+    let f = c .before .«open» in
+    going-first (slice s) (exists s) (total s) (f .result) (c .open2 .result) (f .ensures) (c .open2 .ensures)
 
 sub-common : tie.Need-sub-common Inv-loop μ-loop
 sub-common c = search needs
@@ -74,12 +126,12 @@ sub-common c = search needs
 common-requires : tie.Need-common-requires Inv-loop μ-loop
 common-requires c κs =
     let g = c .before .loop .inv in
-    let p = start c .pre in
+    let s = counted c in
     let t = c .loop-test .taken in (
       g .slice-at .in-order .dirty-low,
       g .exists-at .in-order .dirty-low,
-      some-left (g .slice-at) (omega (arith, p .1, t)),
-      some-left (g .exists-at) (omega (arith, p .2, t)),
+      some-left (g .slice-at) (omega (arith, slice-total s, t)),
+      some-left (g .exists-at) (omega (arith, exists-total s, t)),
       omega (arith, t),
     )
 
@@ -90,41 +142,57 @@ look-requires c κs =
       g .slice-at .in-order,
       (
         g .exists-at .in-order,
-        (m .0, omega (arith, within c, start (c .before) .pre .0), m .1, m .2, slice-room c _ (m .0) (omega arith), exists-room c _ (m .0) (omega arith)),
+        (
+          m .0,
+          omega (arith, within c, few (counted (c .before))),
+          m .1,
+          m .2,
+          slice-room c _ (m .0) (omega arith),
+          exists-room c _ (m .0) (omega arith),
+        ),
       ),
     )
 
 enum-known-seen : tie.Need-enum-known-seen Inv-loop μ-loop
 enum-known-seen c = search needs
 
-mul-t15 : tie.Need-mul-t15 Inv-loop μ-loop
-mul-t15 c = search needs
+mul-row-below : tie.Need-mul-row-below Inv-loop μ-loop
+mul-row-below c =
+    let i = c .before .before .before .before .before in
+    omega (arith, i .loop-test .taken, few (counted i))
 
-add-t16 : tie.Need-add-t16 Inv-loop μ-loop
-add-t16 c = omega (arith, row-found c .below, start (c .before .before .before .before .before) .pre .0)
+add-row-below : tie.Need-add-row-below Inv-loop μ-loop
+add-row-below c = omega (arith, row-found c .below, few (counted (c .before .before .before .before .before)))
+
+row-below-requires : tie.Need-row-below-requires Inv-loop μ-loop
+row-below-requires c κs = search needs
 
 returns : tie.Need-returns Inv-loop μ-loop
-returns c = row-found c
+returns c = c .row-below .ensures _ _ (row-found (c .before))
 
 enum-known-seen-2 : tie.Need-enum-known-seen-2 Inv-loop μ-loop
 enum-known-seen-2 c = search needs
 
 pass-requires : tie.Need-pass-requires Inv-loop μ-loop
 pass-requires c κs =
-    let l = c .before .before .before in
-    let m = clear-size c in
-    (l .before .before .before .loop .inv .slice-at .in-order, (m .0, omega (arith, m .1, l .before .common .ensures .1), slice-room (l .before) _ (m .0) (m .1)))
+    let w = c .before .before .before .before in
+    let m = clear-size c in (
+      w .before .before .loop .inv .slice-at .in-order,
+      (m .0, omega (arith, m .1, w .common .ensures .1), slice-room w _ (m .0) (m .1)),
+    )
 
 pass-requires-2 : tie.Need-pass-requires-2 Inv-loop μ-loop
 pass-requires-2 c κs =
-    let l = c .before .before .before .before in
-    let m = clear-size (c .before) in
-    (l .before .before .before .loop .inv .exists-at .in-order, (m .0, omega (arith, m .1, l .before .common .ensures .2), exists-room (l .before) _ (m .0) (m .1)))
+    let w = c .before .before .before .before .before in
+    let m = clear-size (c .before) in (
+      w .before .before .loop .inv .exists-at .in-order,
+      (m .0, omega (arith, m .1, w .common .ensures .2), exists-room w _ (m .0) (m .1)),
+    )
 
 add-o : tie.Need-add-o Inv-loop μ-loop
 add-o c =
     let l = c .before .before .before .before .before in
-    omega (arith, clear-size (c .before .before) .1, within (l .before), start (l .before .before) .pre .0)
+    omega (arith, clear-size (c .before .before) .1, within (l .before), few (counted (l .before .before)))
 
 loop-less : tie.Need-loop-less Inv-loop μ-loop
 loop-less c =
@@ -135,14 +203,15 @@ loop-again : tie.Need-loop-again Inv-loop μ-loop
 loop-again c =
     let k = c .before .before in
     let l = k .before .before .before in
-    going-on (l .before .before .before .loop .inv) _ (within (l .before)) (l .look .result) (seen l) _ (k .before .seen2 .given .1) _ _ (c .before .pass .ensures) (c .pass2 .ensures)
+    let g = l .before .before .before .loop .inv in
+    going-on g _ (within (l .before)) (l .look .result) (seen l) _ (k .before .seen2 .given .1) _ _
+    (c .before .pass .ensures) (c .pass2 .ensures)
 
 returns-2 : tie.Need-returns-2 Inv-loop μ-loop
 returns-2 c =
     let l = c .before .loop in
-    let a = c .before .before .before .before .before .before .args in
-    let e : l .o ≡ a .count = omega (arith, l .inv .within, c .loop-test .left) in
-    subst (λ (k : ℕ). NoneBelow (k * 32) (outside (now (a .slice)) (now (a .exists)))) e (l .inv .none)
+    let s = c .before .before .before .before in
+    λ r h. l .inv .none r (omega (arith, rows-within s, c .loop-test .left))
 
 pub first-spec : {M : Type 1} → statement M
 first-spec =
@@ -150,6 +219,7 @@ first-spec =
     (tie.spec
     Inv-loop
     μ-loop
+    segment-count-requires
     open-requires
     open-requires-2
     loop-holds
@@ -157,8 +227,9 @@ first-spec =
     common-requires
     look-requires
     enum-known-seen
-    mul-t15
-    add-t16
+    mul-row-below
+    add-row-below
+    row-below-requires
     returns
     enum-known-seen-2
     pass-requires

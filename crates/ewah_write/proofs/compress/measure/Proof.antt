@@ -1,23 +1,32 @@
--- `ewah_write::compress::measure` meets its contract. The loop's invariant: the writer stands for the draft of the words passed. Assumes nothing.
-use Prim.Native.Nat.{_≤_, _-_}
-use mathlib.Core.List.{map}
+-- `ewah_write::compress::measure` meets its contract: the writer tracks the draft of the words so far. Assumes nothing.
+use Prim.Native.Nat.{_-_, _≤_, _<_, _^_}
 use mathlib.Core.Path.{ap, _∙_}
 use native.Mathlib.Omega.{arith}
-use lib.ListN.{length, length-map}
+use lib.ListN.{length}
 use borrow.Author.Needs.{needs}
 use denote.Ref.{now}
-use Rattle.meaning.specs.Segment.{kind}
-use Rattle.meaning.proofs.Prefixes.{upTo, upTo-word, upTo-all, upTo-low}
+use Rattle.meaning.specs.Segment.{kinds}
+use Rattle.meaning.specs.Canonical.{Draft}
+use Rattle.meaning.proofs.Prefixes.{upTo, upTo-low}
 use Rattle.ewah_write.specs.Drafts.{Tracks}
 use Rattle.ewah_write.proofs.Growing.{used-is}
+use Rattle.ewah_write.proofs.WordByWord.{no-words, word-inside, word-last}
 use Rattle.ewah_write.proofs.compress.measure.Statement.{statement}
 use Rattle.ewah_write.proofs.compress.measure.Tie as tie
 
 abbrev Inv-loop : tie.InvT-loop
-Inv-loop plain w₀ i₀ w i = (i ≤ length plain) × Tracks w (upTo (map (kind 32) plain) i)
+Inv-loop plain rows last w₀ i₀ w i = (i ≤ last) × Tracks w (upTo (kinds 32 rows plain) i)
 
 abbrev μ-loop : tie.MeasureT-loop
-μ-loop plain w₀ i₀ w i = length plain - i
+μ-loop plain rows last w₀ i₀ w i = last - i
+
+returns : tie.Need-returns Inv-loop μ-loop
+returns c =
+    let s = c .before .before in
+    ap length (no-words (s .args .rows) (now (s .args .plain)) (c .if1 .taken))
+
+sub-last : tie.Need-sub-last Inv-loop μ-loop
+sub-last c = search needs
 
 start-requires : tie.Need-start-requires Inv-loop μ-loop
 start-requires c κs = search needs
@@ -31,11 +40,23 @@ mul-grow-segment c = search needs
 shared-slice-read-grow-segment : tie.Need-shared-slice-read-grow-segment Inv-loop μ-loop
 shared-slice-read-grow-segment c = search needs
 
+-- where the loop stands
+module _ (t : tie.At-loop Inv-loop μ-loop) where
+  abbrev call : tie.Start Inv-loop μ-loop
+  call = t .before .before .before .before
+
+  abbrev so-far : Draft
+  so-far = upTo (kinds 32 (call .args .rows) (now (call .args .plain))) (t .loop .i)
+
+  low : t .loop .w .used < 2 ^ 62
+  low =
+      let passed = upTo-low (kinds 32 (call .args .rows) (now (call .args .plain))) (t .loop .i) in
+      omega (arith, used-is so-far (t .loop .inv .1), passed, call .good)
+
 grow-segment-requires : tie.Need-grow-segment-requires Inv-loop μ-loop
 grow-segment-requires c κs =
-    let h = c .before .before .loop in
-    let ss = map (kind 32) (now (c .before .before .before .before .before .args .plain)) in
-    ((upTo ss (h .i), h .inv .1), omega (arith, used-is (upTo ss (h .i)) (h .inv .1), upTo-low ss (h .i), c .before .before .before .before .before .good))
+    let t = c .before .before in
+    ((so-far t, t .loop .inv .1), low t)
 
 add-i : tie.Need-add-i Inv-loop μ-loop
 add-i c = search needs
@@ -45,15 +66,26 @@ loop-less c = search needs
 
 loop-again : tie.Need-loop-again Inv-loop μ-loop
 loop-again c =
-    let h = c .before .before .before .loop in
-    let plain = now (c .before .before .before .before .before .before .args .plain) in
-    (omega arith, rw (upTo-word plain (h .i) (c .before .before .loop-test .taken)) (c .grow-segment .ensures (upTo (map (kind 32) plain) (h .i)) (h .inv .1)))
+    let t = c .before .before .before in
+    let e = word-inside (call t .pre) (t .loop .i) (c .before .before .loop-test .taken) in
+    (omega arith, rw e (c .grow-segment .ensures (so-far t) (t .loop .inv .1)))
 
-returns : tie.Need-returns Inv-loop μ-loop
-returns c =
-    let h = c .before .loop in
-    let ss = map (kind 32) (now (c .before .before .before .before .args .plain)) in
-    used-is (upTo ss (h .i)) (h .inv .1) ∙ ap length (upTo-all ss (h .i) (rw length-map (c .loop-test .left)))
+last-word-requires : tie.Need-last-word-requires Inv-loop μ-loop
+last-word-requires c κs = search needs
+
+grow-segment-requires-2 : tie.Need-grow-segment-requires-2 Inv-loop μ-loop
+grow-segment-requires-2 c κs =
+    let t = c .before .before in
+    ((so-far t, t .loop .inv .1), low t)
+
+returns-2 : tie.Need-returns-2 Inv-loop μ-loop
+returns-2 c =
+    let t = c .before .before .before in
+    let h = t .loop in
+    let w = c .before .last-word in
+    let some = t .before .before .if1 .left in
+    let done = word-last (call t .pre) (h .i) some (h .inv .0) (c .before .before .loop-test .left) in
+    used-is _ (c .grow-segment2 .ensures (so-far t) (h .inv .1)) ∙ ap length (done (w .result) (w .ensures))
 
 pub measure-spec : {M : Type 1} → statement M
 measure-spec =
@@ -61,6 +93,8 @@ measure-spec =
     (tie.spec
     Inv-loop
     μ-loop
+    returns
+    sub-last
     start-requires
     loop-holds
     mul-grow-segment
@@ -69,4 +103,6 @@ measure-spec =
     add-i
     loop-less
     loop-again
-    returns)
+    last-word-requires
+    grow-segment-requires-2
+    returns-2)

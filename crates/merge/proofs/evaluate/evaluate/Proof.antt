@@ -3,41 +3,37 @@
 use mathlib.Core.Path.{sym, _∙_}
 use denote.Ref.{now}
 use borrow.Author.Needs.{needs}
-use Rattle.merge.proofs.Evaluating.{word-part, zeros-part, ones-part, tail-part}
+use Rattle.merge.proofs.Evaluating.{word-part, zeros-part, ones-part}
 use Rattle.merge.proofs.evaluate.evaluate.Statement.{statement}
 use Rattle.merge.proofs.evaluate.evaluate.Tie as tie
 
 word-requires : tie.Need-word-requires
 word-requires c κs = search needs
 
+spelled-requires : tie.Need-spelled-requires
+spelled-requires c κs = search needs
+
 returns : tie.Need-returns
 returns c =
-    let a = c .before .before .before .before .before .args in
-    word-part (a .op) (now (a .table)) (a .s) (a .mask) (c .before .before .if1 .taken) (c .word .result) (c .word .ensures)
+    let w = c .before .word in
+    let a = c .before .before .before .before .before .before .args in
+    word-part (a .op) (now (a .table)) (a .s) (a .mask) (c .before .before .before .if1 .taken)
+    (w .result) (w .ensures) (c .spelled .result) (c .spelled .ensures)
 
 holds-requires : tie.Need-holds-requires
 holds-requires c κs = search needs
 
 returns-2 : tie.Need-returns-2
 returns-2 c =
-    let a = c .before .before .before .before .before .before .args in
-    let e = sym (c .before .before .holds .ensures) ∙ c .before .if2 .taken in
-    ones-part (a .op) (now (a .table)) (a .s) (a .mask) (c .before .before .before .if1 .left) e (c .if3 .taken)
-
-sub-t13 : tie.Need-sub-t13
-sub-t13 c = search needs
+    let a = c .before .before .before .before .before .args in
+    let e = sym (c .before .holds .ensures) ∙ c .if2 .taken in
+    ones-part (a .op) (now (a .table)) (a .s) (a .mask) (c .before .before .if1 .left) e
 
 returns-3 : tie.Need-returns-3
 returns-3 c =
-    let a = c .before .before .before .before .before .before .args in
-    let e = sym (c .before .before .holds .ensures) ∙ c .before .if2 .taken in
-    tail-part (a .op) (now (a .table)) (a .s) (a .mask) (c .before .before .before .if1 .left) e (c .if3 .left)
-
-returns-4 : tie.Need-returns-4
-returns-4 c =
     let a = c .before .before .before .before .before .args in
-    zeros-part (a .op) (now (a .table)) (a .s) (a .mask) (c .before .before .if1 .left) (sym (c .before .holds .ensures) ∙ c .if2 .left)
+    let e = sym (c .before .holds .ensures) ∙ c .if2 .left in
+    zeros-part (a .op) (now (a .table)) (a .s) (a .mask) (c .before .before .if1 .left) e
 
 pub evaluate-spec : {M : Type 1} → statement M
-evaluate-spec =
-    tie.close (tie.spec word-requires returns holds-requires returns-2 sub-t13 returns-3 returns-4)
+evaluate-spec = tie.close (tie.spec word-requires spelled-requires returns holds-requires returns-2 returns-3)
