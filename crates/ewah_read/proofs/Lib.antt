@@ -1,1 +1,2 @@
+pub mod LastSegment
 pub mod Passing

@@ -3,9 +3,13 @@ ghost use mathlib.Core.Path.{_≡_};
 ghost use mathlib.Core.List.{_++_};
 ghost use Prim.Native.Nat.{_+_, _≤_, _<_};
 ghost use lib.ListN.{length, drop, replicate};
-ghost use Rattle.meaning.specs.Segment.{fill};
-ghost use Rattle.meaning.specs.Ewah.{segments, dueAfter};
+ghost use Rattle.meaning.specs.Limits.{mostRows};
+ghost use Rattle.meaning.specs.Segment.{fill, segmentCount, fromRows};
+ghost use Rattle.meaning.specs.Ewah.{segments, rowsOf, dueAfter};
+ghost use Rattle.meaning.specs.Laws.{SoundFacts};
 use ewah::marker;
+use words::bits;
+use words::rows;
 
 // Every word is x.
 fn fill(out: &mut [u32], x: u32)
@@ -39,8 +43,8 @@ fn place(out: &mut [u32], value: u32, clean: usize, dirty: &[u32])
     copy(&mut out[clean..], dirty);
 }
 
-// The first words are the body's segments; those behind stay.
-pub fn expand(body: &[u32], out: &mut [u32])
+// The first words are the body's segments, as it spells them; those behind stay.
+fn spread(body: &[u32], out: &mut [u32])
     requires { ⌜ (dueAfter 0 (now body) ≡ 0) × (length (segments (now body)) ≤ length (now out)) ⌝ }
     ensures { λ _. ⌜ now (out .exit)
         ≡ segments (now (body .entry)) ++ drop (length (segments (now (body .entry)))) (now (out .entry)) ⌝ }
@@ -57,4 +61,18 @@ pub fn expand(body: &[u32], out: &mut [u32])
         o = end;
         at = next;
     }
+}
+
+// The first words are those of the body's rows, with no pad bit set; those behind stay.
+pub fn expand(body: &[u32], rows: u32, out: &mut [u32])
+    requires { ⌜ (rows ≤ mostRows) × SoundFacts rows (now body) × (segmentCount 32 rows ≤ length (now out)) ⌝ }
+    ensures { λ _. ⌜ now (out .exit)
+        ≡ fromRows 32 rows (rowsOf (now (body .entry))) ++ drop (segmentCount 32 rows) (now (out .entry)) ⌝ }
+{
+    spread(body, out);
+    if rows == 0 {
+        return;
+    }
+    let last = ((rows - 1) >> 5) as usize;
+    out[last] = out[last] & bits::low_ones(rows::last_rows(rows));
 }

@@ -1,4 +1,4 @@
-// Questions on one EWAH body whose last marker has all its dirty words: row, count, nth, plain words. Each goes from marker to marker.
+// Questions on one EWAH body that has no fault: row, count, nth, plain words. Each goes from marker to marker.
 // Calls here have a `requires`; the public ones of `zvonurel` test their input first.
 pub mod count;
 pub mod expand;

@@ -1,11 +1,11 @@
 // The nth set row, in one pass: markers, and many dirty words at once, are passed by their counts until some have it.
 ghost use mathlib.Core.Path.{_≡_};
 ghost use mathlib.Core.List.{_++_};
-ghost use Prim.Native.Nat.{ℕ, _+_, _-_, _*_, _≤_, _<_};
+ghost use Prim.Native.Nat.{_+_, _-_, _*_, _≤_, _<_};
 ghost use lib.ListN.{length, take, drop, replicate};
-ghost use Rattle.meaning.specs.Limits.{mostSegments, mostClean, mostDirty};
+ghost use Rattle.meaning.specs.Limits.{mostRows, mostSegments, mostClean, mostDirty};
 ghost use Rattle.meaning.specs.Segment.{hasRow, ones, fill};
-ghost use Rattle.meaning.specs.Ewah.{segments, rowsOf, dueAfter};
+ghost use Rattle.meaning.specs.Ewah.{rowsOf};
 ghost use Rattle.meaning.specs.Laws.{SoundFacts};
 ghost use Rattle.meaning.specs.Answer.{askNth};
 ghost use Rattle.meaning.specs.Demands.{IsNth};
@@ -111,11 +111,10 @@ pub enum Found {
     Past,
 }
 
-// The nth set row, from 0.
-pub fn nth(body: &[u32], n: u32) -> Found
-    requires { ⌜ (dueAfter 0 (now body) ≡ 0) × (length (segments (now body)) ≤ mostSegments) ⌝ }
-    ensures { λ r. ⌜ ((R : ℕ) → SoundFacts R (now (body .entry))
-        → foundOf r ≡ askNth R (rowsOf (now (body .entry))) n) ⌝ }
+// The nth set row, from 0. A set bit past the last row is a pad bit of a run of ones, and none.
+pub fn nth(body: &[u32], rows: u32, n: u32) -> Found
+    requires { ⌜ (rows ≤ mostRows) × SoundFacts rows (now body) ⌝ }
+    ensures { λ r. ⌜ foundOf r ≡ askNth rows (rowsOf (now (body .entry))) n ⌝ }
 {
     let mut at = 0;
     let mut behind = 0;
@@ -125,7 +124,13 @@ pub fn nth(body: &[u32], n: u32) -> Found
         let from = at + 1;
         let next = from + m.dirty as usize;
         match seek(m.value, m.clean, body, from, next, ahead) {
-            Sought::Here(r) => return Found::Row(behind * 32 + r),
+            Sought::Here(r) => {
+                let row = behind * 32 + r;
+                if row < rows {
+                    return Found::Row(row);
+                }
+                return Found::Past;
+            }
             Sought::Ahead(k) => ahead = k,
         }
         behind = behind + m.clean + m.dirty;

@@ -20,7 +20,7 @@ returns : tie.Need-returns
 returns c =
     let v = c .args .value in
     let n = c .args .clean in
-    ap (λ (k : ℕ). n * k) (sym (fill-count 32 32 v (c .pre .0))) ∙ sym (ones-replicate 32 n (fill 32 v))
+    ap (λ (k : ℕ). n * k) (sym (fill-count 32 v (c .pre .0))) ∙ sym (ones-replicate 32 n (fill 32 v))
 
 pub count-run-spec : {M : Type 1} → statement M
 count-run-spec = tie.close (tie.spec mul-result mul-result-2 returns)

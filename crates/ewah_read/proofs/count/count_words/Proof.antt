@@ -20,12 +20,12 @@ count-each-requires c κs = search needs
 returns-2 : tie.Need-returns-2
 returns-2 c = search needs
 
-count-requires : tie.Need-count-requires
-count-requires c κs = search needs
+count-many-requires : tie.Need-count-many-requires
+count-many-requires c κs = search needs
 
 returns-3 : tie.Need-returns-3
 returns-3 c = search needs
 
 pub count-words-spec : {M : Type 1} → statement M
 count-words-spec =
-    tie.close (tie.spec returns sub-if2 count-each-requires returns-2 count-requires returns-3)
+    tie.close (tie.spec returns sub-if2 count-each-requires returns-2 count-many-requires returns-3)

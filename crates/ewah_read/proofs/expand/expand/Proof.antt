@@ -1,167 +1,123 @@
--- `ewah_read::expand::expand` meets its contract. The invariant: the walk stands at a marker with o segments behind; these are written,
--- and the words behind them are as they were.
+-- `ewah_read::expand::expand` meets its contract: the segments are written and the last of them is cut, by `cut-part`;
+-- so they are the words of the rows, by `cut-decide`.
 -- Assumes nothing.
 use borrow.Author.Needs.{needs}
 use native.Mathlib.Omega.{arith}
-use Prim.Native.Nat.{ℕ, _+_, _-_}
+use Prim.Native.Nat.{ℕ, suc, _-_, _/_, _^_, _<_}
 use mathlib.Core.Path.{_≡_, refl, sym, ap, ap₂, _∙_}
 use mathlib.Core.List.{List, _++_}
 use denote.Ref.{now}
-use lib.ListN.{length, take, drop, replicate}
-use lib.Seq.{take-length, length-take-le}
-use borrow.Rule.Slice.PartMut.{mid-len}
-use Rattle.meaning.specs.Ewah.{segments}
-use Rattle.meaning.proofs.Walk.{At, Step, at-start, at-end}
-use Rattle.meaning.proofs.Parts.{part-is, replace-part}
-use Rattle.meaning.specs.Segment.{fill}
-use Rattle.ewah.proofs.MarkerStep.{read-step}
+use lib.Bits.{bitAnd, and-mask}
+use lib.ListN.{length, getD, set, drop, List·getD-append}
+use Rattle.meaning.specs.Segment.{cut, fromRows, segmentCount, lastLimit, lastRows}
+use Rattle.meaning.specs.Ewah.{segments, rowsOf}
+use Rattle.meaning.specs.Laws.{SoundFacts}
+use Rattle.meaning.specs.Demands.{Words}
+use Rattle.meaning.proofs.Cut.{cut-part, cut-none, cut-decide}
+use Rattle.meaning.proofs.CanonicalBody.{decoded-words}
 use Rattle.ewah_read.proofs.expand.expand.Statement.{statement}
 use Rattle.ewah_read.proofs.expand.expand.Tie as tie
 
-abbrev Inv-loop : tie.InvT-loop
-Inv-loop body out₀ at₀ o₀ out at o = At body at 0 o × (length out ≡ length out₀) × (out ≡ take o (segments body) ++ drop o out₀)
+-- a sound body's segments, cut, are the words of its rows
+module _ (R : ℕ) (b : List ℕ) (s : SoundFacts R b) (words : Words b) where
+  cut-rows : cut 32 R (segments b) ≡ fromRows 32 R (rowsOf b)
+  unfolding rowsOf
+  cut-rows = cut-decide 32 (omega arith) R (rowsOf b) (segments b) (s .count) (decoded-words b words) (λ r h. refl)
 
-abbrev μ-loop : tie.MeasureT-loop
-μ-loop body out₀ at₀ o₀ out at o = length body - at
+  module _ (l out : List ℕ) (spread : l ≡ segments b ++ drop (length (segments b)) out) where
+    -- where there are none
+    none : R ≡ 0 → l ≡ fromRows 32 R (rowsOf b) ++ drop (segmentCount 32 R) out
+    none z =
+        let e : length (segments b) ≡ 0 = s .count ∙ (unfold segmentCount in omega arith) in
+        let same = sym (cut-none 32 R (segments b) e) ∙ cut-rows in
+        spread ∙ ap₂ (λ (xs : List ℕ) (k : ℕ). xs ++ drop k out) same (s .count)
 
--- the step over the marker that was read
-over : (c : tie.After-read Inv-loop μ-loop)
-    → let h = c .before .before .before in
-    let m = c .read .result in
-    Step (now (h .before .before .before .args .body)) (h .loop .at) (h .loop .o) (m .value) (m .clean) (m .dirty)
-over c =
-    let h = c .before .before .before in
-    read-step (now (h .before .before .before .args .body)) (h .loop .at) (h .loop .o) (c .read .result) (h .loop .inv .0) (c .before .before .loop-test .taken) (c .read .ensures)
+    -- where the last of them is masked
+    masked : (n m : ℕ) → suc n ≡ segmentCount 32 R → m ≡ 2 ^ lastRows 32 R - 1
+        → set l n (bitAnd (getD l n 0) m) ≡ fromRows 32 R (rowsOf b) ++ drop (segmentCount 32 R) out
+    unfolding lastLimit
+    masked n m e g =
+        let xs = segments b in
+        let w : getD (xs ++ drop (length xs) out) n 0 ≡ getD xs n 0 =
+        List·getD-append xs (drop (length xs) out) 0 n (omega (arith, s .count)) in
+        rw (spread, w, g, and-mask (getD xs n 0) (lastRows 32 R))
+        (cut-part 32 R xs (drop (length xs) out) n (omega (arith, s .count))
+        ∙ ap₂ (λ (ys : List ℕ) (k : ℕ). ys ++ drop k out) cut-rows (s .count))
 
-loop-holds : tie.Need-loop-holds Inv-loop μ-loop
-loop-holds c = (at-start (now (c .before .before .args .body)) (c .before .before .pre .0), refl, refl)
+module _ (t : tie.After-spread) where
+  abbrev call : tie.Start
+  call = t .before .before .before .before
 
-mul-read : tie.Need-mul-read Inv-loop μ-loop
-mul-read c = search needs
+  body-words : Words (now (call .args .body))
+  body-words = λ i. t .before .before .before .shared-slice-known .given i .fits
 
-shared-slice-read-read : tie.Need-shared-slice-read-read Inv-loop μ-loop
-shared-slice-read-read c = search needs
+  -- the last segment is one of the buffer's words
+  inside : (call .args .rows ≡ 0 → ⊥) → (call .args .rows - 1) / 32 < length (t .spread .last .1 .0)
+  unfolding segmentCount
+  inside h = omega (arith, call .pre .2, t .spread .kept .1 .0)
 
-read-requires : tie.Need-read-requires Inv-loop μ-loop
-read-requires c κs = search needs
+spread-requires : tie.Need-spread-requires
+spread-requires c κs = search needs
 
-add-from : tie.Need-add-from Inv-loop μ-loop
-add-from c = search needs
-
-cast-next : tie.Need-cast-next Inv-loop μ-loop
-cast-next c = search needs
-
-add-next : tie.Need-add-next Inv-loop μ-loop
-add-next c = search needs
-
-cast-clean : tie.Need-cast-clean Inv-loop μ-loop
-cast-clean c = search needs
-
-add-end : tie.Need-add-end Inv-loop μ-loop
-add-end c = search needs
-
-cast-end : tie.Need-cast-end Inv-loop μ-loop
-cast-end c = search needs
-
-add-end-2 : tie.Need-add-end-2 Inv-loop μ-loop
-add-end-2 c = search needs
-
-mul-place : tie.Need-mul-place Inv-loop μ-loop
-mul-place c = search needs
-
-sub-place : tie.Need-sub-place Inv-loop μ-loop
-sub-place c = search needs
-
-part-place-start : tie.Need-part-place-start Inv-loop μ-loop
-part-place-start c = search needs
-
-part-place-end : tie.Need-part-place-end Inv-loop μ-loop
-part-place-end c = omega (arith, over (c .before .before .before) .counts)
-
-mul-place-2 : tie.Need-mul-place-2 Inv-loop μ-loop
-mul-place-2 c = search needs
-
-sub-place-2 : tie.Need-sub-place-2 Inv-loop μ-loop
-sub-place-2 c = search needs
-
-part-place-start-2 : tie.Need-part-place-start-2 Inv-loop μ-loop
-part-place-start-2 c = search needs
-
-part-place-end-2 : tie.Need-part-place-end-2 Inv-loop μ-loop
-part-place-end-2 c = omega (arith, over (c .before .before .before .before) .fits)
-
-place-requires : tie.Need-place-requires Inv-loop μ-loop
-place-requires c κs =
-    let r = c .before .before .before .before .before in
-    let h = r .before .before .before in
-    let m = r .read .result in
-    let s = over r in
-    let from = h .loop .at + 1 in
-    let end = h .loop .o + m .clean + m .dirty in
-    let a : length (take (end - h .loop .o) (drop (h .loop .o) (h .loop .out))) ≡ end - h .loop .o = mid-len (h .loop .o) end (h .loop .out) (omega arith) in
-    (omega arith, omega (arith, mid-len from (from + m .dirty) (now (h .before .before .before .args .body)) (s .fits)))
-
-loop-less : tie.Need-loop-less Inv-loop μ-loop
-loop-less c = search needs
-
-loop-again : tie.Need-loop-again Inv-loop μ-loop
-loop-again c =
-    let t = c .before .before in
-    let r = t .before .before .before .before .before .before in
-    let h = r .before .before .before in
-    let m = r .read .result in
-    let s = over r in
-    let b = now (h .before .before .before .args .body) in
-    let l = now (h .before .before .before .args .out) in
-    let o = h .loop .o in
-    let end = o + m .clean + m .dirty in
-    let new : t .place .last .0 ≡ replicate (m .clean) (fill 32 (m .value)) ++ take (m .dirty) (drop (h .loop .at + 1) b) = rw part-is at (t .place .ensures) in (
-      s .next,
-      c .before .out .given .1 ∙ h .loop .inv .1,
-      ap₂ (λ (xs ys : List ℕ). take o xs ++ (ys ++ drop (end - o) (drop o xs))) (h .loop .inv .2) new
-          ∙ replace-part (take o (segments b)) l (replicate (m .clean) (fill 32 (m .value)) ++ take (m .dirty) (drop (h .loop .at + 1) b)) o end (length-take-le o (segments b) (omega arith)) (omega arith)
-          ∙ ap (λ (xs : List ℕ). xs ++ drop end l) (sym (s .more)),
-    )
-
-same-length : tie.Need-same-length Inv-loop μ-loop
+same-length : tie.Need-same-length
 same-length c = search needs
 
-returns : tie.Need-returns Inv-loop μ-loop
+returns : tie.Need-returns
 returns c =
-    let b = now (c .before .before .before .before .args .body) in
-    let l = now (c .before .before .before .before .args .out) in
-    let h = c .before .loop in
-    h .inv .2
-    ∙ ap (λ (o : ℕ). take o (segments b) ++ drop o l) (at-end b (h .at) (h .o) (h .inv .0) (c .loop-test .left))
-    ∙ ap (λ (s : List ℕ). s ++ drop (length (segments b)) l) (take-length (segments b))
+    let t = c .before .before .before in
+    let a = call t .args in
+    none (a .rows) (now (a .body)) (call t .pre .1) (body-words t) _ (now (a .out)) (t .spread .ensures) (c .if1 .taken)
+
+sub-last : tie.Need-sub-last
+sub-last c = search needs
+
+cast-last : tie.Need-cast-last
+cast-last c = search needs
+
+mul-out : tie.Need-mul-out
+mul-out c = search needs
+
+slice-read-out : tie.Need-slice-read-out
+slice-read-out c = inside (c .before .before .before .before) (c .before .if1 .left)
+
+last-rows-requires : tie.Need-last-rows-requires
+last-rows-requires c κs = search needs
+
+low-ones-requires : tie.Need-low-ones-requires
+low-ones-requires c κs = search needs
+
+mul-out-2 : tie.Need-mul-out-2
+mul-out-2 c = search needs
+
+slice-write-out : tie.Need-slice-write-out
+slice-write-out c = inside (c .before .before .before .before .before .before) (c .before .before .before .if1 .left)
+
+same-length-2 : tie.Need-same-length-2
+same-length-2 c = search needs
+
+returns-2 : tie.Need-returns-2
+unfolding segmentCount
+returns-2 c =
+    let t = c .before .before .before .before .before .before in
+    let a = call t .args in
+    let limit = c .low-ones .ensures ∙ ap (λ (k : ℕ). 2 ^ k - 1) (c .before .last-rows .ensures .0) in
+    masked (a .rows) (now (a .body)) (call t .pre .1) (body-words t) _ (now (a .out)) (t .spread .ensures) _ _
+    (omega (arith, c .before .before .before .if1 .left)) limit
 
 pub expand-spec : {M : Type 1} → statement M
 expand-spec =
     tie.close
     (tie.spec
-    Inv-loop
-    μ-loop
-    loop-holds
-    mul-read
-    shared-slice-read-read
-    read-requires
-    add-from
-    cast-next
-    add-next
-    cast-clean
-    add-end
-    cast-end
-    add-end-2
-    mul-place
-    sub-place
-    part-place-start
-    part-place-end
-    mul-place-2
-    sub-place-2
-    part-place-start-2
-    part-place-end-2
-    place-requires
-    loop-less
-    loop-again
+    spread-requires
     same-length
-    returns)
+    returns
+    sub-last
+    cast-last
+    mul-out
+    slice-read-out
+    last-rows-requires
+    low-ones-requires
+    mul-out-2
+    slice-write-out
+    same-length-2
+    returns-2)

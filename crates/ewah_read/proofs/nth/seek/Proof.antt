@@ -25,7 +25,7 @@ module _ (clean value : ℕ) (ws : List ℕ) where
   in-run : (k : ℕ) → value < 2 → k < ones 32 (replicate clean (fill 32 value))
       → IsNth (length both * 32) (hasRow 32 both) k k
   in-run k h few =
-      nth-left 32 (lit< tt) (replicate clean (fill 32 value)) ws k k (nth-run 32 (lit< tt) clean 32 value k h few)
+      nth-left 32 (lit< tt) (replicate clean (fill 32 value)) ws k k (nth-run 32 (lit< tt) clean value k h few)
 
   -- in the words it is theirs, behind the run's rows
   in-words : (j k r : ℕ) → ones 32 (replicate clean (fill 32 value)) + j ≡ k
