@@ -1,15 +1,17 @@
 // How many rows are set, marker by marker: its clean run at once, as the library counts it, its dirty words bit by bit.
 ghost use mathlib.Core.Path.{_≡_};
-ghost use Prim.Native.Nat.{ℕ, _≤_};
+ghost use Prim.Native.Nat.{_≤_};
 ghost use lib.ListN.{length};
-ghost use Rattle.meaning.specs.Limits.{mostSegments};
+ghost use Rattle.meaning.specs.Limits.{mostRows, mostSegments};
 ghost use Rattle.meaning.specs.Rows.{countBelow};
 ghost use Rattle.meaning.specs.Segment.{ones, isSet};
-ghost use Rattle.meaning.specs.Ewah.{segments, rowsOf, dueAfter};
+ghost use Rattle.meaning.specs.Ewah.{rowsOf};
 ghost use Rattle.meaning.specs.Laws.{SoundFacts};
 use ewah::marker;
 use ewah_read::count::count_run;
+use ewah_read::count::pads_set;
 use words::bits;
+use words::rows;
 
 // How many bits of a word are set.
 pub fn count_word(x: u32) -> u32
@@ -40,19 +42,23 @@ pub fn count_words(ws: &[u32]) -> u32
     n
 }
 
-// How many rows are set.
-pub fn count(body: &[u32]) -> u32
-    requires { ⌜ (dueAfter 0 (now body) ≡ 0) × (length (segments (now body)) ≤ mostSegments) ⌝ }
-    ensures { λ r. ⌜ ((R : ℕ) → SoundFacts R (now (body .entry)) → r ≡ countBelow R (rowsOf (now (body .entry)))) ⌝ }
+// How many rows are set. The walk ends with the marker of the last segment.
+pub fn count(body: &[u32], rows: u32) -> u32
+    requires { ⌜ (rows ≤ mostRows) × SoundFacts rows (now body) ⌝ }
+    ensures { λ r. ⌜ r ≡ countBelow rows (rowsOf (now (body .entry))) ⌝ }
 {
     let mut n = 0;
     let mut at = 0;
-    while at < body.len() {
-        let m = marker::read(body[at]);
+    let mut left = rows::segment_count(rows);
+    let mut last = 0;
+    while 0 < left {
+        last = body[at];
+        let m = marker::read(last);
         let from = at + 1;
         let next = from + m.dirty as usize;
         n += count_run(m.value, m.clean) + count_words(&body[from..next]);
+        left = left - m.clean - m.dirty;
         at = next;
     }
-    n
+    n - pads_set(last, rows)
 }

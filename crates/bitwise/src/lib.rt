@@ -19,7 +19,7 @@ pub fn body_count(body: &[u32], rows: u32) -> Number
     let checked = zvonurel::check_body(body, rows);
     match checked {
         Checked::Refused(refusal) => Number::Refused(refusal),
-        Checked::Sound => Number::Is(count::count(body)),
+        Checked::Sound => Number::Is(count::count(body, rows)),
     }
 }
 

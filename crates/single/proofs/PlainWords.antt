@@ -3,14 +3,14 @@
 use Prim.Native.Nat.{ℕ, _-_, _^_, _≤_, _<_}
 use mathlib.Core.Bool.{Bool, true, false, not}
 use mathlib.Core.Path.{_≡_, refl, sym, ap, _∙_}
-use mathlib.Core.List.{List, [], _∷_, _++_, map}
+use mathlib.Core.List.{List, [], _∷_, _++_}
 use native.Mathlib.Omega.{arith}
 use borrow.Author.Tests.{lt-ltb, le-ltb, ltb-false, eq-eqb, ne-eqb, eqb-true, lt-leb, leb-false, not-false}
 use lib.Dec.{eqb, leb, ltb}
 use lib.ListN.{length, drop, getD}
 use lib.Pow.{pow-pos}
 use Rattle.meaning.specs.Limits.{mostRows}
-use Rattle.meaning.specs.Segment.{kind, segmentCount, lastRows, lastLimit, lastOf, hasRow}
+use Rattle.meaning.specs.Segment.{kinds, segmentCount, lastRows, lastLimit, lastOf, hasRow}
 use Rattle.meaning.specs.Refusal.{refused, sound, refuseIf, _then_}
 use Rattle.meaning.specs.Canonical.{canonicalOf, canonical}
 use Rattle.meaning.specs.Demands.{Words, PlainRows}
@@ -76,13 +76,13 @@ module _ (R : ℕ) (plain : List ℕ) where
       }
 
   -- valid plain words are the segments of their rows
-  canonical-plain : PlainRows R plain → canonical R (hasRow 32 plain) ≡ canonicalOf (map (kind 32) plain)
+  canonical-plain : PlainRows R plain → canonical R (hasRow 32 plain) ≡ canonicalOf (kinds 32 R plain)
   canonical-plain g =
-      canonical-is R (hasRow 32 plain)
-      ∙ ap encoded (sym (rows-decide 32 (omega arith) R (hasRow 32 plain) plain (g .count) (g .words) (g .pads) (λ r h. refl)))
-      ∙ (unfold encoded in refl)
+      let p = hasRow 32 plain in
+      let same = rows-decide 32 (omega arith) R p plain (g .count) (g .words) (g .pads) (λ r h. refl) in
+      canonical-is R p ∙ ap (encoded R) (sym same) ∙ (unfold encoded in refl)
 
-  module _ (g : PlainRows R plain) (out : List ℕ) (n : ℕ) (is : n ≡ length (canonicalOf (map (kind 32) plain))) where
+  module _ (g : PlainRows R plain) (out : List ℕ) (n : ℕ) (is : n ≡ length (canonicalOf (kinds 32 R plain))) where
     same-length : n ≡ length (canonical R (hasRow 32 plain))
     same-length = is ∙ ap length (sym (canonical-plain g))
 
@@ -90,8 +90,9 @@ module _ (R : ℕ) (plain : List ℕ) where
     unfolding write
     write-none r e h = rw e (wrote-none out (canonical R (hasRow 32 plain)) n same-length h)
 
-    pub write-words : (out′ : List ℕ) → n ≤ length out → out′ ≡ canonicalOf (map (kind 32) plain) ++ drop n out → Wrote (write R (hasRow 32 plain) (length out)) (written.Words n) out out′
+    pub write-words : (out′ : List ℕ) → n ≤ length out → out′ ≡ canonicalOf (kinds 32 R plain) ++ drop n out
+        → Wrote (write R (hasRow 32 plain) (length out)) (written.Words n) out out′
     unfolding write
     write-words out′ h e =
         wrote-words out (canonical R (hasRow 32 plain)) n same-length out′ h
-        (rw (canonical-plain g) (e ∙ ap (λ (k : ℕ). canonicalOf (map (kind 32) plain) ++ drop k out) is))
+        (rw (canonical-plain g) (e ∙ ap (λ (k : ℕ). canonicalOf (kinds 32 R plain) ++ drop k out) is))

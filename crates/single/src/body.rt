@@ -1,9 +1,9 @@
 // Questions on a body that has no fault: what is left to be refused, and the answer.
 ghost use mathlib.Core.Path.{_≡_};
-ghost use Prim.Native.Nat.{ℕ, _≤_};
+ghost use Prim.Native.Nat.{_≤_};
 ghost use lib.ListN.{length};
-ghost use Rattle.meaning.specs.Limits.{mostRows, mostSegments};
-ghost use Rattle.meaning.specs.Ewah.{rowsOf, segments, dueAfter};
+ghost use Rattle.meaning.specs.Limits.{mostRows};
+ghost use Rattle.meaning.specs.Ewah.{rowsOf};
 ghost use Rattle.meaning.specs.Laws.{SoundFacts};
 ghost use Rattle.meaning.specs.Answer as meaning;
 ghost use Rattle.answers.specs.Told.{flagOf, numberOf, Wrote};
@@ -29,12 +29,12 @@ pub fn row(body: &[u32], rows: u32, r: u32) -> Flag
 }
 
 // The nth set row; 8 where there are not so many.
-pub fn nth(body: &[u32], n: u32) -> Number
-    requires { ⌜ (dueAfter 0 (now body) ≡ 0) × (length (segments (now body)) ≤ mostSegments) ⌝ }
-    ensures { λ x. ⌜ ((R : ℕ) → SoundFacts R (now (body .entry))
-        → numberOf x ≡ meaning.askNth R (rowsOf (now (body .entry))) n) ⌝ }
+pub fn nth(body: &[u32], rows: u32, n: u32) -> Number
+    requires { ⌜ rows ≤ mostRows ⌝ }
+    requires { ⌜ SoundFacts rows (now body) ⌝ }
+    ensures { λ x. ⌜ numberOf x ≡ meaning.askNth rows (rowsOf (now (body .entry))) n ⌝ }
 {
-    let found = nth::nth(body, n);
+    let found = nth::nth(body, rows, n);
     match found {
         Found::Row(r) => Number::Is(r),
         Found::Past => Number::Refused(answer::bad_argument()),
@@ -52,6 +52,6 @@ pub fn plain(body: &[u32], rows: u32, out: &mut [u32]) -> Written
     if out.len() < need {
         return Written::Refused(answer::no_room(need as u64));
     }
-    expand::expand(body, out);
+    expand::expand(body, rows, out);
     Written::Words(need)
 }

@@ -1,6 +1,5 @@
 // Plain words: their first fault, and the body written from them.
 ghost use mathlib.Core.Path.{_≡_};
-ghost use Prim.Native.Nat.{ℕ};
 ghost use lib.ListN.{length};
 ghost use Rattle.meaning.specs.Segment.{hasRow};
 ghost use Rattle.meaning.specs.Demands.{PlainRows};
@@ -34,14 +33,14 @@ pub fn check_plain(plain: &[u32], rows: u32) -> Checked
 }
 
 // Plain words written in canonical form; 9 where they do not fit.
-pub fn write_plain(plain: &[u32], out: &mut [u32]) -> Written
-    ensures { λ r. ⌜ ((R : ℕ) → PlainRows R (now (plain .entry))
-        → Wrote (meaning.write R (hasRow 32 (now (plain .entry))) (length (now (out .entry))))
-        r (now (out .entry)) (now (out .exit))) ⌝ }
+pub fn write_plain(plain: &[u32], rows: u32, out: &mut [u32]) -> Written
+    requires { ⌜ PlainRows rows (now plain) ⌝ }
+    ensures { λ r. ⌜ Wrote (meaning.write rows (hasRow 32 (now (plain .entry))) (length (now (out .entry))))
+        r (now (out .entry)) (now (out .exit)) ⌝ }
 {
-    let need = compress::measure(plain);
+    let need = compress::measure(plain, rows);
     if out.len() < need {
         return Written::Refused(answer::no_room(need as u64));
     }
-    Written::Words(compress::write(plain, out))
+    Written::Words(compress::write(plain, rows, out))
 }

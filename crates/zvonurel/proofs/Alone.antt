@@ -5,12 +5,11 @@ use Prim.Native.Nat.{ℕ, _≤_, _<_}
 use mathlib.Core.Path.{_≡_, ap}
 use mathlib.Core.List.{List}
 use lib.Dec.{ltb}
-use lib.ListN.{length}
 use borrow.Author.Tests.{lt-ltb, le-ltb, ltb-false}
-use Rattle.meaning.specs.Limits.{mostRows, mostSegments}
+use Rattle.meaning.specs.Limits.{mostRows}
 use Rattle.meaning.specs.Rows.{countBelow}
 use Rattle.meaning.specs.Refusal.{refused, answer, Verdict, sound, refuseIf, _then_}
-use Rattle.meaning.specs.Ewah.{bodyFault, segments, rowsOf, dueAfter}
+use Rattle.meaning.specs.Ewah.{bodyFault, rowsOf}
 use Rattle.meaning.specs.Laws.{SoundFacts}
 use Rattle.meaning.specs.Answer.{rowsFault, checkBody, askCount, bodyCount}
 use Rattle.meaning.proofs.Outcomes.{refuse-answer, then-answer}
@@ -21,7 +20,6 @@ use Rattle.answers.specs.declared.refusal.Checked.the-variants as checked
 use Rattle.answers.specs.declared.answer.Number.the-variants as number
 use Rattle.answers.specs.Told.{verdictOf, numberOf}
 use Rattle.answers.proofs.Checks.{sound-is, refuses, answers}
-use Rattle.single.proofs.Asks.{few-segments}
 
 pub rows-over : (R : ℕ) (b : List ℕ) → mostRows < R → refused 3 0 1 ≡ checkBody R b
 unfolding checkBody rowsFault _then_ refuseIf
@@ -53,11 +51,9 @@ module _ (k : Checked) (R : ℕ) (b : List ℕ) (e : verdictOf k ≡ checkBody R
     no-fault : checkBody R b ≡ sound
     no-fault = sound-is k (checkBody R b) e h
 
-    pub countable : (dueAfter 0 b ≡ 0) × (length (segments b) ≤ mostSegments)
-    countable = let f : SoundFacts R b = facts R b no-fault in (f .ended, few-segments R b f (few-rows R b no-fault))
+    pub countable : (R ≤ mostRows) × SoundFacts R b
+    countable = (few-rows R b no-fault, facts R b no-fault)
 
-    pub count-answered : (n : ℕ) → ((R : ℕ) → SoundFacts R b → n ≡ countBelow R (rowsOf b))
-        → numberOf (number.Is n) ≡ bodyCount R b
+    pub count-answered : (n : ℕ) → n ≡ countBelow R (rowsOf b) → numberOf (number.Is n) ≡ bodyCount R b
     unfolding numberOf bodyCount askCount
-    count-answered n counts =
-        answers k (checkBody R b) e (askCount R (rowsOf b)) (answer n) h (ap answer (counts R (facts R b no-fault)))
+    count-answered n counts = answers k (checkBody R b) e (askCount R (rowsOf b)) (answer n) h (ap answer counts)

@@ -54,7 +54,7 @@ pub fn body_count(body: &[u32], rows: u32) -> Number
     let checked = check_body(body, rows);
     match checked {
         Checked::Refused(refusal) => Number::Refused(refusal),
-        Checked::Sound => Number::Is(ewah_read::count::count(body)),
+        Checked::Sound => Number::Is(ewah_read::count::count(body, rows)),
     }
 }
 
@@ -65,7 +65,7 @@ pub fn body_nth(body: &[u32], rows: u32, n: u32) -> Number
     let checked = check_body(body, rows);
     match checked {
         Checked::Refused(refusal) => Number::Refused(refusal),
-        Checked::Sound => single::body::nth(body, n),
+        Checked::Sound => single::body::nth(body, rows, n),
     }
 }
 
@@ -89,7 +89,7 @@ pub fn compress(rows: u32, plain: &[u32], out: &mut [u32]) -> Written
     let checked = single::plain::check_plain(plain, rows);
     match checked {
         Checked::Refused(refusal) => Written::Refused(refusal),
-        Checked::Sound => single::plain::write_plain(plain, out),
+        Checked::Sound => single::plain::write_plain(plain, rows, out),
     }
 }
 
@@ -146,7 +146,10 @@ pub fn count(index: &[u32], k: u32) -> Number
     let checked = bitmap_refusal(index, k);
     match checked {
         Checked::Refused(refusal) => Number::Refused(refusal),
-        Checked::Sound => Number::Is(ewah_read::count::count(contents::body(index, k))),
+        Checked::Sound => {
+            let body = contents::body(index, k);
+            Number::Is(ewah_read::count::count(body, contents::rows(index)))
+        }
     }
 }
 
@@ -157,7 +160,7 @@ pub fn nth(index: &[u32], k: u32, n: u32) -> Number
     let checked = bitmap_refusal(index, k);
     match checked {
         Checked::Refused(refusal) => Number::Refused(refusal),
-        Checked::Sound => single::body::nth(contents::body(index, k), n),
+        Checked::Sound => single::body::nth(contents::body(index, k), contents::rows(index), n),
     }
 }
 

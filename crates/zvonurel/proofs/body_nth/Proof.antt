@@ -8,7 +8,6 @@ use Rattle.meaning.specs.Answer.{checkBody, askNth, bodyNth}
 use Rattle.answers.specs.Told.{numberOf}
 use Rattle.answers.proofs.Checks.{sound-is, refuses, answers}
 use Rattle.zvonurel.proofs.Alone.{few-rows, facts}
-use Rattle.single.proofs.Asks.{few-segments}
 use Rattle.zvonurel.proofs.body_nth.Statement.{statement}
 use Rattle.zvonurel.proofs.body_nth.Tie as tie
 
@@ -26,10 +25,7 @@ is-sound : (c : tie.After-enum-told) → checkBody (c .before .before .before .b
 is-sound c = let k = c .before .before .check-body in sound-is (k .result) _ (k .ensures) (c .enum-told .given .1)
 
 nth-requires : tie.Need-nth-requires
-nth-requires c κs =
-    let s = is-sound c in
-    let f = facts _ _ s in
-    (f .ended, few-segments _ _ f (few-rows _ _ s))
+nth-requires c κs = let s = is-sound c in (few-rows _ _ s, facts _ _ s)
 
 returns : tie.Need-returns
 unfolding numberOf bodyNth
@@ -44,7 +40,7 @@ returns-2 c =
     let k = c .before .before .before in
     let a = k .before .before .args in
     answers (k .check-body .result) (checkBody (a .rows) (now (a .body))) (k .check-body .ensures) (askNth (a .rows) (rowsOf (now (a .body))) (a .n)) (numberOf (c .nth .result)) (c .before .enum-told .given .1)
-    (c .nth .ensures (a .rows) (facts _ _ (is-sound (c .before))))
+    (c .nth .ensures)
 
 pub body-nth-spec : {M : Type 1} → statement M
 body-nth-spec = tie.close (tie.spec check-body-requires enum-known-checked enum-told nth-requires returns returns-2)

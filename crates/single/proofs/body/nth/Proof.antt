@@ -1,4 +1,4 @@
--- `single::body::nth` meets its contract: by the case of what `ewah_read::nth::nth` found, its row or 8. Assumes nothing.
+-- `single::body::nth` meets its contract: what `ewah_read::nth::nth` found, its row or 8. Assumes nothing.
 use borrow.Author.Needs.{needs}
 use mathlib.Core.Path.{sym, ap, _∙_}
 use Rattle.ewah_read.specs.Found.{foundOf}
@@ -20,11 +20,14 @@ bad-argument-requires c κs = search needs
 
 returns : tie.Need-returns
 unfolding numberOf foundOf
-returns c = λ R f. sym (ap foundOf (c .before .found .given .1)) ∙ c .before .before .before .nth .ensures R f
+returns c = sym (ap foundOf (c .before .found .given .1)) ∙ c .before .before .before .nth .ensures
 
 returns-2 : tie.Need-returns-2
 unfolding numberOf foundOf
-returns-2 c = λ R f. ap refusedBy (c .bad-argument .ensures) ∙ sym (ap foundOf (c .before .enum-told .given .1)) ∙ c .before .before .before .nth .ensures R f
+returns-2 c =
+    ap refusedBy (c .bad-argument .ensures)
+    ∙ sym (ap foundOf (c .before .enum-told .given .1))
+    ∙ c .before .before .before .nth .ensures
 
 pub nth-spec : {M : Type 1} → statement M
 nth-spec = tie.close (tie.spec nth-requires enum-known-found enum-told bad-argument-requires returns returns-2)

@@ -1,7 +1,9 @@
--- `single::body::plain` meets its contract: 9 by `plain-none`; else by `plain-words` the segments are the plain words of the rows. Assumes nothing.
+-- `single::body::plain` meets its contract: 9 by `plain-none`, else the plain words by `plain-words`. Assumes nothing.
 use borrow.Author.Needs.{needs}
+use native.Mathlib.Omega.{arith}
 use denote.Ref.{now}
-use Rattle.single.proofs.Asks.{plain-none, plain-words, plain-room}
+use Rattle.meaning.specs.Ewah.{rowsOf}
+use Rattle.single.proofs.Asks.{plain-none, plain-words}
 use Rattle.single.proofs.body.plain.Statement.{statement}
 use Rattle.single.proofs.body.plain.Tie as tie
 
@@ -18,13 +20,15 @@ returns : tie.Need-returns
 returns c =
     let k = c .before .before in
     let s = k .before .before .before in
-    plain-none (s .args .rows) (now (s .args .body)) (s .pre .1) (now (s .args .out)) _ (k .segment-count .ensures) (c .no-room .result) (c .no-room .ensures) (c .before .if1 .taken)
+    let a = s .args in
+    let need = k .segment-count .ensures in
+    plain-none (a .rows) (rowsOf (now (a .body))) (now (a .out)) _ need _ (c .no-room .ensures) (c .before .if1 .taken)
 
 expand-requires : tie.Need-expand-requires
 expand-requires c κs =
     let k = c .before .before in
     let s = k .before .before .before in
-    (s .pre .1 .ended, plain-room (s .args .rows) (now (s .args .body)) (s .pre .1) (now (s .args .out)) _ (k .segment-count .ensures) (c .before .if1 .left))
+    (s .pre .0, s .pre .1, omega (arith, k .segment-count .ensures, c .before .if1 .left))
 
 same-length : tie.Need-same-length
 same-length c = search needs
@@ -34,8 +38,13 @@ returns-2 c =
     let e = c .before .before in
     let k = e .before .before .before in
     let s = k .before .before .before in
-    let w = k .before .before .shared-slice-known .given in
-    plain-words (s .args .rows) (now (s .args .body)) (s .pre .1) (now (s .args .out)) _ (k .segment-count .ensures) (λ i. w i .fits) (e .expand .last .1 .0) (e .before .before .if1 .left) (e .expand .ensures)
+    let a = s .args in
+    let x = e .expand in
+    let room = e .before .before .if1 .left in
+    let need = k .segment-count .ensures in
+    plain-words (a .rows) (rowsOf (now (a .body))) (now (a .out)) _ need (x .last .1 .1 .0) room (x .ensures)
 
 pub plain-spec : {M : Type 1} → statement M
-plain-spec = tie.close (tie.spec segment-count-requires cast-need no-room-requires returns expand-requires same-length returns-2)
+plain-spec =
+    tie.close
+    (tie.spec segment-count-requires cast-need no-room-requires returns expand-requires same-length returns-2)
