@@ -11,6 +11,7 @@ use words::bits;
 use words::rows;
 
 // The last word as the writer takes it: all ones where all its rows are set.
+// Asked for before a loop: behind the loop's stores it is masked anew, so that the loop keeps the mask in a register.
 fn last_word(plain: &[u32], rows: u32) -> u32
     requires { ⌜ PlainRows rows (now plain) ⌝ }
     requires { ⌜ 1 ≤ length (now plain) ⌝ }
@@ -30,6 +31,7 @@ pub fn measure(plain: &[u32], rows: u32) -> usize
         return 0;
     }
     let last = plain.len() - 1;
+    let end = last_word(plain, rows);
     let mut w = writer::start();
     let mut i: usize = 0;
     while i < last {
@@ -37,8 +39,8 @@ pub fn measure(plain: &[u32], rows: u32) -> usize
         w = r;
         i += 1;
     }
-    let end = writer::grow_segment(w, last_word(plain, rows));
-    end.used
+    let done = writer::grow_segment(w, end);
+    done.used
 }
 
 // The body from the front of `out`, in exactly the words that `measure` counts; words behind it keep their values.
@@ -53,6 +55,7 @@ pub fn write(plain: &[u32], rows: u32, out: &mut [u32]) -> usize
         return 0;
     }
     let last = plain.len() - 1;
+    let end = last_word(plain, rows);
     let mut w = writer::start();
     let mut i: usize = 0;
     while i < last {
@@ -60,6 +63,6 @@ pub fn write(plain: &[u32], rows: u32, out: &mut [u32]) -> usize
         w = r;
         i += 1;
     }
-    let end = writer::push_segment(out, w, last_word(plain, rows));
-    end.used
+    let done = writer::push_segment(out, w, end);
+    done.used
 }

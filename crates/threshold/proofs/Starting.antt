@@ -15,7 +15,7 @@ use Rattle.meaning.specs.Limits.{mostRows, mostSegments, mostBitmaps}
 use Rattle.meaning.specs.Rows.{countBelow}
 use Rattle.meaning.specs.Segment.{segmentCount, tabulate}
 use Rattle.meaning.specs.Refusal.{Outcome, refused, answer, Verdict, sound, refuseIf, _then_}
-use Rattle.meaning.specs.Ewah.{segments, rowsOf, dueAfter, decode}
+use Rattle.meaning.specs.Ewah.{segments, rowsOf, decode}
 use Rattle.meaning.specs.Canonical.{canonical}
 use Rattle.meaning.specs.Index.{rowCount, bitmapCount}
 use Rattle.meaning.specs.Laws.{SoundFacts, IndexFacts}
@@ -133,10 +133,11 @@ module _ (index : List ℕ) (T : ℕ) (buffer′ : List ℕ) (r : Answered) (g :
     few : length (segments (take w buffer′)) ≤ mostSegments
     few = omega (arith, facts .0 .count, segments-few (rowCount index) (facts .1))
 
-    pub may-count : (dueAfter 0 (take w buffer′) ≡ 0) × (length (segments (take w buffer′)) ≤ mostSegments)
-    may-count = (facts .0 .ended, few)
+    pub may-count : (rows : ℕ) → rows ≡ getD index 1 0 → (rows ≤ mostRows) × SoundFacts rows (take w buffer′)
+    unfolding rowCount
+    may-count rows f = rw f (facts .1, facts .0)
 
-    pub ask-answered : (rows named set : ℕ) → rows ≡ getD index 1 0 → named ≡ getD index 2 0 → ((R : ℕ) → SoundFacts R (take w buffer′) → set ≡ countBelow R (rowsOf (take w buffer′)))
+    pub ask-answered : (rows named set : ℕ) → rows ≡ getD index 1 0 → named ≡ getD index 2 0 → set ≡ countBelow rows (rowsOf (take w buffer′))
         → (out out′ : List ℕ) (bytes : ℕ) → Appended out 0 (headText rows named T set) out′ bytes → Begins (asked T index) buffer′ out out′ (record { bytes = bytes; words = w; rows = rows })
     unfolding asked outcomeText rowCount bitmapCount
     ask-answered rows named set f g′ h out out′ bytes a =
@@ -144,7 +145,7 @@ module _ (index : List ℕ) (T : ℕ) (buffer′ : List ℕ) (r : Answered) (g :
           is =
               rw f (
               ap (outcomeText index T) answer-is
-              ∙ ap (λ (t : List ℕ). t ++ linesFrom (rowsOf (take w buffer′)) 0 (rowCount index)) (sym (rw (f, g′, h (rowCount index) (facts .0)) at (a .is)))
+              ∙ ap (λ (t : List ℕ). t ++ linesFrom (rowsOf (take w buffer′)) 0 (rowCount index)) (sym (rw (h, f, g′) at (a .is)))
               ∙ ap (λ (m : ℕ). take bytes out′ ++ linesFrom (rowsOf (take w buffer′)) 0 m) none-off);
           inside = a .inside;
           words-inside = within;

@@ -82,7 +82,7 @@ fn ask(t: u32, index: &[u32], answer: &mut [u32], out: &mut [u8]) -> Begun
         Answered::Refused(r) => refused(out, r.number, r.bitmap, r.word),
         Answered::Words(words, _) => {
             let rows = input::word_at(index, 1);
-            let set = ewah_read::count::count(&answer[..words]);
+            let set = ewah_read::count::count(&answer[..words], rows);
             let bytes = text::lines::head(out, rows, input::word_at(index, 2), t, set);
             Begun { bytes, words, rows }
         }

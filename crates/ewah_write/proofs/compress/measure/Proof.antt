@@ -1,4 +1,4 @@
--- `ewah_write::compress::measure` meets its contract: the writer tracks the draft of the words so far. Assumes nothing.
+-- `ewah_write::compress::measure` meets its contract: the writer tracks the draft so far. Assumes nothing.
 use Prim.Native.Nat.{_-_, _≤_, _<_, _^_}
 use mathlib.Core.Path.{ap, _∙_}
 use native.Mathlib.Omega.{arith}
@@ -15,10 +15,10 @@ use Rattle.ewah_write.proofs.compress.measure.Statement.{statement}
 use Rattle.ewah_write.proofs.compress.measure.Tie as tie
 
 abbrev Inv-loop : tie.InvT-loop
-Inv-loop plain rows last w₀ i₀ w i = (i ≤ last) × Tracks w (upTo (kinds 32 rows plain) i)
+Inv-loop plain rows last end w₀ i₀ w i = (i ≤ last) × Tracks w (upTo (kinds 32 rows plain) i)
 
 abbrev μ-loop : tie.MeasureT-loop
-μ-loop plain rows last w₀ i₀ w i = last - i
+μ-loop plain rows last end w₀ i₀ w i = last - i
 
 returns : tie.Need-returns Inv-loop μ-loop
 returns c =
@@ -27,6 +27,9 @@ returns c =
 
 sub-last : tie.Need-sub-last Inv-loop μ-loop
 sub-last c = search needs
+
+last-word-requires : tie.Need-last-word-requires Inv-loop μ-loop
+last-word-requires c κs = search needs
 
 start-requires : tie.Need-start-requires Inv-loop μ-loop
 start-requires c κs = search needs
@@ -43,7 +46,7 @@ shared-slice-read-grow-segment c = search needs
 -- where the loop stands
 module _ (t : tie.At-loop Inv-loop μ-loop) where
   abbrev call : tie.Start Inv-loop μ-loop
-  call = t .before .before .before .before
+  call = t .before .before .before .before .before
 
   abbrev so-far : Draft
   so-far = upTo (kinds 32 (call .args .rows) (now (call .args .plain))) (t .loop .i)
@@ -70,21 +73,18 @@ loop-again c =
     let e = word-inside (call t .pre) (t .loop .i) (c .before .before .loop-test .taken) in
     (omega arith, rw e (c .grow-segment .ensures (so-far t) (t .loop .inv .1)))
 
-last-word-requires : tie.Need-last-word-requires Inv-loop μ-loop
-last-word-requires c κs = search needs
-
 grow-segment-requires-2 : tie.Need-grow-segment-requires-2 Inv-loop μ-loop
 grow-segment-requires-2 c κs =
-    let t = c .before .before in
+    let t = c .before in
     ((so-far t, t .loop .inv .1), low t)
 
 returns-2 : tie.Need-returns-2 Inv-loop μ-loop
 returns-2 c =
-    let t = c .before .before .before in
+    let t = c .before .before in
     let h = t .loop in
-    let w = c .before .last-word in
-    let some = t .before .before .if1 .left in
-    let done = word-last (call t .pre) (h .i) some (h .inv .0) (c .before .before .loop-test .left) in
+    let w = t .before .before .last-word in
+    let some = t .before .before .before .if1 .left in
+    let done = word-last (call t .pre) (h .i) some (h .inv .0) (c .before .loop-test .left) in
     used-is _ (c .grow-segment2 .ensures (so-far t) (h .inv .1)) ∙ ap length (done (w .result) (w .ensures))
 
 pub measure-spec : {M : Type 1} → statement M
@@ -95,6 +95,7 @@ measure-spec =
     μ-loop
     returns
     sub-last
+    last-word-requires
     start-requires
     loop-holds
     mul-grow-segment
@@ -103,6 +104,5 @@ measure-spec =
     add-i
     loop-less
     loop-again
-    last-word-requires
     grow-segment-requires-2
     returns-2)

@@ -18,11 +18,11 @@ use Rattle.ewah_write.proofs.compress.write.Statement.{statement}
 use Rattle.ewah_write.proofs.compress.write.Tie as tie
 
 abbrev Inv-loop : tie.InvT-loop
-Inv-loop plain rows out₀ last w₀ i₀ out w i =
+Inv-loop plain rows out₀ last end w₀ i₀ out w i =
     (i ≤ last) × (length out ≡ length out₀) × Written out₀ out w (upTo (kinds 32 rows plain) i)
 
 abbrev μ-loop : tie.MeasureT-loop
-μ-loop plain rows out₀ last w₀ i₀ out w i = last - i
+μ-loop plain rows out₀ last end w₀ i₀ out w i = last - i
 
 returns : tie.Need-returns Inv-loop μ-loop
 returns c =
@@ -33,12 +33,15 @@ returns c =
 sub-last : tie.Need-sub-last Inv-loop μ-loop
 sub-last c = search needs
 
+last-word-requires : tie.Need-last-word-requires Inv-loop μ-loop
+last-word-requires c κs = search needs
+
 start-requires : tie.Need-start-requires Inv-loop μ-loop
 start-requires c κs = search needs
 
 loop-holds : tie.Need-loop-holds Inv-loop μ-loop
 loop-holds c =
-    let out = now (c .before .before .before .before .args .out) in
+    let out = now (c .before .before .before .before .before .args .out) in
     (omega arith, refl, written-none out (c .start .result) (c .start .ensures))
 
 mul-push-segment : tie.Need-mul-push-segment Inv-loop μ-loop
@@ -50,7 +53,7 @@ shared-slice-read-push-segment c = search needs
 -- where the loop stands
 module _ (t : tie.At-loop Inv-loop μ-loop) where
   abbrev call : tie.Start Inv-loop μ-loop
-  call = t .before .before .before .before .before
+  call = t .before .before .before .before .before .before
 
   abbrev all : List Segment
   all = kinds 32 (call .args .rows) (now (call .args .plain))
@@ -88,26 +91,23 @@ loop-again c =
     let e = word-inside (call t .pre .0) (h .i) below in
     (omega arith, p .kept .0 ∙ h .inv .1, rw e (put-on t (p .last .0) (p .result) (getD plain (h .i) 0) (p .ensures)))
 
-last-word-requires : tie.Need-last-word-requires Inv-loop μ-loop
-last-word-requires c κs = search needs
-
 -- with the last word the draft is done
-module _ (c : tie.After-last-word Inv-loop μ-loop) where
-  abbrev at-end : tie.At-loop Inv-loop μ-loop
-  at-end = c .before .before .before
+module _ (c : tie.After-loop Inv-loop μ-loop) where
+  abbrev end : ℕ
+  end = c .before .before .before .last-word .result
 
-  done : body (put (so-far at-end) (kind 32 (c .last-word .result))) ≡ canonicalOf (all at-end)
+  done : body (put (so-far (c .before)) (kind 32 end)) ≡ canonicalOf (all (c .before))
   done =
-      let h = at-end .loop in
-      let w = c .last-word in
-      let some = at-end .before .before .if1 .left in
-      let high = c .before .before .loop-test .left in
-      word-last (call at-end .pre .0) (h .i) some (h .inv .0) high (w .result) (w .ensures)
+      let t = c .before in
+      let h = t .loop in
+      let some = t .before .before .before .if1 .left in
+      let is = t .before .before .last-word .ensures in
+      word-last (call t .pre .0) (h .i) some (h .inv .0) (c .loop-test .left) end is
 
 push-segment-requires-2 : tie.Need-push-segment-requires-2 Inv-loop μ-loop
 push-segment-requires-2 c κs =
-    let t = at-end c in
-    (so-far t, t .loop .inv .2 .drawn .tracks, rw (done c) (omega (arith, call t .pre .1)))
+    let t = c .before .before in
+    (so-far t, t .loop .inv .2 .drawn .tracks, rw (done (c .before)) (omega (arith, call t .pre .1)))
 
 same-length : tie.Need-same-length Inv-loop μ-loop
 same-length c = search needs
@@ -115,11 +115,10 @@ same-length c = search needs
 returns-2 : tie.Need-returns-2 Inv-loop μ-loop
 returns-2 c =
     let p = c .before .before .push-segment2 in
-    let l = c .before .before .before in
-    let t = at-end l in
-    let x = l .last-word .result in
-    let d = put (so-far t) (kind 32 x) in
-    let w = put-on t (p .last .0) (p .result) x (p .ensures) in
+    let l = c .before .before .before .before in
+    let t = l .before in
+    let d = put (so-far t) (kind 32 (end l)) in
+    let w = put-on t (p .last .0) (p .result) (end l) (p .ensures) in
     let whole = written-all (now (call t .args .out)) (p .last .0) (p .result) d w in
     (used-is d (w .drawn .tracks) ∙ ap length (done l), rw (← done l) whole)
 
@@ -131,6 +130,7 @@ write-spec =
     μ-loop
     returns
     sub-last
+    last-word-requires
     start-requires
     loop-holds
     mul-push-segment
@@ -139,7 +139,6 @@ write-spec =
     add-i
     loop-less
     loop-again
-    last-word-requires
     push-segment-requires-2
     same-length
     returns-2)
