@@ -1,13 +1,12 @@
 -- A block filled row by row: what exists, and then the digits of an operation, whichever it is.
 -- Assumes nothing.
-use Prim.Native.Nat.{ℕ, suc, _+_, _-_, _*_, _^_, _≤_, _<_}
+use Prim.Native.Nat.{ℕ, _+_, _-_, _*_, _^_, _≤_, _<_}
 use mathlib.Core.Bool.{Bool, cond, _&&_}
 use mathlib.Core.Path.{_≡_, sym, ap, ap₂, _∙_, subst}
 use mathlib.Core.List.{List}
 use lib.Bits.{bitAnd, and-le-l}
 use lib.Dec.{ltb}
-use lib.ListN.{length, getD, set, length-set}
-use lib.Seq.{getD-set-same, getD-set-other}
+use lib.ListN.{length, getD, set}
 use native.Mathlib.Nat.{zero-add}
 use native.Mathlib.Decide.{ℕ-discrete}
 use native.Mathlib.Omega.{arith}
@@ -64,45 +63,21 @@ module _ (a b : List ℕ) where
 at-first : (z : List ℕ) (w : ℕ) → getD z (0 + w) 0 ≡ getD z w 0
 at-first z w = ap (λ (i : ℕ). getD z i 0) (zero-add w)
 
--- the first rows a of x and b of y were put as the first row of z, and then its word k - 1 is masked
-module _ {x y a b was z : List ℕ} (p : RowOf x 0 a) (q : RowOf y 0 b) (put : PutBoth a b was 0 z) (k mask : ℕ) where
-  abbrev masked : List ℕ
-  masked = set z (k - 1) (bitAnd (getD z (k - 1) 0) mask)
-
+-- the first rows a of x and b of y were put as the first row of z
+module _ {x y a b was z : List ℕ} (p : RowOf x 0 a) (q : RowOf y 0 b) (put : PutBoth a b was 0 z) where
   both : (w j : ℕ) → w < blockSegments → isSet (getD z w 0) j ≡ isSet (getD x w 0) j && isSet (getD y w 0) j
   both w j l =
       ap (λ (v : ℕ). isSet v j)
       (sym (at-first z w) ∙ put .words w l ∙ ap₂ bitAnd (p .words w l ∙ at-first x w) (q .words w l ∙ at-first y w))
       ∙ and-set (getD x w 0) (getD y w 0) j
 
-  put-low : (w : ℕ) → w < blockSegments → getD z w 0 < 2 ^ 32
-  put-low w l = rw (← at-first z w) (put .low w l)
-
-  other : (w : ℕ) → (w ≡ k - 1 → ⊥) → getD masked w 0 ≡ getD z w 0
-  other w h = getD-set-other z (k - 1) w (bitAnd (getD z (k - 1) 0) mask) 0 h
-
-  pub existing : {e : List ℕ} → length was ≡ blockWords → 1 ≤ k → k ≤ blockSegments → RowOf masked 0 e
-      → Existing x y k mask masked e
-  existing h l m r = record {
-    long = length-set z (k - 1) (bitAnd (getD z (k - 1) 0) mask) ∙ put .long ∙ h;
-    same = λ w s. sym (r .words w s ∙ at-first masked w);
-    low = low;
-    exists = λ w j s. ap (λ (v : ℕ). isSet v j) (other w (omega arith)) ∙ both w j (omega arith);
-    exists-last = λ w j s.
-        ap (λ (v : ℕ). isSet v j) (last w s) ∙ and-set (getD z w 0) mask j
-        ∙ ap (λ (t : Bool). t && isSet mask j) (both w j (omega arith));
+  pub existing : {e : List ℕ} → length was ≡ blockWords → RowOf z 0 e → Existing x y z e
+  existing h r = record {
+    long = put .long ∙ h;
+    same = λ w s. sym (r .words w s ∙ at-first z w);
+    low = λ w l. rw (← at-first z w) (put .low w l);
+    exists = both;
   }
-    where
-      last : (w : ℕ) → suc w ≡ k → getD masked w 0 ≡ bitAnd (getD z w 0) mask
-      last w s =
-          let w-is : w ≡ k - 1 = omega arith in
-          rw w-is (getD-set-same z (k - 1) (bitAnd (getD z (k - 1) 0) mask) 0 (omega (arith, put .long)))
-
-      low : (w : ℕ) → w < blockSegments → getD masked w 0 < 2 ^ 32
-      low w s = elim (ℕ-discrete (suc w) k) [
-        | yes t ↦ rw (last w t) (omega (arith, put-low w s, and-le-l (getD z w 0) mask))
-        | no t ↦ rw (other w (omega arith)) (put-low w s)
-      ]
 
 -- ---- and the digits of an operation, row by row
 
@@ -119,7 +94,7 @@ pub record Filling (op : (n x y : ℕ) → ℕ) (x y e : List ℕ) (n i : ℕ) (
       → isSet (getD z ((m + 1) * blockSegments + w) 0) j ≡ isSet (getD e w 0) j && digitSet op x y n m w j
 
 -- no digit yet
-pub filling-none : (op : (n x y : ℕ) → ℕ) (n : ℕ) {x y z e : List ℕ} {k mask : ℕ} → Existing x y k mask z e
+pub filling-none : (op : (n x y : ℕ) → ℕ) (n : ℕ) {x y z e : List ℕ} → Existing x y z e
     → Filling op x y e n 0 z
 filling-none op n g = record {
   long = g .long;
@@ -156,17 +131,12 @@ filling-more {op} {x} {y} {e} {d} {z} {z′} {n} {i} h put g = record {
     ]
 
 -- all n digits
-pub filling-all : {op : (n x y : ℕ) → ℕ} {x y e was z : List ℕ} {n k mask : ℕ} → k ≤ blockSegments
-    → Existing x y k mask was e → Filling op x y e n n z → Paired op x y n k mask z
-filling-all {op} {x} {y} {e} {was} {z} {n} h s g = record {
+pub filling-all : {op : (n x y : ℕ) → ℕ} {x y e was z : List ℕ} {n : ℕ} → Existing x y was e
+    → Filling op x y e n n z → Paired op x y n z
+filling-all {op} {x} {y} {e} {was} {z} {n} s g = record {
   long = g .long;
-  low = λ i w m l. g .low i w m (omega arith);
-  exists = λ w j l. ap (λ (v : ℕ). isSet v j) (first w (omega arith)) ∙ s .exists w j l;
-  exists-last = λ w j l. ap (λ (v : ℕ). isSet v j) (first w (omega arith)) ∙ s .exists-last w j l;
+  low = g .low;
+  exists = λ w j l. ap (λ (v : ℕ). isSet v j) (g .same w l ∙ sym (s .same w l)) ∙ s .exists w j l;
   digits = λ i w j m l.
-      g .digits i w j m (omega arith)
-      ∙ ap (λ (v : ℕ). isSet v j && digitSet op x y n i w j) (sym (g .same w (omega arith)));
+      g .digits i w j m l ∙ ap (λ (v : ℕ). isSet v j && digitSet op x y n i w j) (sym (g .same w l));
 }
-  where
-    first : (w : ℕ) → w < blockSegments → getD z w 0 ≡ getD was w 0
-    first w l = g .same w l ∙ sym (s .same w l)

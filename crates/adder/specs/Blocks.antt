@@ -1,6 +1,6 @@
 -- A block's rows taken out of it and put into it, and the row of what exists in both of two blocks.
 -- Assumes nothing.
-use Prim.Native.Nat.{ℕ, suc, _+_, _≤_, _<_, _^_}
+use Prim.Native.Nat.{ℕ, _+_, _≤_, _<_, _^_}
 use mathlib.Core.Bool.{_&&_}
 use mathlib.Core.Path.{_≡_}
 use mathlib.Core.List.{List}
@@ -22,11 +22,10 @@ pub record PutBoth (a b z : List ℕ) (at : ℕ) (z′ : List ℕ) : Type 0 wher
   pub before : (i : ℕ) → i < at → getD z′ i 0 ≡ getD z i 0
   pub behind : (i : ℕ) → at + blockSegments ≤ i → getD z′ i 0 ≡ getD z i 0
 
--- the first row of z, which e has too: what exists in both x and y, of word k - 1 the rows of the mask alone
-pub record Existing (x y : List ℕ) (k mask : ℕ) (z e : List ℕ) : Type 0 where
+-- the first row of z, which e has too: what exists in both x and y
+pub record Existing (x y z e : List ℕ) : Type 0 where
   pub long : length z ≡ blockWords
   pub same : (w : ℕ) → w < blockSegments → getD z w 0 ≡ getD e w 0
   pub low : (w : ℕ) → w < blockSegments → getD z w 0 < 2 ^ 32
-  pub exists : (w j : ℕ) → suc w < k → isSet (getD z w 0) j ≡ isSet (getD x w 0) j && isSet (getD y w 0) j
-  pub exists-last : (w j : ℕ) → suc w ≡ k
-      → isSet (getD z w 0) j ≡ (isSet (getD x w 0) j && isSet (getD y w 0) j) && isSet mask j
+  pub exists : (w j : ℕ) → w < blockSegments
+      → isSet (getD z w 0) j ≡ isSet (getD x w 0) j && isSet (getD y w 0) j

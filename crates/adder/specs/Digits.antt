@@ -1,6 +1,6 @@
 -- Numbers that lie across rows of words: row 0 has the rows that exist, row i + 1 digit i of their values.
 -- Assumes nothing.
-use Prim.Native.Nat.{ℕ, suc, _+_, _*_, _^_, _≤_, _<_}
+use Prim.Native.Nat.{ℕ, _+_, _*_, _^_, _≤_, _<_}
 use mathlib.Core.Bool.{_&&_}
 use mathlib.Core.Path.{_≡_}
 use mathlib.Core.List.{List}
@@ -14,14 +14,12 @@ unfoldable pub numberAt : (x : List ℕ) (n w j : ℕ) → ℕ
 unfolding sumBelow bitAt
 numberAt x n w j = sumBelow n (λ i. bitAt (getD x ((i + 1) * blockSegments + w) 0) j * 2 ^ i)
 
--- the first k words of z's first n + 1 rows: the rows that exist in both, of the last word those of the mask alone;
--- and of them the n digits of what `op` makes of the two numbers
-pub record Paired (op : (n x y : ℕ) → ℕ) (x y : List ℕ) (n k mask : ℕ) (z : List ℕ) : Type 0 where
+-- z's first n + 1 rows: the rows that exist in both, and of them the n digits of what `op` makes of the two numbers
+pub record Paired (op : (n x y : ℕ) → ℕ) (x y : List ℕ) (n : ℕ) (z : List ℕ) : Type 0 where
   pub long : length z ≡ blockWords
-  pub low : (i w : ℕ) → i ≤ n → w < k → getD z (i * blockSegments + w) 0 < 2 ^ 32
-  pub exists : (w j : ℕ) → suc w < k → isSet (getD z w 0) j ≡ isSet (getD x w 0) j && isSet (getD y w 0) j
-  pub exists-last : (w j : ℕ) → suc w ≡ k
-      → isSet (getD z w 0) j ≡ (isSet (getD x w 0) j && isSet (getD y w 0) j) && isSet mask j
-  pub digits : (i w j : ℕ) → i < n → w < k
+  pub low : (i w : ℕ) → i ≤ n → w < blockSegments → getD z (i * blockSegments + w) 0 < 2 ^ 32
+  pub exists : (w j : ℕ) → w < blockSegments
+      → isSet (getD z w 0) j ≡ isSet (getD x w 0) j && isSet (getD y w 0) j
+  pub digits : (i w j : ℕ) → i < n → w < blockSegments
       → isSet (getD z ((i + 1) * blockSegments + w) 0) j
       ≡ isSet (getD z w 0) j && isSet (op n (numberAt x n w j) (numberAt y n w j)) i

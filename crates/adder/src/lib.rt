@@ -2,7 +2,7 @@
 // row i + 1 have digit i of their values. Whole rows of words are taken into local arrays, at which nothing else points, so that the
 // machine works on many words at once.
 ghost use mathlib.Core.Path.{_≡_};
-ghost use Prim.Native.Nat.{_≤_, _<_};
+ghost use Prim.Native.Nat.{_<_};
 ghost use lib.ListN.{length};
 ghost use Rattle.meaning.specs.Limits.{mostValueColumn, blockSegments, blockWords};
 ghost use Rattle.meaning.specs.Column.{sumValue};
@@ -33,21 +33,13 @@ fn add(a: [u32; BLOCK_SEGMENTS], b: [u32; BLOCK_SEGMENTS], c: [u32; BLOCK_SEGMEN
     Sums { digits, carries }
 }
 
-// The sum of the first k words of each row of x and y: which rows exist in both, of word k - 1 those of the mask alone, and the n
-// digits of their sums. Words from k on hold no meaning.
-pub fn sum(
-    x: &[u32; BLOCK_WORDS],
-    y: &[u32; BLOCK_WORDS],
-    z: &mut [u32; BLOCK_WORDS],
-    n: usize,
-    k: usize,
-    mask: u32,
-)
-    requires { ⌜ (n < mostValueColumn) × (1 ≤ k) × (k ≤ blockSegments) × (length (now x) ≡ blockWords)
+// The sum of each word of the rows of x and y: which rows exist in both, and the n digits of their sums.
+pub fn sum(x: &[u32; BLOCK_WORDS], y: &[u32; BLOCK_WORDS], z: &mut [u32; BLOCK_WORDS], n: usize)
+    requires { ⌜ (n < mostValueColumn) × (length (now x) ≡ blockWords)
         × (length (now y) ≡ blockWords) × (length (now z) ≡ blockWords) ⌝ }
-    ensures { λ _. ⌜ Paired sumValue (now (x .entry)) (now (y .entry)) n k mask (now (z .exit)) ⌝ }
+    ensures { λ _. ⌜ Paired sumValue (now (x .entry)) (now (y .entry)) n (now (z .exit)) ⌝ }
 {
-    let exist = rows::exist(x, y, z, k, mask);
+    let exist = rows::exist(x, y, z);
     let mut carry: [u32; BLOCK_SEGMENTS] = [0; BLOCK_SEGMENTS];
     let mut i: usize = 0;
     while i < n {

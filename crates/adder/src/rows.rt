@@ -34,19 +34,15 @@ pub fn put_both(
     }
 }
 
-// Row 0 of z, which is returned too: what exists in both x and y, of word k - 1 the rows of the mask alone.
+// Row 0 of z, which is returned too: what exists in both x and y.
 pub fn exist(
     x: &[u32; BLOCK_WORDS],
     y: &[u32; BLOCK_WORDS],
     z: &mut [u32; BLOCK_WORDS],
-    k: usize,
-    mask: u32,
 ) -> [u32; BLOCK_SEGMENTS]
-    requires { ⌜ (1 ≤ k) × (k ≤ blockSegments) × (length (now x) ≡ blockWords)
-        × (length (now y) ≡ blockWords) × (length (now z) ≡ blockWords) ⌝ }
-    ensures { λ r. ⌜ Existing (now (x .entry)) (now (y .entry)) k mask (now (z .exit)) r ⌝ }
+    requires { ⌜ (length (now x) ≡ blockWords) × (length (now y) ≡ blockWords) × (length (now z) ≡ blockWords) ⌝ }
+    ensures { λ r. ⌜ Existing (now (x .entry)) (now (y .entry)) (now (z .exit)) r ⌝ }
 {
     put_both(z, 0, row(x, 0), row(y, 0));
-    z[k - 1] = z[k - 1] & mask;
     row(z, 0)
 }

@@ -1,15 +1,17 @@
 -- A block of two columns: what the words of the places say of its rows, and so which segments the answer's bodies have there.
 -- Assumes nothing.
-use Prim.Native.Nat.{ℕ, zero, suc, _+_, _*_, _^_, _≤_, _<_}
+use Prim.Native.Nat.{ℕ, zero, suc, _+_, _-_, _*_, _%_, _^_, _≤_, _<_}
 use mathlib.Core.Bool.{Bool, true, false, _&&_}
 use mathlib.Core.Path.{_≡_, refl, sym, ap, ap₂, _∙_}
-use mathlib.Core.List.{List, [], _∷_, map}
+use mathlib.Core.List.{List, [], _∷_}
+use lib.Bits.{and-mask}
 use lib.Dec.{ltb}
-use lib.ListN.{length, getD, length-map, List·getD-map}
-use native.Mathlib.Nat.{pow-suc, zero-mul}
+use lib.ListN.{length, getD}
+use lib.Pow.{pow-pos, pow-mono}
+use native.Mathlib.Nat.{mod-lt, pow-suc, zero-mul}
 use native.Mathlib.Omega.{arith}
 use Rattle.meaning.specs.Rows.{bit, sumBelow}
-use Rattle.meaning.specs.Segment.{Segment, clean, kind, bitAt, isSet, segmentCount, allSet, fromRows}
+use Rattle.meaning.specs.Segment.{Segment, clean, kind, kinds, rowsIn, bitAt, isSet, segmentCount, fromRows}
 use Rattle.meaning.specs.Ewah.{segments}
 use Rattle.meaning.specs.Index.{rowCount, rowsAt}
 use Rattle.meaning.specs.Question.{intersection}
@@ -18,11 +20,14 @@ use Rattle.meaning.specs.Column.{valueOf, slice, columnOf, sumValue}
 use Rattle.meaning.specs.ColumnLaws.{none}
 use Rattle.meaning.specs.Columns.{existing, slicesOf, valueAt, pairColumn}
 use Rattle.meaning.proofs.RowWords.{word-by-bits, from-bit, from-below, from-length}
+use Rattle.meaning.proofs.Segments.{kinds-length}
+use Rattle.meaning.proofs.Cut.{kinds-at, rows-le}
+use Rattle.meaning.proofs.Evaluated.{mask-bit}
 use Rattle.meaning.proofs.Sums.{sum-zero, sum-first}
 use Rattle.meaning.proofs.Counting.{zero-clear}
 use Rattle.meaning.proofs.ColumnValues.{slices-at}
 use Rattle.meaning.proofs.ColumnsHold.{named-at, named-length}
-use Rattle.words.proofs.BitLaws.{bit-set}
+use Rattle.words.proofs.BitLaws.{bit-set, and-set}
 use Rattle.walk.specs.Queries.{placeBody}
 use Rattle.merge.proofs.Stretched.{row-bit}
 
@@ -82,31 +87,41 @@ module _ (index : List ℕ) (s j : ℕ) (low : j < 32) where
 -- ---- the segments of a set of rows
 
 abbrev pub segs : (R : ℕ) → (ℕ → Bool) → List Segment
-segs R p = map (kind 32) (fromRows 32 R p)
+segs R p = kinds 32 R (fromRows 32 R p)
 
 pub segs-length : (R : ℕ) (p : ℕ → Bool) → length (segs R p) ≡ segmentCount 32 R
-segs-length R p = length-map (fromRows 32 R p) (kind 32) ∙ from-length 32 (omega arith) R p
+segs-length R p = kinds-length 32 R (fromRows 32 R p) ∙ from-length 32 (omega arith) R p
 
--- the segment of a word whose bits are right
-segment-is : (R : ℕ) (p : ℕ → Bool) (i y : ℕ) → i < segmentCount 32 R → y < 2 ^ 32
-    → ((j : ℕ) → j < 32 → isSet y j ≡ ltb (i * 32 + j) R && p (i * 32 + j)) → getD (segs R p) i (clean 0) ≡ kind 32 y
-unfolding kind allSet
-segment-is R p i y h l g =
-    List·getD-map (kind 32) (fromRows 32 R p) i 0
-    ∙ ap (kind 32) (word-by-bits 32 (getD (fromRows 32 R p) i 0) y (from-below 32 (omega arith) R p i) l
-    (λ j k. from-bit 32 (omega arith) R p i j h k ∙ sym (g j k)))
+and-swap : (a b : Bool) → a && b ≡ b && a
+and-swap true true = refl
+and-swap true false = refl
+and-swap false true = refl
+and-swap false false = refl
+
+-- the segment of a word whose bits are right: of its bits those that are rows
+segment-is : (R : ℕ) (p : ℕ → Bool) (i y : ℕ) → i < segmentCount 32 R → ((j : ℕ) → j < 32 → isSet y j ≡ p (i * 32 + j))
+    → getD (segs R p) i (clean 0) ≡ kind (rowsIn 32 R i) (y % 2 ^ rowsIn 32 R i)
+segment-is R p i y h g =
+    let k = rowsIn 32 R i in
+    let low : y % 2 ^ k < 2 ^ 32 = omega (arith, mod-lt y (pow-pos k), pow-mono (rows-le 32 (omega arith) R i)) in
+    kinds-at 32 (omega arith) R (fromRows 32 R p) i (clean 0) (from-length 32 (omega arith) R p) h
+    ∙ ap (kind k) (word-by-bits 32 (getD (fromRows 32 R p) i 0) (y % 2 ^ k) (from-below 32 (omega arith) R p i) low
+    (λ j l. from-bit 32 (omega arith) R p i j h l ∙ sym (bit j l)))
+  where
+    bit : (j : ℕ) → j < 32 → isSet (y % 2 ^ rowsIn 32 R i) j ≡ ltb (i * 32 + j) R && p (i * 32 + j)
+    bit j l =
+        ap (λ (x : ℕ). isSet x j) (sym (and-mask y (rowsIn 32 R i)))
+        ∙ and-set y (2 ^ rowsIn 32 R i - 1) j
+        ∙ ap₂ (λ (a b : Bool). a && b) (g j l) (mask-bit 32 (omega arith) R i j l)
+        ∙ and-swap (p (i * 32 + j)) (ltb (i * 32 + j) R)
 
 -- ---- the answer's segment
 
--- z b is the word of body b of the sum, made of the words x and y of two columns: of its bits those that are rows below R
-pub record SumWords (R s n : ℕ) (x y z : ℕ → ℕ) : Type 0 where
-  pub low : (b : ℕ) → b ≤ n → z b < 2 ^ 32
-  pub exists : (j : ℕ) → j < 32 → isSet (z 0) j ≡ ltb (s * 32 + j) R && (isSet (x 0) j && isSet (y 0) j)
-  pub digits : (b j : ℕ) → b < n → j < 32 → isSet (z (suc b)) j ≡ isSet (z 0) j && isSet (sumValue n (numberOf x n j) (numberOf y n j)) b
-
-and-assoc : (a b c : Bool) → (a && b) && c ≡ a && (b && c)
-and-assoc true b c = refl
-and-assoc false b c = refl
+-- z b is the word of body b of the sum, made of the words x and y of two columns
+pub record SumWords (n : ℕ) (x y z : ℕ → ℕ) : Type 0 where
+  pub exists : (j : ℕ) → j < 32 → isSet (z 0) j ≡ isSet (x 0) j && isSet (y 0) j
+  pub digits : (b j : ℕ) → b < n → j < 32
+      → isSet (z (suc b)) j ≡ isSet (z 0) j && isSet (sumValue n (numberOf x n j) (numberOf y n j)) b
 
 -- the rows of body b
 abbrev pub sets : (index first second : List ℕ) (n b : ℕ) → ℕ → Bool
@@ -126,7 +141,8 @@ module _ (index first second : List ℕ) (n : ℕ) (f1 : 1 ≤ length first) (f2
   unfolding pairColumn columnOf
   set-later b h = slices-at both v 0 n b h ∙ ap (slice both v) (omega arith)
 
-  module _ (s : ℕ) (x y z : ℕ → ℕ) (wx : WordsAt index first s x) (wy : WordsAt index second s y) (p : SumWords R s n x y z) where
+  module _ (s : ℕ) (x y z : ℕ → ℕ) (wx : WordsAt index first s x) (wy : WordsAt index second s y)
+      (p : SumWords n x y z) where
     both-is : (j : ℕ) → j < 32 → both (s * 32 + j) ≡ isSet (x 0) j && isSet (y 0) j
     unfolding intersection
     both-is j k = ap₂ (λ (a b : Bool). a && b) (exists-bit index s j k first x wx f1) (exists-bit index s j k second y wy f2)
@@ -134,17 +150,16 @@ module _ (index first second : List ℕ) (n : ℕ) (f1 : 1 ≤ length first) (f2
     v-is : (j : ℕ) → j < 32 → v (s * 32 + j) ≡ sumValue n (numberOf x n j) (numberOf y n j)
     v-is j k = ap₂ (sumValue n) (value-number index s j k first x n wx f1 l1) (value-number index s j k second y n wy f2 l2)
 
-    rows : (b : ℕ) → b ≤ n → (j : ℕ) → j < 32 → isSet (z b) j ≡ ltb (s * 32 + j) R && sets index first second n b (s * 32 + j)
+    rows : (b : ℕ) → b ≤ n → (j : ℕ) → j < 32 → isSet (z b) j ≡ sets index first second n b (s * 32 + j)
     unfolding pairColumn columnOf
-    rows zero l j k = p .exists j k ∙ ap (λ (t : Bool). ltb (s * 32 + j) R && t) (sym (both-is j k))
+    rows zero l j k = p .exists j k ∙ sym (both-is j k)
     rows (suc b) l j k =
         p .digits b j (omega arith) k
-        ∙ ap₂ (λ (a t : Bool). a && t) (p .exists j k) refl
-        ∙ and-assoc (ltb (s * 32 + j) R) (isSet (x 0) j && isSet (y 0) j) (isSet (sumValue n (numberOf x n j) (numberOf y n j)) b)
-        ∙ ap (λ (t : Bool). ltb (s * 32 + j) R && t)
-        (sym (ap (λ (q : ℕ → Bool). q (s * 32 + j)) (set-later b (omega arith))
-        ∙ unfold slice in ap₂ (λ (a : Bool) (t : ℕ). a && isSet t b) (both-is j k) (v-is j k)))
+        ∙ ap (λ (a : Bool). a && isSet (sumValue n (numberOf x n j) (numberOf y n j)) b) (p .exists j k)
+        ∙ sym (ap (λ (q : ℕ → Bool). q (s * 32 + j)) (set-later b (omega arith))
+        ∙ unfold slice in ap₂ (λ (a : Bool) (t : ℕ). a && isSet t b) (both-is j k) (v-is j k))
 
-    -- the word of body b is its segment
-    pub block-segment : (b : ℕ) → b ≤ n → s < segmentCount 32 R → getD (segs R (sets index first second n b)) s (clean 0) ≡ kind 32 (z b)
-    block-segment b l h = segment-is R (sets index first second n b) s (z b) h (p .low b l) (rows b l)
+    -- the rows in the word of body b are its segment
+    pub block-segment : (b : ℕ) → b ≤ n → s < segmentCount 32 R
+        → getD (segs R (sets index first second n b)) s (clean 0) ≡ kind (rowsIn 32 R s) (z b % 2 ^ rowsIn 32 R s)
+    block-segment b l h = segment-is R (sets index first second n b) s (z b) h (rows b l)

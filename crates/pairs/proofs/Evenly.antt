@@ -1,6 +1,6 @@
 -- Segments within clean runs of all places: the words of the sum are clean there too.
 -- Assumes nothing.
-use Prim.Native.Nat.{ℕ, zero, suc, _+_, _-_, _*_, _^_, _≤_, _<_}
+use Prim.Native.Nat.{ℕ, zero, suc, _+_, _*_, _^_, _≤_, _<_}
 use mathlib.Core.Bool.{Bool, true, false, _&&_}
 use mathlib.Core.Path.{_≡_, refl, sym, ap, ap₂, _∙_}
 use mathlib.Core.List.{List}
@@ -8,7 +8,6 @@ use lib.Dec.{eqb}
 use lib.ListN.{length, getD}
 use native.Mathlib.Decide.{decLe}
 use native.Mathlib.Omega.{arith}
-use borrow.Author.Tests.{lt-ltb}
 use Rattle.meaning.specs.Limits.{blockSegments}
 use Rattle.meaning.specs.Rows.{bit}
 use Rattle.meaning.specs.Segment.{bitAt, isSet}
@@ -26,10 +25,8 @@ use Rattle.adder.specs.Digits.{numberAt, Paired}
 use Rattle.block_read.specs.Taken.{wordAt}
 use Rattle.walk.specs.Queries.{cursorOf, CursorAt, Standing, placeBody}
 use Rattle.walk.specs.Surveys.{onesIn, dirtyIn}
-use Rattle.merge.specs.Parts.{MaskOf}
 use Rattle.merge.proofs.Stretched.{row-bit, row-run}
 use Rattle.block_write.specs.Rowed.{CleanWord}
-use Rattle.pairs.specs.Passes.{Chosen}
 use Rattle.pairs.proofs.Rows.{BlockOf}
 
 -- ---- one cursor
@@ -83,19 +80,15 @@ number-alike x n j l h =
 
 -- ---- their sum
 
-module _ (R near N o n : ℕ) (x y z : List ℕ) (mask : ℕ) (ch : Chosen near R o n true) (ax : AllAlike x) (ay : AllAlike y)
-    (p : Paired sumValue x y N 1 mask z) (m : MaskOf R (o + n) mask) where
-  masked : (j : ℕ) → j < 32 → isSet mask j ≡ true
-  masked j k = m .rows j k ∙ lt-ltb ((o + n - 1) * 32 + j) R (omega (arith, ch .in-rows refl, ch .some))
-
+module _ (N : ℕ) (x y z : List ℕ) (ax : AllAlike x) (ay : AllAlike y) (p : Paired sumValue x y N z) where
   first-word : (v : List ℕ) → AllAlike v → (j : ℕ) → j < 32 → isSet (getD v 0 0) j ≡ isSet (getD v 0 0) 0
   first-word v a j k = a 0 j k
 
   exists-alike : (j : ℕ) → j < 32 → isSet (getD z 0 0) j ≡ isSet (getD z 0 0) 0
   exists-alike j k =
-      p .exists-last 0 j refl
-      ∙ ap₂ (λ (a b : Bool). a && b) (ap₂ (λ (a b : Bool). a && b) (first-word x ax j k) (first-word y ay j k)) (masked j k ∙ sym (masked 0 (omega arith)))
-      ∙ sym (p .exists-last 0 0 refl)
+      p .exists 0 j (omega arith)
+      ∙ ap₂ (λ (a b : Bool). a && b) (first-word x ax j k) (first-word y ay j k)
+      ∙ sym (p .exists 0 0 (omega arith))
 
   alike-at : (b : ℕ) → b ≤ N → (j : ℕ) → j < 32 → isSet (getD z (b * blockSegments + 0) 0) j ≡ isSet (getD z (b * blockSegments + 0) 0) 0
   alike-at zero l j k = exists-alike j k

@@ -1,4 +1,5 @@
 pub mod Choosing
+pub mod Spelling
 pub mod Blocks
 pub mod Rows
 pub mod Evenly

@@ -1,12 +1,11 @@
 -- What one pass over two columns gives: the bodies of their sum, measured or written.
 -- Assumes nothing.
-use Prim.Native.Nat.{ℕ, _+_, _*_, _≤_, _<_}
+use Prim.Native.Nat.{ℕ, _+_, _≤_, _<_}
 use mathlib.Core.Bool.{Bool, true, false}
 use mathlib.Core.Path.{_≡_}
 use mathlib.Core.List.{List, _++_}
 use lib.ListN.{length, getD, take, drop}
 use Rattle.meaning.specs.Limits.{leastColumn, mostValueColumn, blockSegments, writersNumbers}
-use Rattle.meaning.specs.Segment.{segmentCount}
 use Rattle.meaning.specs.Canonical.{canonical}
 use Rattle.meaning.specs.Index.{rowCount}
 use Rattle.meaning.specs.Laws.{IndexFacts}
@@ -27,14 +26,13 @@ pub record Columns (index first second : List ℕ) (n : ℕ) : Type 0 where
   pub second-fits : length second ≤ n + 1
   pub few : n < mostValueColumn
 
--- the next n segments of R rows from segment o on, where no piece ends before `near`: all within the pieces, and with no pad bit;
--- or at most a block's
-pub record Chosen (near R o n : ℕ) (even : Bool) : Type 0 where
+-- the next n of S segments from segment o on, where no piece ends before `near`: all within the pieces, or at most
+-- a block's
+pub record Chosen (near S o n : ℕ) (even : Bool) : Type 0 where
   pub some : 1 ≤ n
-  pub within : o + n ≤ segmentCount 32 R
+  pub within : o + n ≤ S
   pub in-pieces : even ≡ true → n ≤ near
   pub in-runs : even ≡ true → 2 ≤ near
-  pub in-rows : even ≡ true → (o + n) * 32 ≤ R
   pub in-block : even ≡ false → n ≤ blockSegments
 
 -- body i of the answer

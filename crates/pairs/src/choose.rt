@@ -1,9 +1,6 @@
 // How many segments come next, and whether as a run: where no piece ends within a block or more, the segments up to the nearest end are
 // alike in every place, and one word for each says them all.
-ghost use mathlib.Core.Path.{_≡_};
-ghost use Prim.Native.Nat.{_≤_, _<_};
-ghost use Rattle.meaning.specs.Limits.{mostRows};
-ghost use Rattle.meaning.specs.Segment.{segmentCount};
+ghost use Prim.Native.Nat.{_<_};
 ghost use Rattle.pairs.specs.Passes.{Chosen};
 use meaning::BLOCK_SEGMENTS;
 use walk::survey;
@@ -14,20 +11,17 @@ pub struct Step {
     pub even: bool,
 }
 
-// The next segments from segment o on, where no piece ends within the next `near`. A segment with pad bits is never part of a
-// run. Behind a run comes one segment alone: often the next run begins behind it, and a block would cut that.
-pub fn choose(near: u32, o: u32, rows: u32, segments: u32, behind_run: bool) -> Step
-    requires { ⌜ (segments ≡ segmentCount 32 rows) × (o < segments) × (rows ≤ mostRows) ⌝ }
-    ensures { λ r. ⌜ Chosen near rows o (r .n) (r .even) ⌝ }
+// The next segments from segment o on, where no piece ends within the next `near`. Behind a run comes one segment
+// alone: often the next run begins behind it, and a block would cut that.
+pub fn choose(near: u32, o: u32, segments: u32, behind_run: bool) -> Step
+    requires { ⌜ o < segments ⌝ }
+    ensures { λ r. ⌜ Chosen near segments o (r .n) (r .even) ⌝ }
 {
-    let full = rows >> 5;
     if BLOCK_SEGMENTS <= contents::wide(near) {
-        if o < full {
-            return Step {
-                n: survey::smaller(near, full - o),
-                even: true,
-            };
-        }
+        return Step {
+            n: survey::smaller(near, segments - o),
+            even: true,
+        };
     }
     if behind_run {
         return Step { n: 1, even: false };

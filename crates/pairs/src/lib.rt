@@ -2,4 +2,5 @@
 // Calls here have a `requires`; the public ones of `zvonurel` test their input first.
 pub mod choose;
 pub mod pass;
+pub mod spell;
 pub mod sum;

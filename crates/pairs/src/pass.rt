@@ -6,8 +6,8 @@ ghost use lib.ListN.{length};
 ghost use Rattle.new_index.specs.Writers.{Laid, region};
 ghost use Rattle.pairs.specs.Passes.{Columns, bodyOf, PassedTo};
 use crate::choose;
+use crate::spell;
 use meaning::BLOCK_WORDS;
-use merge::evaluate;
 use new_index::writers;
 use new_index::writers::Writers;
 use walk::survey;
@@ -43,13 +43,13 @@ pub fn pass(
     while o < segments {
         let near = gather::nearest(&p.numbers, first.len());
         let close = gather::nearest(&q.numbers, second.len());
-        let s = choose::choose(survey::smaller(near, close), o, rows, segments, run);
+        let s = choose::choose(survey::smaller(near, close), o, segments, run);
         let m = s.n;
         let even = s.even;
-        let mask = evaluate::mask_before(rows, segments, o + m);
         gather::gather(index, first, &mut p.numbers, m, even, &mut x);
         gather::gather(index, second, &mut q.numbers, m, even, &mut y);
-        adder::sum(&x, &y, &mut z, n, writers::row_length(m, even), mask);
+        adder::sum(&x, &y, &mut z, n);
+        spell::spell(&mut z, n + 1, o, m, even, rows, segments);
         writers::emit_all(out, starts, &mut ws.numbers, &z, n + 1, m, even, store);
         run = even;
         o += m;

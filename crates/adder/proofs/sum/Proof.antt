@@ -13,10 +13,10 @@ use Rattle.adder.proofs.sum.Statement.{statement}
 use Rattle.adder.proofs.sum.Tie as tie
 
 abbrev Inv-loop : tie.InvT-loop
-Inv-loop x y z₀ n k mask exist carry₀ i₀ z carry i = (i ≤ n) × Carrying x y i carry × Filling sumValue x y exist n i z
+Inv-loop x y z₀ n exist carry₀ i₀ z carry i = (i ≤ n) × Carrying x y i carry × Filling sumValue x y exist n i z
 
 abbrev μ-loop : tie.MeasureT-loop
-μ-loop x y z₀ n k mask exist carry₀ i₀ z carry i = n - i
+μ-loop x y z₀ n exist carry₀ i₀ z carry i = n - i
 
 exist-requires : tie.Need-exist-requires Inv-loop μ-loop
 exist-requires c κs = search needs
@@ -66,9 +66,8 @@ loop-again c =
 returns : tie.Need-returns Inv-loop μ-loop
 returns c =
     let h = c .before .loop in
-    let s = c .before .before .before .before in
-    let i-is : h .i ≡ s .args .n = omega arith in
-    filling-all (s .pre .2) (c .before .before .exist .ensures) (rw i-is at (h .inv .2))
+    let i-is : h .i ≡ c .before .before .before .before .args .n = omega arith in
+    filling-all (c .before .before .exist .ensures) (rw i-is at (h .inv .2))
 
 pub sum-spec : {M : Type 1} → statement M
 sum-spec =

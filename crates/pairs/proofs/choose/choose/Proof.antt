@@ -1,6 +1,5 @@
 -- `pairs::choose::choose` meets its contract: each way is a law of `Choosing`.
 -- Assumes nothing.
-use mathlib.Core.Path.{refl}
 use native.Mathlib.Omega.{arith}
 use borrow.Author.Needs.{needs}
 use Rattle.pairs.proofs.Choosing.{chosen-run, chosen-one, chosen-block}
@@ -18,11 +17,12 @@ smaller-requires c κs = search needs
 
 returns : tie.Need-returns
 returns c =
-    let t = c .before .before .before in
-    chosen-run _ _ _ _ _ refl (c .before .if2 .taken) (omega (arith, c .before .before .if1 .taken, t .wide .ensures .0)) (c .smaller .ensures)
+    let t = c .before .before in
+    chosen-run _ _ _ (t .before .pre) _ (omega (arith, c .before .if1 .taken, t .wide .ensures .0))
+    (omega (arith, c .smaller .ensures))
 
 returns-2 : tie.Need-returns-2
-returns-2 c = let s = c .before .before .before in chosen-one _ _ _ _ (s .pre .0) (s .pre .1)
+returns-2 c = chosen-one _ _ _ (c .before .before .before .pre)
 
 cast-smaller : tie.Need-cast-smaller
 cast-smaller c = search needs
@@ -34,7 +34,7 @@ smaller-requires-2 : tie.Need-smaller-requires-2
 smaller-requires-2 c κs = search needs
 
 returns-3 : tie.Need-returns-3
-returns-3 c = let s = c .before .before .before .before in chosen-block _ _ _ _ _ (s .pre .0) (s .pre .1) (c .smaller2 .ensures)
+returns-3 c = chosen-block _ _ _ (c .before .before .before .before .pre) _ (omega (arith, c .smaller2 .ensures))
 
 pub choose-spec : {M : Type 1} → statement M
 choose-spec =

@@ -15,12 +15,10 @@ use Rattle.meaning.specs.Column.{sumValue}
 use Rattle.ewah.specs.Cursors.{leftOf}
 use Rattle.adder.specs.Digits.{Paired}
 use Rattle.walk.specs.Queries.{cursorOf}
-use Rattle.merge.specs.Parts.{MaskOf}
 use Rattle.merge.proofs.Along.{segments-few}
-use Rattle.new_index.specs.Writers.{rowLength}
 use Rattle.pairs.specs.Passes.{Columns, Chosen}
-use Rattle.new_index.proofs.RowParts.{row-low}
-use Rattle.pairs.proofs.Rows.{BlockOf, Cleared, row-some, zeros}
+use Rattle.pairs.specs.Spellings.{Spelled}
+use Rattle.pairs.proofs.Rows.{BlockOf, Cleared, zeros}
 use Rattle.pairs.proofs.Passing.{before, walking-on, still-cleared, block-of, Passing, passing-none, used-low, writing, m-low, cleans, room, passing-more, passing-all}
 use Rattle.pairs.proofs.pass.pass.Statement.{statement}
 use Rattle.pairs.proofs.pass.pass.Tie as tie
@@ -108,8 +106,8 @@ module _ (w : tie.After-choose Inv-loop μ-loop) where
   abbrev near : ℕ
   near = w .before .smaller .result
 
-  ch : Chosen near (R here) (o here) m even
-  ch = subst (λ (r : ℕ). Chosen near r (o here) m even) (rows-are here) (w .choose .ensures)
+  ch : Chosen near (segmentCount 32 (R here)) (o here) m even
+  ch = subst (λ (k : ℕ). Chosen near k (o here) m even) (total here) (w .choose .ensures)
 
   near-is : near ≡ min (w .before .before .before .before .before .nearest .result) (w .before .before .nearest2 .result)
   near-is = w .before .smaller .ensures
@@ -123,37 +121,46 @@ module _ (w : tie.After-choose Inv-loop μ-loop) where
   end-fits : o here + m < 4294967296
   end-fits = omega (arith, ch .within, few here)
 
--- ---- where both columns are gathered and added
-module _ (s : tie.After-sum Inv-loop μ-loop) where
+-- ---- where both columns are gathered and added, and the block is spelled
+module _ (s : tie.After-spell Inv-loop μ-loop) where
+  abbrev added : tie.After-sum Inv-loop μ-loop
+  added = s .before .before
+
+  abbrev second-taken : tie.After-gather2 Inv-loop μ-loop
+  second-taken = added .before .before .before .before
+
+  abbrev first-taken : tie.After-gather Inv-loop μ-loop
+  first-taken = second-taken .before .before .before
+
   abbrev chosen : tie.After-choose Inv-loop μ-loop
-  chosen = s .before .before .before .before .before .before .before .before .before .before .before .before
+  chosen = first-taken .before .before .before
 
   abbrev h : tie.In-loop Inv-loop μ-loop
   h = here chosen
 
   abbrev x : List ℕ
-  x = s .before .before .before .before .before .before .before .before .gather .last .1 .1 .1 .1 .1 .0
+  x = first-taken .gather .last .1 .1 .1 .1 .1 .0
 
   abbrev y : List ℕ
-  y = s .before .before .before .before .before .gather2 .last .1 .1 .1 .1 .1 .0
+  y = second-taken .gather2 .last .1 .1 .1 .1 .1 .0
 
   abbrev z : List ℕ
-  z = s .sum .last .1 .1 .0
+  z = added .sum .last .1 .1 .0
 
-  abbrev mask : ℕ
-  mask = s .before .before .before .before .before .before .before .before .before .before .before .mask-before .result
-
-  masked : MaskOf (R h) (o h + m chosen) mask
-  masked = subst (λ (r : ℕ). MaskOf r (o h + m chosen) mask) (rows-are h) (s .before .before .before .before .before .before .before .before .before .before .before .mask-before .ensures)
+  abbrev z′ : List ℕ
+  z′ = s .spell .last .0
 
   blocks1 : BlockOf (index h) (first h) (o h) (m chosen) (even chosen) x
-  blocks1 = block-of (index h) (first h) (cs h .facts) (cs h .first-listed) (ns1 h) (o h) (m chosen) (g h .first-walking) (even chosen) _ _ x (s .before .before .before .before .before .before .before .before .gather .ensures) (h .before .loop .inv .2)
+  blocks1 = block-of (g h .first-walking) (first-taken .gather .ensures) (h .before .loop .inv .2)
 
   blocks2 : BlockOf (index h) (second h) (o h) (m chosen) (even chosen) y
-  blocks2 = block-of (index h) (second h) (cs h .facts) (cs h .second-listed) (ns2 h) (o h) (m chosen) (g h .second-walking) (even chosen) _ _ y (s .before .before .before .before .before .gather2 .ensures) (h .before .loop .inv .3)
+  blocks2 = block-of (g h .second-walking) (second-taken .gather2 .ensures) (h .before .loop .inv .3)
 
-  added : Paired sumValue x y (n h) (rowLength (m chosen) (even chosen)) mask z
-  added = subst (λ (k : ℕ). Paired sumValue x y (n h) k mask z) (s .before .row-length .ensures) (s .sum .ensures)
+  sums : Paired sumValue x y (n h) z
+  sums = added .sum .ensures
+
+  spelled : Spelled (R h) (o h) (m chosen) (even chosen) z (n h + 1) z′
+  spelled = subst (λ (r : ℕ). Spelled r (o h) (m chosen) (even chosen) z (n h + 1) z′) (rows-are h) (s .spell .ensures)
 
 rows-requires : tie.Need-rows-requires Inv-loop μ-loop
 rows-requires c κs = c .before .before .before .before .before .pre .0 .facts .head .head
@@ -176,8 +183,10 @@ loop-holds c =
     let a = t .args in
     let e = c .before .before .«open» .ensures in
     let f = c .before .open2 .ensures in (
-      passing-none (now (a .index)) (now (a .first)) (now (a .second)) (a .n) (now (a .starts)) (now (a .out)) (a .store) (t .pre .0) _ _ _
-          (record { standing = e .2; long = e .1 }) (record { standing = f .2; long = f .1 }) (c .start .ensures .0) (c .start .ensures .1),
+      passing-none (now (a .index)) (now (a .first)) (now (a .second)) (a .n) (now (a .starts)) (now (a .out))
+          (a .store) _ _ _ (t .pre .0)
+          (record { standing = e .2; long = e .1 }) (record { standing = f .2; long = f .1 })
+          (c .start .ensures .0) (c .start .ensures .1),
       refl,
       record { long = refl; past = λ i l. zeros blockWords i },
       record { long = refl; past = λ i l. zeros blockWords i },
@@ -193,21 +202,11 @@ smaller-requires : tie.Need-smaller-requires Inv-loop μ-loop
 smaller-requires c κs = search needs
 
 choose-requires : tie.Need-choose-requires Inv-loop μ-loop
-choose-requires c κs =
-    let i = c .before .before .before .before .before .before .before in
-    (i .before .before .before .before .before .segment-count .ensures, i .loop-test .taken, omega (arith, rows-are i, cs i .facts .head .few-rows))
-
-add-mask-before : tie.Need-add-mask-before Inv-loop μ-loop
-add-mask-before c = omega (arith, end-fits c)
-
-mask-before-requires : tie.Need-mask-before-requires Inv-loop μ-loop
-mask-before-requires c κs =
-    let i = here c in
-    (i .before .before .before .before .before .segment-count .ensures, omega (arith, ch c .some), omega (arith, ch c .within, total i))
+choose-requires c κs = c .before .before .before .before .before .before .before .loop-test .taken
 
 gather-requires : tie.Need-gather-requires Inv-loop μ-loop
 gather-requires c κs =
-    let w = c .before .before .before in
+    let w = c .before .before in
     let i = here w in (
       cs i .facts .head,
       (
@@ -215,7 +214,7 @@ gather-requires c κs =
         (
           cs i .first-listed,
           (
-            before (index i) (first i) (cs i .facts) (cs i .first-listed) (ns1 i) (o i) (m w) (g i .first-walking) (ch w .within),
+            before (g i .first-walking) (cs i .facts) (cs i .first-listed) (m w) (ch w .within),
             (
               g i .first-walking .long,
               i .before .loop .inv .2 .long,
@@ -231,7 +230,7 @@ gather-requires c κs =
 
 gather-requires-2 : tie.Need-gather-requires-2 Inv-loop μ-loop
 gather-requires-2 c κs =
-    let w = c .before .before .before .before .before .before in
+    let w = c .before .before .before .before .before in
     let i = here w in (
       cs i .facts .head,
       (
@@ -239,7 +238,7 @@ gather-requires-2 c κs =
         (
           cs i .second-listed,
           (
-            before (index i) (second i) (cs i .facts) (cs i .second-listed) (ns2 i) (o i) (m w) (g i .second-walking) (ch w .within),
+            before (g i .second-walking) (cs i .facts) (cs i .second-listed) (m w) (ch w .within),
             (
               g i .second-walking .long,
               i .before .loop .inv .3 .long,
@@ -253,19 +252,28 @@ gather-requires-2 c κs =
       ),
     )
 
-row-length-requires : tie.Need-row-length-requires Inv-loop μ-loop
-row-length-requires c κs = search needs
-
 sum-requires : tie.Need-sum-requires Inv-loop μ-loop
 sum-requires c κs =
+    let t2 = c .before .before .before in
+    let t1 = t2 .before .before .before in
+    let i = here (t1 .before .before .before) in
+    (cs i .few, t1 .gather .ensures .rows-long, t2 .gather2 .ensures .rows-long, i .before .loop .inv .1)
+
+add-spell : tie.Need-add-spell Inv-loop μ-loop
+add-spell c =
+    let w = c .before .before .before .before .before .before .before .before .before .before .before in
+    omega (arith, cs (here w) .few)
+
+spell-requires : tie.Need-spell-requires Inv-loop μ-loop
+spell-requires c κs =
     let w = c .before .before .before .before .before .before .before .before .before .before .before in
     let i = here w in (
-      cs i .few,
-      omega (arith, c .row-length .ensures, row-some (m w) (even w) (ch w .some)),
-      omega (arith, c .row-length .ensures, row-low (m w) (even w) (ch w .in-block)),
-      c .before .before .before .before .before .before .before .gather .ensures .rows-long,
-      c .before .before .before .before .gather2 .ensures .rows-long,
-      i .before .loop .inv .1,
+      i .before .before .before .before .before .segment-count .ensures,
+      ch w .some,
+      omega (arith, ch w .within, total i),
+      c .before .sum .ensures .long,
+      omega (arith, cs i .few),
+      ch w .in-block,
     )
 
 add-emit-all : tie.Need-add-emit-all Inv-loop μ-loop
@@ -276,18 +284,19 @@ emit-all-requires c κs =
     let s = c .before .before .before in
     let w = chosen s in
     let i = h s in
-    let low = m-low (index i) (first i) (second i) (n i) (starts i) (old i) (store i) (cs i) (out i) (ns1 i) (ns2 i) (ws i) (o i) (g i) (near w) (m w) (even w) (ch w) (near1 w) (near2 w) in (
-      (omega (arith, cs i .few), g i .numbers-long, added s .long, ch w .some, low, ch w .in-block),
+    let low = m-low (cs i) (g i) (ch w) (near1 w) (near2 w) in (
+      (omega (arith, cs i .few), g i .numbers-long, spelled s .long ∙ sums s .long, ch w .some, low, ch w .in-block),
       (
         rw (g i .long) (call i .pre .1 .0),
         (
           λ k l. (
-            writing (index i) (first i) (second i) (n i) (starts i) (old i) (store i) (cs i) (out i) (ns1 i) (ns2 i) (ws i) (o i) (g i) k (omega arith),
-            omega (arith, used-low (index i) (first i) (second i) (n i) (starts i) (old i) (store i) (cs i) (out i) (ns1 i) (ns2 i) (ws i) (o i) (g i) k (omega arith), inside i, few i),
+            writing (cs i) (g i) k (omega arith),
+            omega (arith, used-low (cs i) (g i) k (omega arith), inside i, few i),
           ),
           (
-            cleans (index i) (first i) (second i) (n i) (starts i) (old i) (store i) (cs i) (out i) (ns1 i) (ns2 i) (ws i) (o i) (g i) (near w) (m w) (even w) (ch w) (near1 w) (near2 w) (x s) (y s) (z s) (mask s) (blocks1 s) (blocks2 s) (added s) (masked s),
-            room (index i) (first i) (second i) (n i) (starts i) (old i) (store i) (cs i) (out i) (ns1 i) (ns2 i) (ws i) (o i) (g i) (near w) (m w) (even w) (ch w) (near1 w) (near2 w) (x s) (y s) (z s) (mask s) (blocks1 s) (blocks2 s) (added s) (masked s) (call i .pre .1 .0) (call i .pre .1 .1),
+            cleans (cs i) (g i) (ch w) (near1 w) (near2 w) (blocks1 s) (blocks2 s) (sums s) (spelled s),
+            room (cs i) (g i) (ch w) (near1 w) (near2 w) (blocks1 s) (blocks2 s) (sums s) (spelled s)
+                (call i .pre .1 .0) (call i .pre .1 .1),
           ),
         ),
       ),
@@ -304,14 +313,14 @@ loop-again c =
     let s = c .before .before .before .before .before .before in
     let w = chosen s in
     let i = h s in
-    let e = c .before .before .emit-all in (
-      passing-more (index i) (first i) (second i) (n i) (starts i) (old i) (store i) (cs i) (out i) (ns1 i) (ns2 i) (ws i) (o i) (g i) (near w) (m w) (even w) (ch w) (near1 w) (near2 w) (x s) (y s) (z s) (mask s) (blocks1 s) (blocks2 s) (added s) (masked s)
-          (e .last .0) (e .last .1 .1 .0) (e .ensures) _ _
-          (walking-on (index i) (first i) (cs i .facts) (cs i .first-listed) (ns1 i) (o i) (m w) (g i .first-walking) (even w) _ _ (x s) (s .before .before .before .before .before .before .before .before .gather .ensures))
-          (walking-on (index i) (second i) (cs i .facts) (cs i .second-listed) (ns2 i) (o i) (m w) (g i .second-walking) (even w) _ _ (y s) (s .before .before .before .before .before .gather2 .ensures)),
-      added s .long,
-      still-cleared (index i) (first i) (cs i .facts) (cs i .first-listed) (ns1 i) (o i) (m w) (g i .first-walking) (even w) _ _ (x s) (s .before .before .before .before .before .before .before .before .gather .ensures) (i .before .loop .inv .2),
-      still-cleared (index i) (second i) (cs i .facts) (cs i .second-listed) (ns2 i) (o i) (m w) (g i .second-walking) (even w) _ _ (y s) (s .before .before .before .before .before .gather2 .ensures) (i .before .loop .inv .3),
+    let taken1 = first-taken s .gather .ensures in
+    let taken2 = second-taken s .gather2 .ensures in (
+      passing-more (cs i) (g i) (ch w) (near1 w) (near2 w) (blocks1 s) (blocks2 s) (sums s) (spelled s)
+          (c .before .before .emit-all .ensures) (walking-on (g i .first-walking) taken1)
+          (walking-on (g i .second-walking) taken2),
+      spelled s .long ∙ sums s .long,
+      still-cleared (g i .first-walking) taken1 (i .before .loop .inv .2),
+      still-cleared (g i .second-walking) taken2 (i .before .loop .inv .3),
     )
 
 same-length : tie.Need-same-length Inv-loop μ-loop
@@ -320,10 +329,14 @@ same-length c = let l = c .before .loop in l .inv .0 .long
 returns : tie.Need-returns Inv-loop μ-loop
 returns c =
     let l = c .before .loop in
-    let t = c .before .before .before .before .before .before .before .before .before .before .before .before in
-    let a = t .args in
-    passing-all (now (a .index)) (now (a .first)) (now (a .second)) (a .n) (now (a .starts)) (now (a .out)) (a .store) (t .pre .0) (l .out) (l .p .numbers) (l .q .numbers) (l .ws .numbers) (l .o) (l .inv .0)
-    (omega (arith, c .loop-test .left, c .before .before .before .before .before .segment-count .ensures, ap (segmentCount 32) (c .before .before .before .before .before .before .rows .ensures)))
+    let counted = c .before .before .before .before .before in
+    passing-all (counted .before .before .before .before .before .before .before .pre .0) (l .inv .0)
+    (omega (
+      arith,
+      c .loop-test .left,
+      counted .segment-count .ensures,
+      ap (segmentCount 32) (counted .before .rows .ensures),
+    ))
 
 pub pass-spec : {M : Type 1} → statement M
 pass-spec =
@@ -341,12 +354,11 @@ pass-spec =
     nearest-requires-2
     smaller-requires
     choose-requires
-    add-mask-before
-    mask-before-requires
     gather-requires
     gather-requires-2
-    row-length-requires
     sum-requires
+    add-spell
+    spell-requires
     add-emit-all
     emit-all-requires
     add-o
