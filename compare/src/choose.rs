@@ -117,7 +117,8 @@ impl Asker<'_> {
         let rows = self.input.rows;
         let inside = self.random.below(rows as usize) as u32;
         let last = rows.wrapping_sub(1);
-        self.thin(vec![inside, 0, last, rows, rows.wrapping_add(1), u32::MAX])
+        let last_bit = rows | (WORD_BITS as u32 - 1);
+        self.thin(vec![inside, 0, last, rows, rows.wrapping_add(1), last_bit, u32::MAX])
     }
 
     /// Numbers for nth on bitmap `k`.
@@ -156,7 +157,7 @@ impl Asker<'_> {
         if let Some(last) = other.last_mut() {
             let pads = !last_mask(rows);
             let some = pads & self.random.word();
-            *last |= self.random.pick(&[pads, some, 1 << (WORD_BITS - 1)]);
+            *last |= self.random.pick(&[pads, some, 1 << (WORD_BITS - 1), u32::MAX]);
         }
         self.ask_rooms(&other, question(rows));
         other.pop();

@@ -3,7 +3,7 @@
 use reference::limits::MOST_SUMMED;
 use zvonurel::{segments, MOST_BITMAPS, WORD_BITS};
 
-use crate::generate::{index_input, mask_last, some_word, spelled};
+use crate::generate::{end_somehow, index_input, mask_last, some_word, spelled};
 use crate::generate::{Effort, Input, Style, DIRTIES, LONG_ROWS, RUNS};
 use crate::random::Random;
 
@@ -153,7 +153,7 @@ fn laid(shape: &Shape, random: &mut Random) -> Vec<u32> {
             _ => plain.extend(std::iter::repeat_n(random.pick(&[0, u32::MAX]), stretch.length)),
         }
     }
-    mask_last(&mut plain, shape.rows);
+    end_somehow(&mut plain, shape.rows, random);
     plain
 }
 

@@ -4,6 +4,7 @@
 use zvonurel::{index_of, MOST_DIRTY, WORD_BITS};
 
 use crate::encode::{last_mask, marker, settled};
+use crate::generate::mask_last;
 use crate::question::{Call, Question};
 use crate::random::Random;
 use crate::session::Session;
@@ -17,6 +18,8 @@ const PASSED: usize = 512;
 struct Draft {
     body: Vec<u32>,
     plain: Vec<u32>,
+    /// Where the last segment's dirty word stands, unless a run says it.
+    last: Option<usize>,
     /// The segments at which blocks of dirty words begin or end.
     edges: Vec<usize>,
 }
@@ -27,6 +30,11 @@ impl Draft {
         self.body.push(marker(value, clean, dirty.len()));
         self.body.extend(dirty);
         self.plain.extend(std::iter::repeat_n(if value { u32::MAX } else { 0 }, clean));
+        if !dirty.is_empty() {
+            self.last = Some(self.body.len() - 1);
+        } else if clean > 0 {
+            self.last = None;
+        }
         let start = self.plain.len();
         self.plain.extend(dirty);
         self.edges.extend((start..self.plain.len()).step_by(COUNTED));
@@ -43,13 +51,12 @@ impl Draft {
         self.then(value, 0, &[])
     }
 
-    /// The rows, with so many pads behind the last one; where there are any, the last word is a dirty one.
+    /// The rows, with so many pads behind the last one. Plain words and a dirty word have no pad bits; a run stays.
     fn rows(&mut self, pads: usize) -> u32 {
         let rows = (WORD_BITS * self.plain.len() - pads) as u32;
-        for words in [&mut self.body, &mut self.plain] {
-            if let Some(last) = words.last_mut().filter(|_| pads > 0) {
-                *last &= last_mask(rows);
-            }
+        mask_last(&mut self.plain, rows);
+        if let Some(last) = self.last {
+            self.body[last] &= last_mask(rows);
         }
         rows
     }
@@ -78,7 +85,7 @@ fn ask(session: &mut Session, mut draft: Draft, pads: usize) {
     for &n in &nths {
         session.ask(&draft.body, alone(Call::BodyNth).number(n));
     }
-    let index = index_of(rows, &[draft.body, settled(&draft.plain)]);
+    let index = index_of(rows, &[draft.body, settled(&draft.plain, rows)]);
     for k in [0, 1] {
         session.ask(&index, Question::new(Call::Count).list(&[k]));
         for &n in &nths {
@@ -132,7 +139,10 @@ fn lengths(session: &mut Session, random: &mut Random) {
 fn block_ends(session: &mut Session, random: &mut Random) {
     for length in [COUNTED, 2 * COUNTED, PASSED, 2 * PASSED] {
         let first = Draft::default().words(&mixed_words(random, length));
-        ask(session, first.clone().then(true, 3, &[]), 0);
+        for pads in [0, 1, random.below(WORD_BITS), WORD_BITS - 1] {
+            ask(session, first.clone().then(true, 3, &[]), pads);
+            ask(session, first.clone().then(true, 1, &[]).idle(false), pads);
+        }
         ask(session, first.clone().words(&mixed_words(random, 1)), 7);
         let runs = first.then(true, 2, &mixed_words(random, 5)).then(false, 70, &mixed_words(random, COUNTED));
         ask(session, runs.then(true, 1, &words_among(random, length, 0)), 31);
@@ -164,12 +174,14 @@ fn idle_markers(session: &mut Session, random: &mut Random) {
     for length in [COUNTED, COUNTED, PASSED, PASSED] {
         blocks = blocks.idle(false).words(&mixed_words(random, length)).idle(true);
     }
-    ask(session, blocks, 0);
+    ask(session, blocks.clone(), 0);
+    ask(session, blocks.then(true, 1, &[]).idle(true), 9);
     let mut every = Draft::default();
     for (at, length) in [1, COUNTED - 1, COUNTED, 0, COUNTED + 1, 2 * COUNTED, PASSED - 1, 3].into_iter().enumerate() {
         every = every.then(at % 2 == 0, at % 3, &words_among(random, length, u32::MAX)).idle(at % 2 == 1);
     }
-    ask(session, every, 0);
+    ask(session, every.clone(), 0);
+    ask(session, every, 13);
 }
 
 /// Words that make sums carry far: all ones, all ones but for one word, and alternate bits.

@@ -16,10 +16,17 @@ pub const fn marker(value: bool, clean: usize, dirty: usize) -> u32 {
     value as u32 | (clean as u32) << CLEAN_SHIFT | (dirty as u32) << DIRTY_SHIFT
 }
 
-/// The dirty count of a marker.
-pub fn dirty_of(marker: u32) -> usize {
-    (marker >> DIRTY_SHIFT) as usize
+/// These words as runs spell them: a full last one as all ones, pads and all.
+fn as_run(plain: &[u32], rows: u32) -> Vec<u32> {
+    let mut words = plain.to_vec();
+    if let Some(last) = words.last_mut().filter(|last| **last == last_mask(rows)) {
+        *last = u32::MAX;
+    }
+    words
 }
+
+/// A mixed word, for one that is to be dirty whatever it is.
+const MIXED: u32 = 1;
 
 fn is_clean(word: u32) -> bool {
     word == 0 || word == u32::MAX
@@ -38,21 +45,22 @@ fn mixed_run(plain: &[u32]) -> usize {
 }
 
 /// The settled body of these words.
-pub fn settled(plain: &[u32]) -> Vec<u32> {
+pub fn settled(plain: &[u32], rows: u32) -> Vec<u32> {
+    let words = as_run(plain, rows);
     let mut body = Vec::new();
-    let mut rest = plain;
-    while !rest.is_empty() {
-        let run = clean_run(rest);
+    let mut at = 0;
+    while at < words.len() {
+        let run = clean_run(&words[at..]);
         let clean = run.min(MOST_CLEAN);
-        let value = clean > 0 && rest[0] == u32::MAX;
-        rest = &rest[clean..];
+        let value = clean > 0 && words[at] == u32::MAX;
+        at += clean;
         let dirty = match run > clean {
             true => 0,
-            false => mixed_run(rest).min(MOST_DIRTY),
+            false => mixed_run(&words[at..]).min(MOST_DIRTY),
         };
         body.push(marker(value, clean, dirty));
-        body.extend(&rest[..dirty]);
-        rest = &rest[dirty..];
+        body.extend(&plain[at..at + dirty]);
+        at += dirty;
     }
     body
 }
@@ -68,16 +76,21 @@ pub fn one_run(value: bool, segments: usize) -> Vec<u32> {
 }
 
 /// A sound body of these words that takes more room than it has to: idle
-/// markers, cut runs, clean segments under dirty words.
-pub fn wasteful(plain: &[u32], random: &mut Random) -> Vec<u32> {
+/// markers, cut runs, clean segments under dirty words. The last segment is
+/// often a dirty word.
+pub fn wasteful(plain: &[u32], rows: u32, random: &mut Random) -> Vec<u32> {
+    let mut words = as_run(plain, rows);
+    if let Some(last) = words.last_mut().filter(|_| random.one_in(3)) {
+        *last = MIXED;
+    }
     let mut body = Vec::new();
-    let mut rest = plain;
-    while !rest.is_empty() || random.one_in(6) {
+    let mut at = 0;
+    while at < words.len() || random.one_in(6) {
         if random.one_in(8) {
             body.push(marker(random.one_in(2), 0, 0));
             continue;
         }
-        let run = clean_run(rest).min(MOST_CLEAN);
+        let run = clean_run(&words[at..]).min(MOST_CLEAN);
         let clean = match random.below(4) {
             0 => 0,
             1 => random.between(0, run),
@@ -85,13 +98,13 @@ pub fn wasteful(plain: &[u32], random: &mut Random) -> Vec<u32> {
         };
         let value = match clean {
             0 => random.one_in(2),
-            _ => rest[0] == u32::MAX,
+            _ => words[at] == u32::MAX,
         };
-        rest = &rest[clean..];
-        let dirty = some_dirty(rest, random);
+        at += clean;
+        let dirty = some_dirty(&words[at..], random);
         body.push(marker(value, clean, dirty));
-        body.extend(&rest[..dirty]);
-        rest = &rest[dirty..];
+        body.extend(&plain[at..at + dirty]);
+        at += dirty;
     }
     body
 }

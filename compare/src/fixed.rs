@@ -11,14 +11,16 @@ use crate::generate::{Effort, Form, Input};
 use crate::question::{Call, Question};
 use crate::random::Random;
 use crate::session::Session;
+use crate::tails;
 
 /// The example called LOOPED: 4 rows, three bitmaps.
 pub const LOOPED: [u32; 15] = [1, 4, 3, 9, 2, 11, 2, 13, 2, 0x20000, 0x3, 0x20000, 0xE, 0x20000, 0x8];
 
 /// Bodies of 40 rows, sound and otherwise.
-const BODIES: [&[u32]; 12] = [
+const BODIES: [&[u32]; 13] = [
     &[0x0004_0000, 0x1, 0x80],    // rows 0 and 39
-    &[0x0002_0003, 0xFF],         // all rows
+    &[0x0000_0005],               // all rows
+    &[0x0002_0003, 0xFF],         // all rows, the last by a dirty word
     &[0x0000_0004],               // none
     &[0x1, 0x0004_0000, 0, 0, 0], // idle and clean dirty words
     &[0x0006_0000, 0x1, 0x80],    // 5
@@ -26,9 +28,9 @@ const BODIES: [&[u32]; 12] = [
     &[0x0002_0004, 0x1],          // 6 at a marker
     &[0x0004_0000, 0x1, 0x80, 2], // 6 at a later marker
     &[0x0002_0000, 0x1],          // 6 at the end
-    &[0x0000_0005],               // 7, run
-    &[0x0004_0000, 0x1, 0x100],   // 7, dirty word
-    &[0x0002_0003, 0x8000_0000],  // 7, dirty word after ones
+    &[0x0000_0007],               // 6, a run of ones one segment too long
+    &[0x0004_0000, 0x1, 0x100],   // 7
+    &[0x0002_0003, 0x8000_0000],  // 7 after ones
 ];
 
 fn input(form: Form, words: Vec<u32>, rows: u32, bitmaps: u32, plain: Vec<Vec<u32>>) -> Input {
@@ -85,7 +87,7 @@ fn inputs() -> Vec<Input> {
         let twice = vec![plain[0].clone(), plain[0].clone()];
         all.push(input(Form::Index, index, 40, 2, twice));
     }
-    all.push(input(Form::Body, BODIES[2].to_vec(), MOST_ROWS + 1, 1, plain));
+    all.push(input(Form::Body, BODIES[3].to_vec(), MOST_ROWS + 1, 1, plain));
     all.push(input(Form::Body, vec![], 0, 1, vec![vec![]]));
     all.push(input(Form::Body, vec![1, 0], 0, 1, vec![vec![]]));
     all
@@ -97,6 +99,7 @@ pub fn run(session: &mut Session) {
         ask_all(session, input, &mut Random::for_case(0, case as u64));
     }
     counting::run(session);
+    tails::run(session);
     column_corners(session);
     column_lengths(session);
     late_strays(session);
@@ -107,9 +110,9 @@ pub fn run(session: &mut Session) {
 // ---- columns ----
 
 /// Bitmaps of 40 rows that columns are made of.
-const SLICES: [&[u32]; 10] = [
+const SLICES: [&[u32]; 12] = [
     &[0x0000_0004],                       // none
-    &[0x0002_0003, 0xFF],                 // all
+    &[0x0002_0003, 0xFF],                 // all, the last by a dirty word
     &[0x0000_0003, 0x2],                  // 0 to 31
     &[0x0002_0002, 0xFF],                 // 32 to 39
     &[0x0002_0002, 0x80],                 // 39, beside the pads
@@ -118,10 +121,15 @@ const SLICES: [&[u32]; 10] = [
     &[0x0004_0000, 0, 0],                 // none, clean dirty words
     &[1, 0x0004_0000, u32::MAX, 0xFF, 0], // all, a clean dirty word and idle markers
     &[0, 3, 0, 0x0002_0001, 0, 1],        // 0 to 31, the same
+    &[0x0000_0005],                       // all, as a run
+    &[0x0000_0002, 0x3],                  // 32 to 39, as a run
 ];
 
+/// A number that none of them has.
+const NONE: u32 = SLICES.len() as u32;
+
 /// Pairs of columns of these.
-const PAIRS: [(&[u32], &[u32]); 23] = [
+const PAIRS: [(&[u32], &[u32]); 29] = [
     // existence empty, full, disjoint
     (&[0, 0], &[0, 0]),
     (&[0, 0], &[1, 1]),
@@ -135,6 +143,14 @@ const PAIRS: [(&[u32], &[u32]); 23] = [
     // wasteful bodies
     (&[8, 8, 7], &[9, 9, 7]),
     (&[9, 7, 9, 6], &[8, 9, 8]),
+    // a run over the pads and a dirty word
+    (&[1, 10], &[10, 1]),
+    (&[8, 10, 4], &[10, 8, 11]),
+    (&[3, 11], &[11, 3, 4]),
+    (&[10, 11, 10], &[10, 4, 10]),
+    // 11 under such a run: only the rows
+    (&[2, 10], &[10, 10]),
+    (&[11, 10, 11], &[4, 11]),
     // 11 in the first column, in the second, in both; only beside the pads
     (&[2, 4], &[1, 1]),
     (&[1, 1], &[2, 2, 4]),
@@ -148,9 +164,9 @@ const PAIRS: [(&[u32], &[u32]); 23] = [
     (&[2, 4], &[]),
     (&[2, 4], &[1]),
     (&[0], &[2, 4]),
-    (&[2, 4], &[1, 10]),
+    (&[2, 4], &[1, NONE]),
     (&[u32::MAX, 1], &[2, 4]),
-    (&[10, 4], &[1]),
+    (&[NONE, 4], &[1]),
 ];
 
 /// The sum with buffers of about the words needed, and without one.
@@ -226,7 +242,7 @@ fn edge_of_rows(session: &mut Session) {
     let mut plain = vec![0; segments(MOST_ROWS)];
     plain[segments(MOST_ROWS) - 1] = 1 << (WORD_BITS - 1);
     let room = all.len();
-    let words = index_of(MOST_ROWS, &[none, all, settled(&plain)]);
+    let words = index_of(MOST_ROWS, &[none, all, settled(&plain, MOST_ROWS)]);
     let both = |call: Call| Question::new(call).list(&[0, 1]).number(1).room(room);
     let last = |call: Call| Question::new(call).list(&[1]).number(MOST_ROWS - 1);
     session.ask(&words, last(Call::Row));

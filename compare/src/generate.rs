@@ -141,7 +141,7 @@ fn long_runs(random: &mut Random, style: Style) -> Input {
         plain.push(some_word(random));
     }
     let rows = (WORD_BITS * plain.len() - random.below(WORD_BITS)) as u32;
-    mask_last(&mut plain, rows);
+    end_somehow(&mut plain, rows, random);
     let mut all = vec![plain];
     if form == Form::Index && random.one_in(2) {
         let other = derived(&all, rows, random);
@@ -199,12 +199,13 @@ fn some_body(words: &[u32], rows: u32, style: Style, random: &mut Random) -> Vec
     };
     let waste = style == Style::Wasteful || torn && random.one_in(2);
     match waste {
-        true => wasteful(words, random),
-        false => settled(words),
+        true => wasteful(words, rows, random),
+        false => settled(words, rows),
     }
 }
 
-/// The same words with pad bits set, which makes a body of them unsound.
+/// The same words with pad bits set, which makes a body of them unsound unless
+/// a run of ones spells the last.
 fn with_pads(words: &[u32], rows: u32, random: &mut Random) -> Vec<u32> {
     let mut words = words.to_vec();
     let some = random.word();
@@ -236,6 +237,16 @@ pub fn mask_last(plain: &mut [u32], rows: u32) {
     }
 }
 
+/// Pads cleared; before, half of the last segments are made empty, full or
+/// mixed, whatever the others are.
+pub fn end_somehow(plain: &mut [u32], rows: u32, random: &mut Random) {
+    let some = random.word();
+    if let Some(last) = plain.last_mut().filter(|_| random.one_in(2)) {
+        *last = random.pick(&[0, u32::MAX, some]);
+    }
+    mask_last(plain, rows);
+}
+
 /// Any word: clean, nearly clean, or just anything.
 pub fn some_word(random: &mut Random) -> u32 {
     match random.below(8) {
@@ -264,7 +275,7 @@ pub fn spelled(rows: u32, random: &mut Random) -> Vec<u32> {
             plain.extend(std::iter::repeat_n(value, length));
         }
     }
-    mask_last(&mut plain, rows);
+    end_somehow(&mut plain, rows, random);
     plain
 }
 

@@ -15,6 +15,7 @@ mod random;
 mod readings;
 mod session;
 mod shrink;
+mod tails;
 mod tear;
 
 use std::process::ExitCode;

@@ -5,7 +5,7 @@ use reference::limits::{LEAST_COLUMN, MOST_SUMMED, MOST_VALUED};
 use zvonurel::{segments, Refusal, ENTRY_WORDS, HEAD_WORDS, MOST_NAMED};
 
 use crate::ask::Refused;
-use crate::encode::{dirty_of, entry_place};
+use crate::encode::entry_place;
 use crate::question::{Call, Question};
 
 #[derive(Debug, Clone, Copy, PartialEq, Eq)]
@@ -23,7 +23,6 @@ pub enum Place {
     PastBody,
     PastSegments,
     Missing,
-    OnesOverPads,
     PadInDirty,
     PadInPlain,
     BadNumber,
@@ -57,7 +56,7 @@ pub enum Place {
 
 use Place::*;
 
-const ALL: [(Place, &str); 43] = [
+const ALL: [(Place, &str); 42] = [
     (Answered, "- answered"),
     (ShortHead, "1 index below its head"),
     (ShortContents, "1 index below its contents"),
@@ -71,7 +70,6 @@ const ALL: [(Place, &str); 43] = [
     (PastBody, "5 dirty words pass the body"),
     (PastSegments, "6 marker passes the segments"),
     (Missing, "6 segments missing at the end"),
-    (OnesOverPads, "7 ones run over pad bits"),
     (PadInDirty, "7 pad bit in a dirty word"),
     (PadInPlain, "7 pad bit in a plain word"),
     (BadNumber, "8 bitmap number (first)"),
@@ -111,7 +109,7 @@ fn possible(place: Place, call: Call) -> bool {
         ShortHead | ShortContents | WordZero | TooLong | Bitmaps => call.of_index(),
         Start | Length | FinalEnd => call.of_index(),
         Rows => true,
-        PastBody | PastSegments | Missing | OnesOverPads | PadInDirty => body,
+        PastBody | PastSegments | Missing | PadInDirty => body,
         PadInPlain | PlainFew | PlainMany => call == Call::Compress,
         BadNumber => call.of_index() && !call.of_list() && !call.of_column() && call != Call::Check,
         BadSecond => call.of_two(),
@@ -147,8 +145,10 @@ pub fn place_of(words: &[u32], question: &Question, refused: Option<Refused>) ->
         Refusal::BAD_CONTENTS if (word - HEAD_WORDS).is_multiple_of(ENTRY_WORDS) => Start,
         Refusal::BAD_CONTENTS => Length,
         Refusal::DIRTY_PAST_END => PastBody,
-        Refusal::BAD_COUNT | Refusal::PAD_BIT if question.call == Call::Compress => PadInPlain,
-        Refusal::BAD_COUNT | Refusal::PAD_BIT => in_body(words, question, number, bitmap as usize, word),
+        Refusal::BAD_COUNT if word == body_end(words, question, bitmap as usize) => Missing,
+        Refusal::BAD_COUNT => PastSegments,
+        Refusal::PAD_BIT if question.call == Call::Compress => PadInPlain,
+        Refusal::PAD_BIT => PadInDirty,
         Refusal::BAD_ARGUMENT if question.call.of_column() => bad_column(words, question),
         Refusal::BAD_ARGUMENT => bad_argument(words, question),
         Refusal::STRAY_ROW => stray(words, question, bitmap, word),
@@ -156,26 +156,13 @@ pub fn place_of(words: &[u32], question: &Question, refused: Option<Refused>) ->
     }
 }
 
-fn in_body(words: &[u32], question: &Question, number: u32, bitmap: usize, word: usize) -> Place {
-    let (start, end) = match question.call.of_index() {
-        true => {
-            let entry = entry_place(bitmap);
-            let start = words[entry] as usize;
-            (start, start + words[entry + 1] as usize)
-        }
-        false => (0, words.len()),
-    };
-    if number == Refusal::BAD_COUNT {
-        return if word == end { Missing } else { PastSegments };
+/// The place behind a body, that of a bitmap or a lone one.
+fn body_end(words: &[u32], question: &Question, bitmap: usize) -> usize {
+    if !question.call.of_index() {
+        return words.len();
     }
-    let mut marker = start;
-    while marker < word {
-        marker += 1 + dirty_of(words[marker]);
-    }
-    match marker == word {
-        true => OnesOverPads,
-        false => PadInDirty,
-    }
+    let entry = entry_place(bitmap);
+    words[entry] as usize + words[entry + 1] as usize
 }
 
 /// The one thing that is wrong with the arguments, or `Several`.

@@ -8,7 +8,7 @@ use std::time::Instant;
 use zvonurel::{index_of, segments, Refusal, MOST_ROWS, WORD_BITS};
 
 use crate::counting::mixed_words;
-use crate::encode::{entry_place, marker, one_run};
+use crate::encode::{entry_place, last_mask, marker, one_run};
 use crate::fixed::LOOPED;
 use crate::generate::{generate, Form};
 use crate::random::Random;
@@ -66,6 +66,23 @@ fn mixed(segments: usize) -> Vec<u8> {
     question(1, &single((WORD_BITS * segments) as u32, &body))
 }
 
+/// All rows, as a run and with a dirty word at the end, and half of the last segment's: of several numbers of pads.
+fn tails() -> Vec<Vec<u8>> {
+    let mut inputs = Vec::new();
+    for rows in [1, 2, 31, 32, 33, 40, 63, 64, 95, 97] {
+        let count = segments(rows);
+        let last = last_mask(rows);
+        inputs.push(single(rows, &one_run(true, count)));
+        inputs.push(single(rows, &one_run(true, count + 1)));
+        for word in [last, last & 0x5555_5555, u32::MAX] {
+            inputs.push(single(rows, &[marker(true, count - 1, 1), word]));
+        }
+        let two = [one_run(true, count), vec![marker(true, count - 1, 1), last]];
+        inputs.push(index_of(rows, &two));
+    }
+    inputs.iter().flat_map(|index| [1, 2].map(|t| question(t, index))).collect()
+}
+
 /// Inputs that every run tries.
 fn fixed() -> Vec<Vec<u8>> {
     let mut inputs: Vec<Vec<u8>> = (0..=5).map(|n| vec![1; n]).collect();
@@ -88,6 +105,7 @@ fn fixed() -> Vec<Vec<u8>> {
     inputs.extend([MOST_BYTES + 1, MOST_BYTES + WORD_BYTES, FAR_BYTES].map(|n| vec![0; n]));
     inputs.extend([MOST_BYTES - 1, MOST_BYTES - 2].map(|n| padded(MOST_BYTES)[..n].to_vec()));
     inputs.push(all_rows());
+    inputs.extend(tails());
     inputs.extend([63, 64, 65, 127, 128, 129, 511, 512, 513, 1_024, 16_000].map(mixed));
     inputs
 }

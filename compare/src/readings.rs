@@ -60,11 +60,15 @@ impl Readings {
         self.body(0, &[], &[]);
         self.body(64, &[], &[0x4]);
         self.body(64, &all(64), &[0x5]);
-        self.body(40, &all(40), &[0x0002_0003, 0xFF]);
+        self.body(40, &all(40), &[0x5]);
         self.body(40, &[0, 39], &[0x0004_0000, 0x1, 0x80]);
         self.body(96, &[5, 64], &[0x0002_0000, 0x20, 0x0002_0002, 0x1]);
         let check = Question::new(Call::CheckBody).rows(40);
-        self.reading(&[0x5], &check, Err((7, 0, 0)), &[]);
+        self.reading(&[0x5], &check, Ok(Value::Sound), &[]);
+        self.reading(&[0x0002_0003, 0x1FF], &check, Err((7, 0, 1)), &[]);
+        // A dirty word may still spell a full last segment.
+        let expand = Question::new(Call::Expand).rows(40).room(2);
+        self.reading(&[0x0002_0003, 0xFF], &expand, Ok(Value::Words(2)), &[u32::MAX, 0xFF]);
     }
 
     fn long_bodies(&mut self) {

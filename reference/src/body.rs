@@ -43,6 +43,11 @@ fn pad_mask(rows: u32) -> u32 {
     }
 }
 
+/// The bits of a segment's word, lowest first.
+fn bits_of(word: u32) -> impl Iterator<Item = bool> {
+    (0..WORD_BITS).map(move |bit| (word >> bit) & 1 == 1)
+}
+
 // ---- checking ----
 
 /// Checks the words of one body. `base` is the place of its first word and
@@ -55,7 +60,8 @@ pub(crate) fn check_words(body: &[u32], rows: u32, bitmap: u32, base: usize) -> 
     while at < body.len() {
         let marker = marker_of(body[at]);
         let past_body = at + 1 + marker.dirty > body.len();
-        let past_segments = marker.clean + marker.dirty > left;
+        let spare = mistaken(Mistake::OnesRunPastEnd) && marker.value && marker.dirty == 0 && left > 0;
+        let past_segments = marker.clean + marker.dirty > left + usize::from(spare);
         if mistaken(Mistake::SixBeforeFive) && past_segments {
             return fault(6, at);
         }
@@ -69,13 +75,14 @@ pub(crate) fn check_words(body: &[u32], rows: u32, bitmap: u32, base: usize) -> 
             return fault(6, at);
         }
         let covers_last = marker.clean > 0 && marker.clean == left;
-        if marker.value && covers_last && pads != 0 && !mistaken(Mistake::OnesRunOverPads) {
+        if mistaken(Mistake::OnesRunRefused) && marker.value && covers_last && pads != 0 {
             return fault(7, at);
         }
         at += 1;
-        left -= marker.clean;
+        left = left.saturating_sub(marker.clean);
+        // A run of ones may cover pads; a dirty word may not have them.
         for _ in 0..marker.dirty {
-            if left == 1 && body[at] & pads != 0 {
+            if left == 1 && body[at] & pads != 0 && !mistaken(Mistake::DirtyPadPasses) {
                 return fault(7, at);
             }
             at += 1;
@@ -112,6 +119,8 @@ pub(crate) struct Piece {
 pub(crate) struct Body {
     /// One bool a row.
     pub rows: Vec<bool>,
+    /// What is spelt past the last row, for mistakes only.
+    pub pads: Vec<bool>,
     pub pieces: Vec<Piece>,
     /// The segments under each marker's dirty words, for mistakes only.
     pub dirties: Vec<Range<usize>>,
@@ -130,22 +139,24 @@ pub(crate) fn read(body: &[u32], rows: u32) -> Body {
         if marker.clean > 0 {
             bits.extend(std::iter::repeat_n(marker.value, WORD_BITS * marker.clean));
             segment += marker.clean;
+            let over_pads = marker.value && bits.len() > rows as usize;
+            if mistaken(Mistake::RunSplitAtPads) && over_pads && marker.clean > 1 {
+                pieces.push(Piece { last: segment - 2, dirty: false });
+            }
             pieces.push(Piece { last: segment - 1, dirty: false });
         }
         dirties.push(segment..segment + marker.dirty);
         for _ in 0..marker.dirty {
             let word = body[at];
             at += 1;
-            bits.extend((0..WORD_BITS).map(|bit| (word >> bit) & 1 == 1));
+            bits.extend(bits_of(word));
             segment += 1;
             pieces.push(Piece { last: segment - 1, dirty: true });
         }
     }
-    // Pads are no rows. The mistake keeps them, set where a ones run lies there.
-    if !mistaken(Mistake::OnesRunOverPads) {
-        bits.truncate(rows as usize);
-    }
-    Body { rows: bits, pieces, dirties }
+    // Pads are no rows, though a run of ones may spell them.
+    let pads = bits.split_off(rows as usize);
+    Body { rows: bits, pads, pieces, dirties }
 }
 
 /// A lone body, checked and then taken apart.
@@ -156,14 +167,15 @@ fn read_alone(body: &[u32], rows: u32) -> Result<Body, Refusal> {
 
 // ---- questions on one body's rows ----
 
-pub(crate) fn row_in(bits: &[bool], rows: u32, row: u32) -> Result<bool, Refusal> {
+pub(crate) fn row_in(body: &Body, row: u32) -> Result<bool, Refusal> {
+    let (row, rows) = (row as usize, body.rows.len());
     if row == rows && mistaken(Mistake::RowPastEndFalse) {
         return Ok(false);
     }
-    if row >= rows {
-        return Err(bad_argument());
+    if row >= rows && mistaken(Mistake::RowInPads) && body.pads.get(row - rows) == Some(&true) {
+        return Ok(true);
     }
-    Ok(bits[row as usize])
+    body.rows.get(row).copied().ok_or(bad_argument())
 }
 
 /// How many of these rows are set.
@@ -172,11 +184,19 @@ pub(crate) fn set_in(bits: &[bool]) -> usize {
 }
 
 pub(crate) fn count_in(body: &Body) -> u32 {
-    (set_in(&body.rows) - blocks::left_out(body)) as u32
+    let more = if mistaken(Mistake::RunCountsPads) { set_in(&body.pads) } else { 0 };
+    (set_in(&body.rows) - blocks::left_out(body) + more) as u32
+}
+
+/// The rows, and for this mistake the pads as well.
+fn rows_taking(body: &Body, pads: Mistake) -> Vec<bool> {
+    let more = if mistaken(pads) { &body.pads[..] } else { &[] };
+    [&body.rows[..], more].concat()
 }
 
 pub(crate) fn nth_in(body: &Body, n: u32) -> Result<u32, Refusal> {
-    let mut set = (0..body.rows.len()).filter(|&row| body.rows[row]);
+    let rows = rows_taking(body, Mistake::NthInPads);
+    let mut set = (0..rows.len()).filter(|&row| rows[row]);
     if mistaken(Mistake::NthPastGivesLast) && n >= count_in(body) {
         return set.next_back().map(|row| row as u32).ok_or(bad_argument());
     }
@@ -185,20 +205,26 @@ pub(crate) fn nth_in(body: &Body, n: u32) -> Result<u32, Refusal> {
     Ok((row - blocks::told_short(body, row)) as u32)
 }
 
-/// Plain words of rows; bits past the last row are zero.
-pub(crate) fn plain_words(bits: &[bool]) -> Vec<u32> {
-    let word = |rows: &[bool]| (0..rows.len()).filter(|&bit| rows[bit]).map(|bit| 1 << bit).sum();
-    bits.chunks(WORD_BITS).map(word).collect()
+/// The plain word of a segment's rows; bits past the last row are zero.
+pub(crate) fn plain_word(rows: &[bool]) -> u32 {
+    (0..rows.len()).filter(|&bit| rows[bit]).map(|bit| 1 << bit).sum()
 }
 
-pub(crate) fn expand_rows(bits: &[bool], rows: u32, room: usize) -> Result<Vec<u32>, Refusal> {
-    must_fit(segments_of(rows), room)?;
-    Ok(plain_words(bits))
+/// The rows of plain words.
+fn rows_of(plain: &[u32], rows: u32) -> Vec<bool> {
+    plain.iter().flat_map(|&word| bits_of(word)).take(rows as usize).collect()
+}
+
+pub(crate) fn expand_rows(body: &Body, room: usize) -> Result<Vec<u32>, Refusal> {
+    let rows = rows_taking(body, Mistake::ExpandKeepsPads);
+    let words: Vec<u32> = rows.chunks(WORD_BITS).map(plain_word).collect();
+    must_fit(words.len(), room)?;
+    Ok(words)
 }
 
 /// Has a lone body this row?
 pub fn body_row(body: &[u32], rows: u32, row: u32) -> Result<bool, Refusal> {
-    row_in(&read_alone(body, rows)?.rows, rows, row)
+    row_in(&read_alone(body, rows)?, row)
 }
 
 /// How many rows a lone body has.
@@ -213,7 +239,7 @@ pub fn body_nth(body: &[u32], rows: u32, n: u32) -> Result<u32, Refusal> {
 
 /// A lone body as plain words.
 pub fn expand(body: &[u32], rows: u32, room: usize) -> Result<Vec<u32>, Refusal> {
-    expand_rows(&read_alone(body, rows)?.rows, rows, room)
+    expand_rows(&read_alone(body, rows)?, room)
 }
 
 // ---- writing ----
@@ -224,12 +250,19 @@ pub(crate) enum Segment {
     Mixed(u32),
 }
 
-pub(crate) fn segment_of(word: u32) -> Segment {
-    match word {
+/// The segment of these rows; pads are not among them. It is clean if none is set, or all are.
+fn segment_of(rows: &[bool]) -> Segment {
+    let old_form = mistaken(Mistake::FullTailDirty) && rows.len() < WORD_BITS;
+    match set_in(rows) {
         0 => Segment::Clean(false),
-        u32::MAX => Segment::Clean(true),
-        _ => Segment::Mixed(word),
+        set if set == rows.len() && !old_form => Segment::Clean(true),
+        _ => Segment::Mixed(plain_word(rows)),
     }
+}
+
+/// The segments of rows.
+pub(crate) fn segments_in(rows: &[bool]) -> Vec<Segment> {
+    rows.chunks(WORD_BITS).map(segment_of).collect()
 }
 
 /// The settled body of these segments.
@@ -241,7 +274,13 @@ pub(crate) fn settle(segments: &[Segment]) -> Vec<u32> {
 
 /// The settled body of these rows.
 pub(crate) fn settled(rows: &[bool]) -> Vec<u32> {
-    let segments: Vec<Segment> = plain_words(rows).into_iter().map(segment_of).collect();
+    let segments = segments_in(rows);
+    if mistaken(Mistake::FullTailOwnRun) && !rows.len().is_multiple_of(WORD_BITS) {
+        let (before, last) = segments.split_at(segments.len() - 1);
+        if last == [Segment::Clean(true)] {
+            return [settle(before), settle(last)].concat();
+        }
+    }
     settle(&segments)
 }
 
@@ -305,13 +344,13 @@ pub fn compress(rows: u32, plain: &[u32], room: usize) -> Result<Vec<u32>, Refus
     if plain.len() != segments_of(rows) {
         return Err(bad_argument());
     }
-    if let Some(last) = plain.last() {
-        if last & pad_mask(rows) != 0 {
+    if let Some(&last) = plain.last() {
+        let passes = mistaken(Mistake::PlainOnesPass) && last == u32::MAX;
+        if last & pad_mask(rows) != 0 && !passes {
             return Err(refusal(7, 0, plain.len() - 1));
         }
     }
-    let segments: Vec<Segment> = plain.iter().map(|&word| segment_of(word)).collect();
-    let words = settle(&segments);
+    let words = settled(&rows_of(plain, rows));
     must_fit(words.len(), room)?;
     Ok(words)
 }

@@ -1,25 +1,36 @@
 //! Bit-sliced columns: a whole number a row, one bitmap for each binary digit.
 
+use std::ops::Range;
+
 use crate::body::settled;
 use crate::index::{self, open, Index};
 use crate::limits::{ENTRY_WORDS, HEAD_WORDS, LEAST_COLUMN, MOST_SUMMED, MOST_VALUED};
-use crate::mistakes::{mistaken, Mistake};
+use crate::mistakes::{mistaken, with_mistake, Mistake};
 use crate::refusal::{bad_argument, must_fit, refusal, Refusal};
 
 struct Slice {
     /// Its number in the index, for refusal 11.
     bitmap: u32,
+    /// Its rows, and behind them its pads, which only mistakes look at.
     rows: Vec<bool>,
 }
 
 /// A column as its list names it, strays and all.
 struct Column {
+    /// R.
+    count: usize,
+    /// Like a slice's rows.
     exists: Vec<bool>,
     /// Lowest digit first.
     slices: Vec<Slice>,
 }
 
 impl Column {
+    /// The rows, and for this mistake the pads as well.
+    fn rows_taking(&self, pads: Mistake) -> Range<usize> {
+        0..if mistaken(pads) { self.exists.len() } else { self.count }
+    }
+
     /// The number that the slices spell at a row.
     fn number(&self, row: usize) -> u64 {
         let mut number = 0;
@@ -39,12 +50,11 @@ fn column(index: &Index, list: &[u32], most: usize) -> Result<Column, Refusal> {
     }
     let mut slices = Vec::new();
     for &bitmap in list {
-        let mut rows = index.body(bitmap)?.rows;
-        rows.truncate(index.rows as usize);
-        slices.push(Slice { bitmap, rows });
+        let body = index.body(bitmap)?;
+        slices.push(Slice { bitmap, rows: [body.rows, body.pads].concat() });
     }
     let exists = slices.remove(0).rows;
-    Ok(Column { exists, slices })
+    Ok(Column { count: index.rows as usize, exists, slices })
 }
 
 /// The stray rows of a slice, lowest first, where these rows exist.
@@ -54,7 +64,7 @@ fn strays<'a>(slice: &'a Slice, exists: &'a [bool]) -> impl DoubleEndedIterator<
 
 /// Refusal 11: a stray row, told of the first slice in list order that has one.
 fn no_strays(column: &Column) -> Result<(), Refusal> {
-    none_where(&column.exists, &column.slices)
+    none_where(&column.exists[column.rows_taking(Mistake::PadIsStray)], &column.slices)
 }
 
 /// The same of these slices, where these rows exist.
@@ -90,7 +100,7 @@ fn no_strays_in_either(first: &Column, second: &Column) -> Result<(), Refusal> {
         no_strays(second)?;
     }
     if mistaken(Mistake::StrayAgainstBoth) {
-        let both: Vec<bool> = first.exists.iter().zip(&second.exists).map(|(&a, &b)| a && b).collect();
+        let both: Vec<bool> = (0..first.count).map(|r| first.exists[r] && second.exists[r]).collect();
         none_where(&both, &first.slices)?;
         none_where(&both, &second.slices)?;
     }
@@ -108,10 +118,10 @@ pub fn value(index: &[u32], list: &[u32], row: u32) -> Result<u64, Refusal> {
     if mistaken(Mistake::StrayBeforeRow) {
         no_strays(&column)?;
     }
-    if row >= index.rows {
+    let row = row as usize;
+    if !column.rows_taking(Mistake::ValueInPads).contains(&row) {
         return Err(bad_argument());
     }
-    let row = row as usize;
     // Without strays a row that doesn't exist spells 0, which is what the mistake says.
     if !column.exists[row] && !mistaken(Mistake::MissingRowIsZero) {
         return Err(bad_argument());
@@ -151,13 +161,13 @@ pub fn sum(index: &[u32], first: &[u32], second: &[u32], room: usize) -> Result<
 
 /// The bodies of the sum: existence, then its slices, lowest first.
 fn sum_bodies(first: &Column, second: &Column) -> Vec<Vec<u32>> {
-    let rows = 0..first.exists.len();
+    let rows = first.rows_taking(Mistake::SumKeepsPads);
     let exists: Vec<bool> = rows.clone().map(|r| exists_in_sum(first.exists[r], second.exists[r])).collect();
     let numbers: Vec<u64> = rows.clone().map(|r| added(first.number(r), second.number(r))).collect();
 
     let wider = first.slices.len().max(second.slices.len());
     let digits = if mistaken(Mistake::TopSliceLeftOut) { wider } else { wider + 1 };
-    let mut bodies = vec![settled(&exists)];
+    let mut bodies = vec![sum_body(&exists, first.count)];
     for place in 0..digits {
         let masked = !(mistaken(Mistake::SumSliceUnmasked) && place + 1 == wider);
         let holds = |r: usize| (numbers[r] >> place) & 1 == 1 && (exists[r] || !masked);
@@ -165,9 +175,18 @@ fn sum_bodies(first: &Column, second: &Column) -> Vec<Vec<u32>> {
         if mistaken(Mistake::EmptySlicesLeftOut) && !slice.contains(&true) {
             continue;
         }
-        bodies.push(settled(&slice));
+        bodies.push(sum_body(&slice, first.count));
     }
     bodies
+}
+
+/// The settled body of so many rows; pads behind them, which come of a mistake, are left out unless they are set.
+fn sum_body(rows: &[bool], count: usize) -> Vec<u32> {
+    let rows = if rows[count..].contains(&true) { rows } else { &rows[..count] };
+    if mistaken(Mistake::SumFullTailDirty) {
+        return with_mistake(Mistake::FullTailDirty, || settled(rows));
+    }
+    settled(rows)
 }
 
 fn exists_in_sum(first: bool, second: bool) -> bool {

@@ -117,8 +117,7 @@ pub fn bitmap(index: &[u32], k: u32) -> Result<Range<usize>, Refusal> {
 
 /// Has bitmap `k` this row?
 pub fn row(index: &[u32], k: u32, row: u32) -> Result<bool, Refusal> {
-    let index = open(index)?;
-    row_in(&index.body(k)?.rows, index.rows, row)
+    row_in(&open(index)?.body(k)?, row)
 }
 
 /// How many rows bitmap `k` has.
@@ -133,6 +132,5 @@ pub fn nth(index: &[u32], k: u32, n: u32) -> Result<u32, Refusal> {
 
 /// Bitmap `k` as plain words.
 pub fn expand_bitmap(index: &[u32], k: u32, room: usize) -> Result<Vec<u32>, Refusal> {
-    let index = open(index)?;
-    expand_rows(&index.body(k)?.rows, index.rows, room)
+    expand_rows(&open(index)?.body(k)?, room)
 }

@@ -7,8 +7,8 @@ use std::cell::Cell;
 pub enum Mistake {
     /// A symmetric table with a yes at 0 sets the pad bits.
     TableFillsPads,
-    /// A ones run over pad bits passes and is worth a whole word of rows in that segment.
-    OnesRunOverPads,
+    /// Counted, a run of ones over pads is worth a whole word of rows in that segment.
+    RunCountsPads,
     /// Clean counts go up to one over `MOST_CLEAN`, which spills into the dirty count.
     RunCarries,
     /// Room is judged by twice the named words.
@@ -101,12 +101,52 @@ pub enum Mistake {
     PassedBlockKept,
     /// An nth row in a later block of 512 is told as if it lay in its marker's first.
     NthInFirstBlock,
+    /// A run of ones over pads is refused with 7, as it once was.
+    OnesRunRefused,
+    /// A run of ones over the last segment may go one segment further.
+    OnesRunPastEnd,
+    /// A dirty word may have pad bits, which are no rows.
+    DirtyPadPasses,
+    /// A last plain word of all ones passes, pad bits and all.
+    PlainOnesPass,
+    /// A run of ones over pads is two pieces, the last segment by itself.
+    RunSplitAtPads,
+    /// A pad under a run of ones is a row that is set.
+    RowInPads,
+    /// Nth goes on into the pads under a run of ones.
+    NthInPads,
+    /// Plain words have the pad bits that a run of ones spells.
+    ExpandKeepsPads,
+    /// A full last segment with pads is written as a dirty word, as it once was.
+    FullTailDirty,
+    /// The same, in a sum's bodies alone.
+    SumFullTailDirty,
+    /// A full last segment with pads gets a marker of its own, even behind a run of ones.
+    FullTailOwnRun,
+    /// NOT of a run of ones over pads turns the rows and leaves the pad bits set.
+    NotKeepsPads,
+    /// NOT of a run of ones over pads leaves the whole last segment set.
+    NotKeepsRun,
+    /// Two bitmaps' pad bits are answered like rows, set under a run of ones.
+    PairKeepsPads,
+    /// A table with a yes at 0 sets the pad bits, if a run of ones lies over them.
+    TableFillsUnderRun,
+    /// A table is asked of the pad bits too, by how many runs of ones lie over them.
+    TableKeepsPads,
+    /// The tally counts the pads under runs of ones.
+    TallyCountsRunPads,
+    /// A pad under a slice's run of ones is a stray row where existence has a dirty word.
+    PadIsStray,
+    /// The value at a pad is told, if existence has a run of ones over it.
+    ValueInPads,
+    /// A sum's bodies have the pad bits that come of adding the runs over them.
+    SumKeepsPads,
 }
 
 impl Mistake {
     pub const ALL: &'static [Mistake] = &[
         Mistake::TableFillsPads,
-        Mistake::OnesRunOverPads,
+        Mistake::RunCountsPads,
         Mistake::RunCarries,
         Mistake::RoomByBound,
         Mistake::NthPastGivesLast,
@@ -153,6 +193,26 @@ impl Mistake {
         Mistake::FullColumnsMissed,
         Mistake::PassedBlockKept,
         Mistake::NthInFirstBlock,
+        Mistake::OnesRunRefused,
+        Mistake::OnesRunPastEnd,
+        Mistake::DirtyPadPasses,
+        Mistake::PlainOnesPass,
+        Mistake::RunSplitAtPads,
+        Mistake::RowInPads,
+        Mistake::NthInPads,
+        Mistake::ExpandKeepsPads,
+        Mistake::FullTailDirty,
+        Mistake::SumFullTailDirty,
+        Mistake::FullTailOwnRun,
+        Mistake::NotKeepsPads,
+        Mistake::NotKeepsRun,
+        Mistake::PairKeepsPads,
+        Mistake::TableFillsUnderRun,
+        Mistake::TableKeepsPads,
+        Mistake::TallyCountsRunPads,
+        Mistake::PadIsStray,
+        Mistake::ValueInPads,
+        Mistake::SumKeepsPads,
     ];
 }
 

@@ -2,7 +2,7 @@
 
 use std::collections::BTreeSet;
 
-use crate::body::{plain_words, segment_of, settle, Segment};
+use crate::body::{plain_word, segments_in, settle, settled, Body, Segment};
 use crate::index::{open, Index};
 use crate::limits::{MOST_NAMED, TALLY_ENTRIES, WORD_BITS};
 use crate::mistakes::{mistaken, Mistake};
@@ -25,12 +25,14 @@ struct Named {
     pieces: usize,
     /// The segments under some dirty word, for a mistake only.
     dirty: BTreeSet<usize>,
+    /// Runs of ones over the pads, for mistakes only.
+    over_pads: usize,
 }
 
 impl Named {
-    /// Names bitmap `k`; gives its rows.
-    fn name(&mut self, index: &Index, k: u32) -> Result<Vec<bool>, Refusal> {
-        let mut body = index.body(k)?;
+    /// Names bitmap `k` and gives it, taken apart.
+    fn name(&mut self, index: &Index, k: u32) -> Result<Body, Refusal> {
+        let body = index.body(k)?;
         self.words += index.part(k)?.len();
         self.pieces += body.pieces.len();
         for piece in &body.pieces {
@@ -39,8 +41,8 @@ impl Named {
                 self.dirty.insert(piece.last);
             }
         }
-        body.rows.truncate(index.rows as usize);
-        Ok(body.rows)
+        self.over_pads += usize::from(body.pads.contains(&true));
+        Ok(body)
     }
 
     fn stretches(&self) -> u32 {
@@ -52,19 +54,23 @@ impl Named {
 
     /// The settled body of the answer's rows, if it fits.
     fn write(&self, rows: &[bool], room: usize) -> Result<Vec<u32>, Refusal> {
-        let plain = plain_words(rows);
-        let mut segments: Vec<Segment> = plain.iter().map(|&word| segment_of(word)).collect();
-        if mistaken(Mistake::CleanKeptDirty) {
-            for &at in &self.dirty {
-                segments[at] = Segment::Mixed(plain[at]);
-            }
-        }
-        let words = settle(&segments);
+        let words = if mistaken(Mistake::CleanKeptDirty) { self.kept_dirty(rows) } else { settled(rows) };
         if mistaken(Mistake::RoomByBound) {
             must_fit(2 * self.words, room)?;
         }
         must_fit(words.len(), room)?;
         Ok(words)
+    }
+
+    /// What a mistake writes: a dirty word wherever a named bitmap has one.
+    fn kept_dirty(&self, rows: &[bool]) -> Vec<u32> {
+        let mut segments = segments_in(rows);
+        for (at, part) in rows.chunks(WORD_BITS).enumerate() {
+            if self.dirty.contains(&at) {
+                segments[at] = Segment::Mixed(plain_word(part));
+            }
+        }
+        settle(&segments)
     }
 }
 
@@ -81,7 +87,11 @@ fn of_two(index: &[u32], j: u32, k: u32, room: usize, rule: fn(bool, bool) -> bo
     let mut named = Named::default();
     let first = named.name(&index, j)?;
     let second = named.name(&index, k)?;
-    let answer: Vec<bool> = (0..index.rows as usize).map(|r| rule(first[r], second[r])).collect();
+    let answered = |a: &[bool], b: &[bool]| -> Vec<bool> { a.iter().zip(b).map(|(&a, &b)| rule(a, b)).collect() };
+    let mut answer = answered(&first.rows, &second.rows);
+    if mistaken(Mistake::PairKeepsPads) && answered(&first.pads, &second.pads).contains(&true) {
+        fill_pads(&mut answer);
+    }
     named.write(&answer, room)
 }
 
@@ -108,9 +118,14 @@ pub fn and_not(index: &[u32], j: u32, k: u32, room: usize) -> Result<Vec<u32>, R
 pub fn not(index: &[u32], k: u32, room: usize) -> Result<Vec<u32>, Refusal> {
     let index = open(index)?;
     let mut named = Named::default();
-    let mut answer: Vec<bool> = named.name(&index, k)?.iter().map(|&set| !set).collect();
-    if mistaken(Mistake::NotFillsPads) {
+    let body = named.name(&index, k)?;
+    let mut answer: Vec<bool> = body.rows.iter().map(|&set| !set).collect();
+    if mistaken(Mistake::NotFillsPads) || mistaken(Mistake::NotKeepsPads) && named.over_pads > 0 {
         fill_pads(&mut answer);
+    }
+    if mistaken(Mistake::NotKeepsRun) && named.over_pads > 0 {
+        let last = answer.len() / WORD_BITS * WORD_BITS;
+        answer[last..].fill(true);
     }
     named.write(&answer, room)
 }
@@ -131,7 +146,7 @@ fn check_list(index: &Index, list: &[u32]) -> Result<(), Refusal> {
 fn holders(index: &Index, list: &[u32], named: &mut Named) -> Result<Vec<usize>, Refusal> {
     let mut held = vec![0; index.rows as usize];
     for (place, &k) in list.iter().enumerate() {
-        let rows = named.name(index, k)?;
+        let rows = named.name(index, k)?.rows;
         if mistaken(Mistake::RepeatCountsOnce) && list[..place].contains(&k) {
             continue;
         }
@@ -182,7 +197,11 @@ pub fn symmetric(index: &[u32], list: &[u32], table: &[u32], room: usize) -> Res
     let mut named = Named::default();
     let held = holders(&index, list, &mut named)?;
     let mut rows: Vec<bool> = held.iter().map(|&c| table[c] != 0).collect();
-    if mistaken(Mistake::TableFillsPads) && table[0] == 1 {
+    let over = named.over_pads;
+    let filled = mistaken(Mistake::TableFillsPads) && table[0] == 1
+        || mistaken(Mistake::TableFillsUnderRun) && table[0] == 1 && over > 0
+        || mistaken(Mistake::TableKeepsPads) && table[over] == 1 && over > 0;
+    if filled {
         fill_pads(&mut rows);
     }
     let words = named.write(&rows, room)?;
@@ -193,13 +212,18 @@ pub fn symmetric(index: &[u32], list: &[u32], table: &[u32], room: usize) -> Res
 pub fn histogram(index: &[u32], list: &[u32]) -> Result<[u32; TALLY_ENTRIES], Refusal> {
     let index = open(index)?;
     check_list(&index, list)?;
-    let held = holders(&index, list, &mut Named::default())?;
+    let mut named = Named::default();
+    let held = holders(&index, list, &mut named)?;
     let mut tally = [0; TALLY_ENTRIES];
     for &c in &held {
         tally[c] += 1;
     }
+    let pads = (held.len().next_multiple_of(WORD_BITS) - held.len()) as u32;
     if mistaken(Mistake::TallyCountsPads) {
-        tally[0] += (held.len().next_multiple_of(WORD_BITS) - held.len()) as u32;
+        tally[0] += pads;
+    }
+    if mistaken(Mistake::TallyCountsRunPads) && named.over_pads > 0 {
+        tally[named.over_pads] += pads;
     }
     Ok(tally)
 }

@@ -92,10 +92,26 @@ fn existence() {
 }
 
 #[test]
-fn pads_stay_zero() {
-    let index = index_of(40, &[&[0x0002_0003, 0xFF]]);
-    // 1 + 1 = 2 in all 40 rows.
-    assert_eq!(sum_of(&index, &[0, 0], &[0, 0]), [1, 40, 3, 9, 2, 11, 1, 12, 2, 0x20003, 0xFF, 4, 0x20003, 0xFF]);
+fn pads_are_no_rows() {
+    // All rows as a dirty word and as a run; all but row 39; row 39.
+    let index = index_of(40, &[&[0x0002_0003, 0xFF], &[5], &[0x0002_0003, 0x7F], &[0x0002_0002, 0x80]]);
+    for exists in [0, 1] {
+        for slice in [0, 1] {
+            let list = [exists, slice];
+            assert_eq!([0, 39].map(|r| value(&index, &list, r)), [Ok(1); 2]);
+            assert_eq!([40, 63].map(|r| value(&index, &list, r)), [Err(BAD); 2]);
+            // 1 + 1 = 2 in all 40 rows.
+            assert_eq!(sum_of(&index, &list, &[1, 0]), index_of(40, &[&[5], &[4], &[5]]));
+            // 1 + 0 = 1 in row 39, else 1 + 1 = 2.
+            assert_eq!(
+                sum_of(&index, &list, &[exists, 2]),
+                index_of(40, &[&[5], &[0x0002_0002, 0x80], &[0x0002_0003, 0x7F]])
+            );
+        }
+        // Strays are rows.
+        assert_eq!(value(&index, &[2, exists], 0), Err(no(11, exists, 39)));
+        assert_eq!(value(&index, &[3, exists], 39), Err(no(11, exists, 0)));
+    }
 }
 
 #[test]
@@ -230,8 +246,8 @@ fn order_of_refusals() {
 
     let mut damaged = index;
     let last = damaged.len() - 1;
-    damaged[last] = 5;
-    let fault = no(7, 5, last as u64);
+    damaged[last] = 7;
+    let fault = no(6, 5, last as u64);
     assert_eq!(value(&damaged, &[0, 2], 0), Err(fault));
     assert_eq!(value(&damaged, &[], 40), Err(fault));
     assert_eq!(sum(&damaged, &[0, 2], &[0, 2], 0), Err(fault));

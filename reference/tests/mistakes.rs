@@ -2,7 +2,8 @@
 
 mod common;
 use common::*;
-use reference::limits::{DIRTY_SHIFT, MOST_CLEAN, MOST_DIRTY, MOST_SUMMED, MOST_VALUED, WORD_BITS};
+use reference::limits::{DIRTY_SHIFT, ENTRY_WORDS, HEAD_WORDS, WORD_BITS};
+use reference::limits::{MOST_CLEAN, MOST_DIRTY, MOST_SUMMED, MOST_VALUED};
 use reference::*;
 
 const ANY: usize = usize::MAX;
@@ -22,10 +23,7 @@ fn columns() -> Vec<u32> {
 fn column_case(m: Mistake) -> String {
     let index = columns();
     let value_of = |list: &[u32], row| format!("{:?}", value(&index, list, row));
-    let summed = |first: &[u32], second: &[u32], room| match sum(&index, first, second, room) {
-        Ok(words) => format!("{:x?}", bodies_of(&words)),
-        Err(refusal) => format!("Err({refusal:?})"),
-    };
+    let summed = |first: &[u32], second: &[u32], room| sum_text(&index, first, second, room);
     match m {
         Mistake::CarryDropped => summed(&[0, 1], &[0, 1], ANY),
         Mistake::StraysLetThrough => summed(&[0, 4], &[0, 1], ANY),
@@ -56,9 +54,16 @@ fn column_case(m: Mistake) -> String {
     }
 }
 
-/// The bodies of a sum, one after the other; the contents are due by them.
-fn bodies_of(sum: &[u32]) -> Vec<&[u32]> {
-    (0..sum[2]).map(|k| &sum[bitmap(sum, k).unwrap()]).collect()
+/// The bodies of a sum, one after the other, or why there is none. The contents are due by the bodies.
+fn sum_text(index: &[u32], first: &[u32], second: &[u32], room: usize) -> String {
+    match sum(index, first, second, room) {
+        Ok(words) => {
+            let entries = words[HEAD_WORDS..].chunks(ENTRY_WORDS).take(words[2] as usize);
+            let bodies = entries.map(|entry| &words[entry[0] as usize..][..entry[1] as usize]);
+            format!("{:x?}", bodies.collect::<Vec<_>>())
+        }
+        Err(refusal) => format!("Err({refusal:?})"),
+    }
 }
 
 /// So many segments under one marker's dirty words, each with its lowest row set.
@@ -88,14 +93,48 @@ fn block_case(m: Mistake) -> String {
     }
 }
 
+/// 40 rows: all as a run, all with a dirty word, all but row 39, none.
+fn tails() -> Vec<u32> {
+    index_of(40, &[&[5], &[0x0002_0003, 0xFF], &[0x0002_0003, 0x7F], &[4]])
+}
+
+/// The same for the mistakes about the last segment.
+fn tail_case(m: Mistake) -> String {
+    let index = tails();
+    let compressed = |last| format!("{:x?}", compress(40, &[u32::MAX, last], ANY));
+    let summed = |first: &[u32], second: &[u32]| sum_text(&index, first, second, ANY);
+    let chosen = |list: &[u32], table: &[u32]| format!("{:x?}", symmetric(&index, list, table, ANY));
+    match m {
+        Mistake::RunCountsPads => format!("{:?}", body_count(&[5], 40)),
+        Mistake::OnesRunRefused => format!("{:?}", check_body(&[2, 3], 40)),
+        Mistake::OnesRunPastEnd => format!("{:?}", check_body(&[7], 40)),
+        Mistake::DirtyPadPasses => format!("{:?}", check_body(&[0x0002_0003, 0x1FF], 40)),
+        Mistake::PlainOnesPass => compressed(u32::MAX),
+        Mistake::RunSplitAtPads => format!("{:x?}", threshold(&index, &[0, 3], 2, ANY)),
+        Mistake::RowInPads => format!("{:?}", row(&index, 0, 63)),
+        Mistake::NthInPads => format!("{:?}", nth(&index, 0, 40)),
+        Mistake::ExpandKeepsPads => format!("{:x?}", expand_bitmap(&index, 0, ANY)),
+        Mistake::FullTailDirty | Mistake::FullTailOwnRun => compressed(0xFF),
+        Mistake::SumFullTailDirty => summed(&[0, 0], &[1, 1]),
+        Mistake::NotKeepsPads | Mistake::NotKeepsRun => format!("{:x?}", not(&index, 0, ANY)),
+        Mistake::PairKeepsPads => format!("{:x?}", xor(&index, 0, 2, ANY)),
+        Mistake::TableFillsUnderRun => chosen(&[0], &[1, 0]),
+        Mistake::TableKeepsPads => chosen(&[0, 2], &[0, 1, 0]),
+        Mistake::TallyCountsRunPads => format!("{:?}", histogram(&index, &[0, 1]).map(|tally| tally[..3].to_vec())),
+        Mistake::PadIsStray => format!("{:?}", value(&index, &[1, 0], 0)),
+        Mistake::ValueInPads => format!("{:?}", value(&index, &[0, 0, 2], 40)),
+        Mistake::SumKeepsPads => summed(&[0, 0], &[0, 2]),
+        _ => block_case(m),
+    }
+}
+
 /// A result in words, the case chosen for this mistake.
 fn case(m: Mistake) -> String {
     let list = [0, 1, 2];
     let padded = index_of(40, &[&[4], &FORTY]);
     let ninety_six = index_of(96, &[&[6], &FIVE_64]);
     match m {
-        Mistake::TableFillsPads => format!("{:x?}", symmetric(&padded, &[0], &[1, 0], ANY)),
-        Mistake::OnesRunOverPads => format!("{:?}", body_count(&[5], 40)),
+        Mistake::TableFillsPads => format!("{:x?}", symmetric(&padded, &[1], &[1, 0], ANY)),
         Mistake::RunCarries => format!("{:x?}", repeated(0, MOST_CLEAN + 1)),
         Mistake::RoomByBound => format!("{:x?}", threshold(&LOOPED, &list, 2, 2)),
         Mistake::NthPastGivesLast => format!("{:?}", nth(&LOOPED, 0, 2)),
@@ -109,7 +148,7 @@ fn case(m: Mistake) -> String {
             let words = repeated(1, MOST_DIRTY + 1).unwrap();
             format!("{} {:x}", words.len(), words[0])
         }
-        Mistake::NotFillsPads => format!("{:x?}", not(&padded, 0, ANY)),
+        Mistake::NotFillsPads => format!("{:x?}", not(&padded, 1, ANY)),
         Mistake::FinalEndUnchecked => format!("{:?}", check(&[1, 32, 1, 5, 1, 2, 2])),
         Mistake::SixBeforeFive => format!("{:?}", check_body(&[0x0004_0000, 1], 32)),
         Mistake::LengthBeforeStart => format!("{:?}", check(&[1, 32, 1, 6, 2, 2])),
@@ -119,7 +158,7 @@ fn case(m: Mistake) -> String {
         Mistake::HighThresholdEmpty => format!("{:x?}", threshold(&LOOPED, &list, 4, ANY)),
         Mistake::IdleMarkerRefused => format!("{:?}", check(&index_of(32, &[&[0, 2]]))),
         Mistake::NoRoomTellsBuffer => format!("{:?}", threshold(&LOOPED, &list, 2, 1)),
-        _ => block_case(m),
+        _ => tail_case(m),
     }
 }
 
@@ -152,7 +191,7 @@ fn column_expected(m: Mistake) -> (String, String) {
         // Row 0 is in the first column only.
         Mistake::SumSliceUnmasked => (text("[[20000, 6], [20000, 4], [2]]"), text("[[20000, 6], [20000, 5], [2]]")),
         Mistake::EmptySlicesLeftOut => (text("[[20000, 7], [20000, 5], [2]]"), text("[[20000, 7], [20000, 5]]")),
-        Mistake::SumExistsInEither => (text("[[20000, 6], [2], [2]]"), text("[[20000, f], [2], [2]]")),
+        Mistake::SumExistsInEither => (text("[[20000, 6], [2], [2]]"), text("[[3], [2], [2]]")),
         // Row 1: 2 + 1 = 3. Row 2: 3 + 1 = 4.
         Mistake::TopSliceLeftOut => {
             (text("[[20000, 6], [20000, 2], [20000, 2], [20000, 4]]"), text("[[20000, 6], [20000, 2], [20000, 2]]"))
@@ -196,13 +235,45 @@ fn block_expected(m: Mistake) -> (String, String) {
     }
 }
 
+/// The same for the mistakes about the last segment.
+fn tail_expected(m: Mistake) -> (String, String) {
+    let bad = || refused(8, 0, 0);
+    let text = |s: &str| s.to_string();
+    match m {
+        Mistake::RunCountsPads => (text("Ok(40)"), text("Ok(64)")),
+        Mistake::OnesRunRefused => (text("Ok(())"), refused(7, 0, 1)),
+        Mistake::OnesRunPastEnd => (refused(6, 0, 0), text("Ok(())")),
+        Mistake::DirtyPadPasses => (refused(7, 0, 1), text("Ok(())")),
+        Mistake::PlainOnesPass => (refused(7, 0, 1), text("Ok([5])")),
+        Mistake::RunSplitAtPads => (answer("4", 1), answer("4", 2)),
+        Mistake::RowInPads => (bad(), text("Ok(true)")),
+        Mistake::NthInPads => (bad(), text("Ok(40)")),
+        Mistake::ExpandKeepsPads => (text("Ok([ffffffff, ff])"), text("Ok([ffffffff, ffffffff])")),
+        Mistake::FullTailDirty => (text("Ok([5])"), text("Ok([20003, ff])")),
+        Mistake::FullTailOwnRun => (text("Ok([5])"), text("Ok([3, 3])")),
+        Mistake::SumFullTailDirty => (text("[[5], [4], [5]]"), text("[[20003, ff], [4], [20003, ff]]")),
+        Mistake::NotKeepsPads => (text("Ok([4])"), text("Ok([20002, ffffff00])")),
+        Mistake::NotKeepsRun => (text("Ok([4])"), text("Ok([2, 3])")),
+        Mistake::PairKeepsPads => (text("Ok([20002, 80])"), text("Ok([20002, ffffff80])")),
+        Mistake::TableFillsUnderRun => (answer("4", 1), answer("20002, ffffff00", 1)),
+        Mistake::TableKeepsPads => (answer("20002, 80", 2), answer("20002, ffffff80", 2)),
+        Mistake::TallyCountsRunPads => (text("Ok([0, 0, 40])"), text("Ok([0, 24, 40])")),
+        Mistake::PadIsStray => (text("Ok(1)"), refused(11, 0, 40)),
+        Mistake::ValueInPads => (bad(), text("Ok(1)")),
+        // 1 + 0 in row 39, 1 + 1 in the others; of the pads, 1 + 0.
+        Mistake::SumKeepsPads => {
+            (text("[[5], [20002, 80], [20003, 7f]]"), text("[[5], [20002, ffffff80], [20003, 7f]]"))
+        }
+        _ => block_expected(m),
+    }
+}
+
 /// (without, with) as they should be.
 fn expected(m: Mistake) -> (String, String) {
     let bad = || refused(8, 0, 0);
     let text = |s: &str| s.to_string();
     match m {
-        Mistake::TableFillsPads => (answer("20003, ff", 1), answer("5", 1)),
-        Mistake::OnesRunOverPads => (refused(7, 0, 0), text("Ok(64)")),
+        Mistake::TableFillsPads => (answer("40000, fffffffe, 7f", 2), answer("40000, fffffffe, ffffff7f", 2)),
         Mistake::RunCarries => (text("Ok([1fffe, 2])"), text("Ok([20000])")),
         // "c" is twelve: twice the six named words.
         Mistake::RoomByBound => (answer("20000, a", 1), text("Err(Refusal { number: 9, bitmap: 0, word: c })")),
@@ -214,7 +285,7 @@ fn expected(m: Mistake) -> (String, String) {
         Mistake::TallyCountsPads => (text("[0, 2, 2, 0]"), text("[28, 2, 2, 0]")),
         Mistake::CleanKeptDirty => (text("Ok([2])"), text("Ok([20000, 0])")),
         Mistake::FullMarkerOneMore => (text("32770 fffe0000"), text("32769 0")),
-        Mistake::NotFillsPads => (text("Ok([20003, ff])"), text("Ok([5])")),
+        Mistake::NotFillsPads => (text("Ok([40000, fffffffe, 7f])"), text("Ok([40000, fffffffe, ffffff7f])")),
         Mistake::FinalEndUnchecked => (refused(4, 0, 6), text("Ok(())")),
         Mistake::SixBeforeFive => (refused(5, 0, 0), refused(6, 0, 0)),
         Mistake::LengthBeforeStart => (refused(4, 0, 3), refused(4, 0, 4)),
@@ -224,13 +295,13 @@ fn expected(m: Mistake) -> (String, String) {
         Mistake::HighThresholdEmpty => (bad(), answer("2", 1)),
         Mistake::IdleMarkerRefused => (text("Ok(())"), refused(6, 0, 5)),
         Mistake::NoRoomTellsBuffer => (refused(9, 0, 2), refused(9, 0, 1)),
-        _ => block_expected(m),
+        _ => tail_expected(m),
     }
 }
 
 #[test]
 fn each_mistake_shows() {
-    assert_eq!(Mistake::ALL.len(), 48);
+    assert_eq!(Mistake::ALL.len(), 68);
     for (place, &m) in Mistake::ALL.iter().enumerate() {
         assert!(!Mistake::ALL[..place].contains(&m));
         let before = case(m);
@@ -247,7 +318,7 @@ fn each_mistake_shows() {
 fn no_mistake_shows_everywhere() {
     for &m in Mistake::ALL {
         let shown = Mistake::ALL.iter().filter(|&&c| with_mistake(m, || case(c)) != case(c)).count();
-        assert!((1..10).contains(&shown), "{m:?} {shown}");
+        assert!((1..Mistake::ALL.len() / 3).contains(&shown), "{m:?} {shown}");
     }
 }
 

@@ -21,6 +21,14 @@ fn no_rows() {
     prints(&input(1, &index_of(0, &[&[]])), "rows 0\nnamed 1\nthreshold 1\nset 0\n");
 }
 
+/// A run of ones over pads has the real rows alone.
+#[test]
+fn no_pads() {
+    for body in [&[2, 3][..], &[0x0002_0002, 0xF]] {
+        prints(&input(1, &index_of(36, &[body])), "rows 36\nnamed 1\nthreshold 1\nset 4\n32\n33\n34\n35\n");
+    }
+}
+
 #[test]
 fn by_length_of_input() {
     prints(&[], "refused 1 0 0\n");
@@ -47,7 +55,6 @@ fn one_to_eight() {
     prints(&input(1, &index_of(32, &[&[2], &[0x0002_0000]])), "refused 5 1 8\n");
     prints(&input(1, &index_of(32, &[&[2], &[4]])), "refused 6 1 8\n");
     prints(&input(1, &index_of(32, &[&[2], &[]])), "refused 6 1 8\n");
-    prints(&input(1, &index_of(40, &[&[4], &[5]])), "refused 7 1 8\n");
     prints(&input(1, &index_of(40, &[&[4], &[0x0002_0002, 0x100]])), "refused 7 1 9\n");
     prints(&input(0, &LOOPED), "refused 8 0 0\n");
     prints(&input(4, &LOOPED), "refused 8 0 0\n");

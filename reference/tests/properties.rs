@@ -18,12 +18,9 @@ fn throw_body(dice: &mut Dice, rows: u32) -> (Vec<u32>, Vec<u32>) {
     let mut plain = Vec::new();
     while plain.len() < segments || dice.below(4) == 0 {
         let left = (segments - plain.len()) as u32;
-        let mut clean = dice.below(left.min(4) + 1);
+        let clean = dice.below(left.min(4) + 1);
         let dirty = dice.below((left - clean).min(3) + 1);
         let value = dice.below(2);
-        if value == 1 && clean == left && last_mask != u32::MAX {
-            clean = clean.saturating_sub(1);
-        }
         body.push(value | clean << CLEAN_SHIFT | dirty << DIRTY_SHIFT);
         plain.extend(vec![value * u32::MAX; clean as usize]);
         for _ in 0..dirty {
@@ -38,6 +35,10 @@ fn throw_body(dice: &mut Dice, rows: u32) -> (Vec<u32>, Vec<u32>) {
             body.push(word);
             plain.push(word);
         }
+    }
+    // A run of ones may have covered pads, which are no rows.
+    if let Some(last) = plain.last_mut() {
+        *last &= last_mask;
     }
     (body, plain)
 }

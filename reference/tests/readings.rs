@@ -49,9 +49,24 @@ fn sixty_four_rows_none_and_all() {
 
 #[test]
 fn forty_rows() {
-    settles(40, &full(40), &[0x0002_0003, 0x0000_00FF]);
+    settles(40, &full(40), &[0x0000_0005]);
     settles(40, &plain(40, &[0, 39]), &[0x0004_0000, 0x0000_0001, 0x0000_0080]);
-    assert_eq!(check_body(&[0x0000_0005], 40), Err(no(7, 0, 0)));
+}
+
+/// The reading that was: a dirty word may still spell a full last segment, but it is not written so.
+#[test]
+fn forty_rows_as_they_were() {
+    for body in [&[0x0002_0003, 0x0000_00FF][..], &[0x0004_0000, u32::MAX, 0x0000_00FF]] {
+        assert_eq!(check_body(body, 40), Ok(()));
+        assert_eq!(body_count(body, 40), Ok(40));
+        assert_eq!(expand(body, 40, 2), Ok(full(40)));
+        let index = index_of(40, &[body, &[0x0000_0005]]);
+        assert_eq!(and(&index, 0, 0, 1), Ok(vec![0x0000_0005]));
+        assert_eq!(and(&index, 0, 1, 1), Ok(vec![0x0000_0005]));
+        assert_eq!(xor(&index, 0, 1, 1), Ok(vec![0x0000_0004]));
+    }
+    assert_eq!(check_body(&[0x0002_0003, 0x0000_01FF], 40), Err(no(7, 0, 1)));
+    assert_eq!(check_body(&[0x0002_0003, u32::MAX], 40), Err(no(7, 0, 1)));
 }
 
 #[test]

@@ -90,17 +90,30 @@ fn six_segments() {
 
 #[test]
 fn seven_pads() {
-    assert_eq!(check_body(&[5], 40), Err(no(7, 0, 0)));
-    assert_eq!(check_body(&[2, 3], 40), Err(no(7, 0, 1)));
     assert_eq!(check_body(&[0x0002_0003, 0x1FF], 40), Err(no(7, 0, 1)));
+    assert_eq!(check_body(&[0x0002_0003, u32::MAX], 40), Err(no(7, 0, 1)));
     assert_eq!(check_body(&[0x0004_0000, 1, 0x100], 40), Err(no(7, 0, 2)));
     assert_eq!(check_body(&[0x0004_0000, u32::MAX, 0xFF], 40), Ok(()));
-    assert_eq!(check_body(&[3], 31), Err(no(7, 0, 0)));
-    assert_eq!(check_body(&[3], 32), Ok(()));
-    assert_eq!(check(&index_of(40, &[&[4], &[5]])), Err(no(7, 1, 8)));
+    assert_eq!(check_body(&[0x0002_0000, u32::MAX], 31), Err(no(7, 0, 1)));
+    assert_eq!(check_body(&[0x0002_0000, u32::MAX], 32), Ok(()));
     assert_eq!(check(&index_of(40, &[&[4], &[0x0002_0002, 0x100]])), Err(no(7, 1, 9)));
     assert_eq!(compress(40, &[0, 0x100], 0), Err(no(7, 0, 1)));
     assert_eq!(compress(40, &[u32::MAX, u32::MAX], 0), Err(no(7, 0, 1)));
+}
+
+#[test]
+fn ones_over_pads_are_sound() {
+    for (body, rows) in [(&[5][..], 40), (&[2, 3], 40), (&[3], 31), (&[3], 1), (&[0, 3, 1, 3, 0, 1], 33)] {
+        assert_eq!(check_body(body, rows), Ok(()), "{body:x?}");
+        // A segment more is one too many.
+        assert_eq!(check_body(&[body, &[3]].concat(), rows), Err(no(6, 0, body.len() as u64)));
+    }
+    assert_eq!(check_body(&[7], 40), Err(no(6, 0, 0)));
+    assert_eq!(check_body(&[3, 5], 40), Err(no(6, 0, 1)));
+    assert_eq!(check_body(&[3], 40), Err(no(6, 0, 1)));
+    assert_eq!(check_body(&[3], 0), Err(no(6, 0, 0)));
+    assert_eq!(check(&index_of(40, &[&[4], &[5]])), Ok(()));
+    assert_eq!(check(&index_of(40, &[&[5], &[7]])), Err(no(6, 1, 8)));
 }
 
 #[test]
@@ -118,7 +131,7 @@ fn wasteful_is_sound() {
 
 #[test]
 fn order_at_a_marker() {
-    // 5 and 6 at once; then 6 and 7 at once; a marker before its dirty words.
+    // 5 and 6 at once; then 6 alone; a marker before its dirty words.
     assert_eq!(check_body(&[0x0004_0002, 1], 64), Err(no(5, 0, 0)));
     assert_eq!(check_body(&[0x0002_0005, 1], 40), Err(no(6, 0, 0)));
     assert_eq!(check_body(&[0x0002_0005, 0x100], 40), Err(no(6, 0, 0)));
@@ -175,11 +188,14 @@ fn nine_no_room() {
     assert_eq!(and(&LOOPED, 0, 1, 1), Err(no(9, 0, 2)));
     assert_eq!(and(&LOOPED, 0, 2, 0), Err(no(9, 0, 1)));
     assert_eq!(and(&LOOPED, 0, 2, 1), Ok(vec![2]));
-    assert_eq!(or(&LOOPED, 0, 1, 1), Err(no(9, 0, 2)));
+    assert_eq!(or(&LOOPED, 0, 2, 1), Err(no(9, 0, 2)));
+    assert_eq!(or(&LOOPED, 0, 1, 0), Err(no(9, 0, 1)));
+    assert_eq!(or(&LOOPED, 0, 1, 1), Ok(vec![3]));
     assert_eq!(xor(&LOOPED, 0, 1, 1), Err(no(9, 0, 2)));
     assert_eq!(and_not(&LOOPED, 0, 1, 1), Err(no(9, 0, 2)));
     assert_eq!(not(&LOOPED, 0, 1), Err(no(9, 0, 2)));
-    assert_eq!(symmetric(&LOOPED, &[0], &[1, 1], 0), Err(no(9, 0, 2)));
+    assert_eq!(symmetric(&LOOPED, &[0], &[1, 1], 0), Err(no(9, 0, 1)));
+    assert_eq!(symmetric(&LOOPED, &[0], &[1, 0], 0), Err(no(9, 0, 2)));
     assert_eq!(expand_bitmap(&LOOPED, 0, 0), Err(no(9, 0, 1)));
     assert_eq!(expand(&[4], 64, 1), Err(no(9, 0, 2)));
     assert_eq!(compress(64, &[0, 0], 0), Err(no(9, 0, 1)));

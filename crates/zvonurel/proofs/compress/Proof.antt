@@ -21,11 +21,12 @@ enum-told c = search needs
 
 write-plain-requires : tie.Need-write-plain-requires
 write-plain-requires c κs =
-    let k = c .before .before in
+    let t = c .before in
+    let k = t .before .before in
     let a = k .before .before .before .args in
     let words = k .before .before .shared-slice-known .given in
     plain-rows (a .rows) (now (a .plain)) (λ i. words i .fits)
-    (sound-is (k .check-plain .result) (plainFault (a .rows) (now (a .plain))) (k .check-plain .ensures) (c .enum-told .given .1))
+    (sound-is (k .check-plain .result) (plainFault (a .rows) (now (a .plain))) (k .check-plain .ensures) (t .enum-told .given .1))
 
 returns : tie.Need-returns
 unfolding compress
@@ -45,7 +46,7 @@ returns-2 c =
     let k = t .before .before in
     let a = k .before .before .before .args in
     let f = plainFault (a .rows) (now (a .plain)) in
-    wrote-then (k .check-plain .result) f (write (a .rows) (hasRow 32 (now (a .plain))) (length (now (a .out)))) (p .write-plain .result) (now (a .out)) (p .write-plain .last .1 .0) (k .check-plain .ensures) (t .enum-told .given .1)
+    wrote-then (k .check-plain .result) f (write (a .rows) (hasRow 32 (now (a .plain))) (length (now (a .out)))) (p .write-plain .result) (now (a .out)) (p .write-plain .last .1 .1 .0) (k .check-plain .ensures) (t .enum-told .given .1)
     (p .write-plain .ensures)
 
 pub compress-spec : {M : Type 1} → statement M
