@@ -1,5 +1,5 @@
--- `starred::short_bodies` meets its contract: what each of its six cases requires holds by computing the definitions. Assumes nothing.
-use Rattle.meaning.specs.Answer.{bufferAfter, wordsReported, compress, checkBody}
+-- `starred::short_bodies` meets its contract: what each of its three cases requires holds by computing the definitions. Assumes nothing.
+use Rattle.meaning.specs.Answer.{bufferAfter, wordsReported, compress}
 use mathlib.Core.Path.{refl}
 use borrow.Author.Needs.{needs}
 use Rattle.starred.proofs.short_bodies.Statement.{statement}
@@ -18,7 +18,7 @@ slice-aggregate-compresses : tie.Need-slice-aggregate-compresses
 slice-aggregate-compresses c = search needs
 
 compresses-requires : tie.Need-compresses-requires
-unfolding bufferAfter wordsReported compress checkBody
+unfolding bufferAfter wordsReported compress
 compresses-requires c κs = record { body = _; is-answer = refl; words-are = refl; after-is = refl }
 
 slice-aggregate-compresses-2 : tie.Need-slice-aggregate-compresses-2
@@ -28,7 +28,7 @@ slice-aggregate-compresses-3 : tie.Need-slice-aggregate-compresses-3
 slice-aggregate-compresses-3 c = search needs
 
 compresses-requires-2 : tie.Need-compresses-requires-2
-unfolding bufferAfter wordsReported compress checkBody
+unfolding bufferAfter wordsReported compress
 compresses-requires-2 c κs = record { body = _; is-answer = refl; words-are = refl; after-is = refl }
 
 slice-aggregate-compresses-4 : tie.Need-slice-aggregate-compresses-4
@@ -38,35 +38,8 @@ slice-aggregate-compresses-5 : tie.Need-slice-aggregate-compresses-5
 slice-aggregate-compresses-5 c = search needs
 
 compresses-requires-3 : tie.Need-compresses-requires-3
-unfolding bufferAfter wordsReported compress checkBody
+unfolding bufferAfter wordsReported compress
 compresses-requires-3 c κs = record { body = _; is-answer = refl; words-are = refl; after-is = refl }
-
-slice-aggregate-compresses-6 : tie.Need-slice-aggregate-compresses-6
-slice-aggregate-compresses-6 c = search needs
-
-slice-aggregate-compresses-7 : tie.Need-slice-aggregate-compresses-7
-slice-aggregate-compresses-7 c = search needs
-
-compresses-requires-4 : tie.Need-compresses-requires-4
-unfolding bufferAfter wordsReported compress checkBody
-compresses-requires-4 c κs = record { body = _; is-answer = refl; words-are = refl; after-is = refl }
-
-slice-aggregate-compresses-8 : tie.Need-slice-aggregate-compresses-8
-slice-aggregate-compresses-8 c = search needs
-
-slice-aggregate-compresses-9 : tie.Need-slice-aggregate-compresses-9
-slice-aggregate-compresses-9 c = search needs
-
-compresses-requires-5 : tie.Need-compresses-requires-5
-unfolding bufferAfter wordsReported compress checkBody
-compresses-requires-5 c κs = record { body = _; is-answer = refl; words-are = refl; after-is = refl }
-
-slice-aggregate-faulty : tie.Need-slice-aggregate-faulty
-slice-aggregate-faulty c = search needs
-
-faulty-requires : tie.Need-faulty-requires
-unfolding bufferAfter wordsReported compress checkBody
-faulty-requires c κs = refl
 
 returns : tie.Need-returns
 returns c = search needs
@@ -86,12 +59,4 @@ short-bodies-spec =
     slice-aggregate-compresses-4
     slice-aggregate-compresses-5
     compresses-requires-3
-    slice-aggregate-compresses-6
-    slice-aggregate-compresses-7
-    compresses-requires-4
-    slice-aggregate-compresses-8
-    slice-aggregate-compresses-9
-    compresses-requires-5
-    slice-aggregate-faulty
-    faulty-requires
     returns)

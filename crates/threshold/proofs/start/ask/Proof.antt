@@ -63,7 +63,7 @@ count-requires c κs =
     let h = t .before .before .before .before in
     let a = h .before .before .before .before .before .before .before .before .args in
     may-count (now (a .index)) (a .t) (h .threshold .last .1 .1 .1 .0) (h .threshold .result) (told h) _ _ (t .told2 .given .1)
-    (c .before .before .word-at .result) (c .before .before .word-at .ensures)
+    (c .before .word-at .result) (c .before .word-at .ensures)
 
 word-at-requires-2 : tie.Need-word-at-requires-2
 word-at-requires-2 c κs = search needs
