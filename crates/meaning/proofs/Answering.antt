@@ -17,7 +17,6 @@ use Rattle.meaning.specs.Canonical.{canonical}
 use Rattle.meaning.specs.Laws.{Answers, AnswerLaws}
 use Rattle.meaning.proofs.Outcomes.{refuse-answer, then-answer, fits-answer}
 use Rattle.meaning.proofs.CanonicalBody.{canonical-body, canonical-form}
-use Rattle.meaning.proofs.Lawful.{body-laws}
 use Rattle.meaning.proofs.Demanded.{good-list}
 use Rattle.meaning.proofs.Counted.{histogram-adds}
 use Rattle.meaning.proofs.RowWords.{length-tabulate}

@@ -1,25 +1,21 @@
 -- Questions on one sound body, answered from the set bits of its segments.
 -- Assumes nothing.
-use Prim.Native.Nat.{ℕ, _+_, _-_, _*_, _/_, _%_, _^_, _≤_, _<_}
-use mathlib.Core.Bool.{false}
+use Prim.Native.Nat.{ℕ, _+_, _-_, _*_, _≤_, _<_}
 use mathlib.Core.Path.{_≡_, sym, ap, _∙_, subst}
 use mathlib.Core.List.{List, _++_, append-assoc}
 use lib.Dec.{lit<}
-use lib.ListN.{length, getD, take, drop, replicate, take-append-drop}
+use lib.ListN.{length, take, drop, replicate, take-append-drop}
 use lib.Seq.{length-take-le}
-use lib.Pow.{pow-mono, pow-add}
-use native.Mathlib.Nat.{div-div-eq-div-mul, div-eq-of-lt}
 use native.Mathlib.Omega.{arith}
 use borrow.Author.Tests.{le-leb, lt-leb}
 use Rattle.meaning.specs.Rows.{countBelow}
-use Rattle.meaning.specs.Segment.{hasRow, isSet, bitAt, ones, fill, segmentCount}
+use Rattle.meaning.specs.Segment.{hasRow, ones, fill, segmentCount}
 use Rattle.meaning.specs.Refusal.{refused, answer, refuseIf}
 use Rattle.meaning.specs.Ewah.{segments, rowsOf}
 use Rattle.meaning.specs.Answer.{askNth}
 use Rattle.meaning.specs.Demands.{IsNth}
-use Rattle.meaning.proofs.Counted.{nth-eq, nth-below, count-none}
-use Rattle.meaning.proofs.RowWords.{has-at}
-use Rattle.meaning.proofs.Counting.{count-add, count-ext, ones-append, count-rows, nth-row, nth-over, nth-left, nth-right}
+use Rattle.meaning.proofs.Counted.{nth-eq, nth-below}
+use Rattle.meaning.proofs.Counting.{ones-append, count-rows, nth-row, nth-over, nth-left, nth-right}
 use Rattle.meaning.proofs.Walk.{Step}
 
 -- ---- the set bits of the segments behind a walk
@@ -71,40 +67,3 @@ module _ (R : ℕ) (b : List ℕ) (count : length (segments b) ≡ segmentCount 
   pub nth-past : (n : ℕ) → ones 32 (segments b) ≤ n → askNth R (rowsOf b) n ≡ refused 8 0 0
   unfolding askNth refuseIf
   nth-past n h = rw (le-leb (countBelow R (rowsOf b)) n (omega (arith, rows-count)))
-
-  -- the pad bits of the last segment, as the bits that are left where its rows are shifted out
-  pub pad-bits : (R % 32 ≡ 0 → ⊥) → getD (segments b) (R / 32) 0 < 2 ^ 32
-      → countBelow 32 (isSet (getD (segments b) (R / 32) 0 / 2 ^ (R % 32))) ≡ countBelow (length (segments b) * 32 - R) (λ r. rowsOf b (R + r))
-  unfolding rowsOf segmentCount isSet bitAt
-  pad-bits h low =
-      let x = getD (segments b) (R / 32) 0 in
-      let k = R % 32 in
-      let n = 32 - k in
-      let q = isSet (x / 2 ^ k) in
-      let e : n + k ≡ 32 = omega arith in
-      let m : n ≡ length (segments b) * 32 - R = omega (arith, count) in
-      ap (λ (i : ℕ). countBelow i q) (sym e)
-      ∙ count-add n k q
-      ∙ omega (
-        arith,
-        count-none k (λ r. q (n + r)) (λ r g. high r),
-        count-ext n q (λ r. hasRow 32 (segments b) (R + r)) (λ r g. row r (omega arith)),
-        ap (λ (i : ℕ). countBelow i (λ r. hasRow 32 (segments b) (R + r))) m,
-      )
-    where
-      past : (x r : ℕ) → x < 2 ^ 32 → x < 2 ^ (32 + r)
-      past x r l = let h : 32 ≤ 32 + r = omega arith in let g : 2 ^ 32 ≤ 2 ^ (32 + r) = pow-mono {i = 32} {j = 32 + r} h in omega arith
-
-      high : (r : ℕ) → isSet (getD (segments b) (R / 32) 0 / 2 ^ (R % 32)) (32 - R % 32 + r) ≡ false
-      high r =
-          let x = getD (segments b) (R / 32) 0 in
-          let e : R % 32 + (32 - R % 32 + r) ≡ 32 + r = omega arith in
-          rw (div-div-eq-div-mul x (2 ^ (R % 32)) (2 ^ (32 - R % 32 + r)), ← pow-add 2 (R % 32) (32 - R % 32 + r), e, div-eq-of-lt (past x r low))
-
-      row : (r : ℕ) → r < 32 - R % 32 → isSet (getD (segments b) (R / 32) 0 / 2 ^ (R % 32)) r ≡ hasRow 32 (segments b) (R + r)
-      row r g =
-          let x = getD (segments b) (R / 32) 0 in
-          let e : R / 32 * 32 + (R % 32 + r) ≡ R + r = omega arith in
-          (rw (div-div-eq-div-mul x (2 ^ (R % 32)) (2 ^ r), ← pow-add 2 (R % 32) r))
-          ∙ sym (has-at 32 (lit< tt) (segments b) (R / 32) (R % 32 + r) (omega arith))
-          ∙ ap (hasRow 32 (segments b)) e

@@ -3,7 +3,7 @@
 use Prim.Native.Nat.{ℕ, zero, suc, _^_, _≤_, _<_}
 use mathlib.Core.Bool.{Bool, true, false, cond, _&&_}
 use mathlib.Core.Path.{_≡_, refl, sym, ap, _∙_}
-use mathlib.Core.List.{List, [], _∷_, _++_, map, foldl}
+use mathlib.Core.List.{List, [], _∷_, _++_, foldl}
 use lib.Dec.{eqb, ltb}
 use lib.ListN.{length, getD, replicate, length-append}
 use native.Mathlib.Omega.{arith}
@@ -23,20 +23,20 @@ use Rattle.meaning.proofs.Encoded.{encoded-decodes, encoded-sound}
 -- ---- lists of words
 
 -- each is below n
-abbrev pub Below : ℕ → List ℕ → Type 0
+abbrev Below : ℕ → List ℕ → Type 0
 Below n [] = Unit {0}
 Below n (x ∷ xs) = (x < n) × Below n xs
 
-pub below-of : (n : ℕ) (xs : List ℕ) → ((i : ℕ) → getD xs i 0 < n) → Below n xs
+below-of : (n : ℕ) (xs : List ℕ) → ((i : ℕ) → getD xs i 0 < n) → Below n xs
 below-of n [] h = tt
 below-of n (x ∷ xs) h = (h 0, below-of n xs (λ i. h (suc i)))
 
-pub below-at : (n : ℕ) (xs : List ℕ) → 0 < n → Below n xs → (i : ℕ) → getD xs i 0 < n
+below-at : (n : ℕ) (xs : List ℕ) → 0 < n → Below n xs → (i : ℕ) → getD xs i 0 < n
 below-at n [] p h i = p
 below-at n (x ∷ xs) p h zero = h .0
 below-at n (x ∷ xs) p h (suc i) = below-at n xs p (h .1) i
 
-pub below-join : (n : ℕ) (xs ys : List ℕ) → Below n xs → Below n ys → Below n (xs ++ ys)
+below-join : (n : ℕ) (xs ys : List ℕ) → Below n xs → Below n ys → Below n (xs ++ ys)
 below-join n [] ys h k = k
 below-join n (x ∷ xs) ys h k = (h .0, below-join n xs ys (h .1) k)
 
@@ -124,7 +124,7 @@ puts-low R [] d l h = l
 puts-low R (x ∷ []) d l h = put-low d (kind (lastRows 32 R) x) l (kind-low (lastRows 32 R) x (h .0))
 puts-low R (x ∷ y ∷ ys) d l h = puts-low R (y ∷ ys) (put d (kind 32 x)) (put-low d (kind 32 x) l (kind-low 32 x (h .0))) (h .1)
 
-pub encoded-words : (R : ℕ) (xs : List ℕ) → Words xs → Words (encoded R xs)
+encoded-words : (R : ℕ) (xs : List ℕ) → Words xs → Words (encoded R xs)
 unfolding encoded canonicalOf
 encoded-words R xs h =
     below-at (2 ^ 32) (body (foldl put blank (kinds 32 R xs))) (omega arith)

@@ -1,14 +1,13 @@
 -- Set rows are counted segment by segment, for any width w, and the nth set row is found in its segment.
 -- Assumes nothing.
 use Prim.Native.Nat.{ℕ, zero, suc, _+_, _-_, _*_, _/_, _%_, _^_, _≤_, _<_}
-use mathlib.Core.Bool.{Bool, true, false, true≢false}
+use mathlib.Core.Bool.{Bool, true, false}
 use mathlib.Core.Path.{_≡_, refl, sym, ap, ap₂, _∙_}
 use mathlib.Core.List.{List, [], _∷_, _++_}
 use lib.ListN.{length, getD, take, drop, replicate, take-append-drop, length-append, length-replicate, getD-replicate, List·getD-append}
 use lib.Pow.{pow-pos, ones-split, high, ones-lt}
 use lib.Seq.{take-length, length-take-le, take-add, getD-append-add, getD-drop}
 use native.Mathlib.Nat.{zero-div, div-add-mod', mod-lt, div-lt-iff-lt-mul, zero-mul, one-mul, suc-mul, add-mul, mul-le-mul-right}
-use native.Mathlib.Decide.{decLe}
 use native.Mathlib.Numerals.{add-one}
 use native.Mathlib.Omega.{arith}
 use Rattle.meaning.specs.Rows.{bit, sumBelow, countBelow}

@@ -63,9 +63,9 @@ abbrev Ok : Segment → Type 0
 Ok (clean v) = v < 2
 Ok (mixed x) = Unit {0}
 
-kind-ok : (w real x : ℕ) → Ok (kind real x)
+kind-ok : (real x : ℕ) → Ok (kind real x)
 unfolding kind
-kind-ok w real x = go (eqb x 0) (eqb x (allSet real))
+kind-ok real x = go (eqb x 0) (eqb x (allSet real))
   where
     go : (s t : Bool) → Ok (cond s (clean 0) (cond t (clean 1) (mixed x)))
     go true t = omega arith
@@ -126,8 +126,8 @@ AllOk (s ∷ ss) = Ok s × AllOk ss
 kinds-ok : (w R : ℕ) (xs : List ℕ) → AllOk (kinds w R xs)
 unfolding kinds
 kinds-ok w R [] = tt
-kinds-ok w R (x ∷ []) = (kind-ok w (lastRows w R) x, tt)
-kinds-ok w R (x ∷ y ∷ ys) = (kind-ok w w x, kinds-ok w R (y ∷ ys))
+kinds-ok w R (x ∷ []) = (kind-ok (lastRows w R) x, tt)
+kinds-ok w R (x ∷ y ∷ ys) = (kind-ok w x, kinds-ok w R (y ∷ ys))
 
 puts : (ss : List Segment) (d : Draft) → Good d → AllOk ss → Good (foldl put d ss) × (decode 0 (body (foldl put d ss)) ≡ decode 0 (body d) ++ map (word 32) ss)
 puts [] d g k = (g, sym (append-nil (decode 0 (body d))))
@@ -149,7 +149,7 @@ pieces-append due [] b = refl
 pieces-append zero (m ∷ ws) b = rw (pieces-append (dirtyOf m) ws b) (run-append (valueOf m) (cleanOf m) (pieces (dirtyOf m) ws) (pieces (dueAfter (dirtyOf m) ws) b))
 pieces-append (suc due) (w ∷ ws) b = ap (λ (l : List Piece). dirtyWord w ∷ l) (pieces-append due ws b)
 
-pub last-append : (ps : List Piece) (q : Piece) (qs : List Piece) → lastDirty (ps ++ q ∷ qs) ≡ lastDirty (q ∷ qs)
+last-append : (ps : List Piece) (q : Piece) (qs : List Piece) → lastDirty (ps ++ q ∷ qs) ≡ lastDirty (q ∷ qs)
 unfolding lastDirty
 last-append [] q qs = refl
 last-append (p ∷ []) q qs = refl
@@ -184,7 +184,7 @@ draft-last done v c ds f =
     (last-words (pieces 0 done) v c ds (f .used))
 
 -- the word of a mixed segment
-abbrev pub mixedWord : Segment → ℕ
+abbrev mixedWord : Segment → ℕ
 mixedWord (clean v) = 0
 mixedWord (mixed x) = x
 
@@ -222,7 +222,7 @@ put-last (draft done v c ds) (mixed x) g = go (ltb (length ds) mostDirty) g
     go true g = draft-last done v c (ds ++ x ∷ []) g ∙ last-snoc ds x
     go false g = draft-last old 0 0 (x ∷ []) g ∙ (unfold lastOf in refl)
 
-pub mixed-le : (w real x : ℕ) → mixedWord (kind real x) ≤ x
+mixed-le : (w real x : ℕ) → mixedWord (kind real x) ≤ x
 unfolding kind
 mixed-le w real x = go (eqb x 0) (eqb x (allSet real))
   where
@@ -234,9 +234,9 @@ mixed-le w real x = go (eqb x 0) (eqb x (allSet real))
 last-low : (R x : ℕ) (xs : List ℕ) (d : Draft) → Good d → lastOf (x ∷ xs) < lastLimit 32 R → lastDirty (pieces 0 (body (foldl put d (kinds 32 R (x ∷ xs))))) < lastLimit 32 R
 unfolding kinds lastOf
 last-low R x [] d g h =
-    let p = put-longer d (kind (lastRows 32 R) x) g (kind-ok 32 (lastRows 32 R) x) in
+    let p = put-longer d (kind (lastRows 32 R) x) g (kind-ok (lastRows 32 R) x) in
     omega (arith, put-last d (kind (lastRows 32 R) x) (p .0), mixed-le 32 (lastRows 32 R) x)
-last-low R x (y ∷ ys) d g h = last-low R y ys (put d (kind 32 x)) (put-longer d (kind 32 x) g (kind-ok 32 32 x) .0) h
+last-low R x (y ∷ ys) d g h = last-low R y ys (put d (kind 32 x)) (put-longer d (kind 32 x) g (kind-ok 32 x) .0) h
 
 -- ---- the canonical form
 

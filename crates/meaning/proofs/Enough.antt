@@ -3,7 +3,7 @@
 use Prim.Native.Nat.{ℕ, zero, suc, _+_, _-_, _*_, _/_, _%_, _^_, _≤_, _<_}
 use mathlib.Core.Bool.{Bool, true, false, _&&_, _||_, true≢false}
 use mathlib.Core.Path.{_≡_, refl, sym, ap, _∙_, subst}
-use mathlib.Core.List.{List, [], _∷_, _++_, map, foldl, foldl-append}
+use mathlib.Core.List.{List, [], _∷_, _++_, map, foldl}
 use lib.Dec.{eqb, ltb}
 use lib.ListN.{length, getD, replicate}
 use native.Mathlib.Omega.{arith}
@@ -13,7 +13,7 @@ use Rattle.meaning.specs.Limits.{mostClean}
 use Rattle.meaning.specs.Rows.{bit, sumBelow, countBelow}
 use Rattle.meaning.specs.Segment.{Segment, clean, kind, kinds, wordOf, bitAt, fill, allSet, segmentCount, lastLimit, fromRows}
 use Rattle.meaning.specs.Ewah.{Piece, cleanRun, dirtyWord, pieces, pieceSize, runThen, segments, rowsOf, valueOf, cleanOf, dirtyOf}
-use Rattle.meaning.specs.Canonical.{Draft, blank, body, put, canonicalOf, canonical}
+use Rattle.meaning.specs.Canonical.{Draft, blank, body, put, canonical}
 use Rattle.meaning.specs.Question.{isIn, endsFrom, endsAt, stretches, held}
 use Rattle.meaning.proofs.Tests.{or-false, or-true}
 use Rattle.meaning.proofs.Segments.{canonical-is, encoded, kinds-inside, kinds-length}

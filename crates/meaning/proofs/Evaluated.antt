@@ -4,12 +4,12 @@
 use Prim.Native.Nat.{ℕ, zero, suc, _+_, _-_, _*_, _/_, _%_, _^_, _≤_, _<_, min}
 use mathlib.Core.Bool.{Bool, true, false, _&&_}
 use mathlib.Core.Path.{_≡_, refl, sym, ap, _∙_}
-use mathlib.Core.List.{List, [], _∷_, _++_}
+use mathlib.Core.List.{List, [], _∷_}
 use lib.Dec.{ltb}
-use lib.ListN.{length, getD, take, drop, replicate, length-drop, length-replicate, length-map, length-append, getD-replicate, List·getD-map, List·getD-append}
+use lib.ListN.{length, getD, take, drop, replicate, length-drop, length-replicate, getD-replicate}
 use lib.Pow.{pow-mono, ones-lt}
-use lib.Seq.{ext-getD, getD-at, getD-take, getD-drop, length-take-le}
-use native.Mathlib.Nat.{div-eq-of-lt, div-add-mod', mod-lt, suc-mul}
+use lib.Seq.{ext-getD, getD-take, getD-drop, length-take-le}
+use native.Mathlib.Nat.{div-eq-of-lt}
 use native.Mathlib.Decide.{decLe}
 use native.Mathlib.Omega.{arith}
 use borrow.Author.Tests.{lt-ltb, le-ltb}

@@ -1,29 +1,28 @@
 -- The canonical body never gets shorter as rows come.
 -- Assumes nothing.
-use Prim.Native.Nat.{ℕ, zero, suc, _+_, _-_, _*_, _/_, _%_, _^_, _≤_, _<_, min}
+use Prim.Native.Nat.{ℕ, _+_, _-_, _*_, _/_, _%_, _^_, _≤_, _<_}
 use mathlib.Core.Bool.{Bool, true, false, cond, _&&_}
 use mathlib.Core.Path.{_≡_, refl, sym, ap, ap₂, _∙_}
-use mathlib.Core.List.{List, [], _∷_, foldl}
+use mathlib.Core.List.{List, foldl}
 use lib.Dec.{eqb, ltb}
 use lib.ListN.{length, getD, take, length-take}
-use lib.Pow.{pow-pos, not-mod}
 use lib.Seq.{ext-getD, getD-take, take-all}
-use native.Mathlib.Nat.{div-add-mod', mod-lt, mod-eq-of-lt, zero-mod}
+use native.Mathlib.Nat.{mod-eq-of-lt, zero-mod}
 use native.Mathlib.Decide.{decLe}
 use native.Mathlib.Omega.{arith}
 use borrow.Author.Tests.{lt-ltb, le-ltb, eqb-true}
 use Rattle.meaning.specs.Limits.{mostDirty}
-use Rattle.meaning.specs.Segment.{Segment, clean, mixed, kind, fill, allSet, kinds, rowsIn, segmentCount, wordOf, tabulate, fromRows}
+use Rattle.meaning.specs.Segment.{Segment, clean, mixed, kind, fill, allSet, kinds, rowsIn, segmentCount, wordOf, fromRows}
 use Rattle.meaning.specs.Canonical.{Draft, blank, body, put, canonicalOf, canonical}
-use Rattle.meaning.proofs.RowWords.{word-ext, word-short, word-lt, getD-tabulate, length-tabulate, from-length}
-use Rattle.meaning.proofs.Segments.{kind-fill, kinds-length}
+use Rattle.meaning.proofs.RowWords.{word-ext, word-short, getD-tabulate, from-length}
+use Rattle.meaning.proofs.Segments.{ones-low, kind-full, kinds-length}
 use Rattle.meaning.proofs.Cut.{kinds-at}
 use Rattle.meaning.proofs.Least.{size, taken, put-clean, put-room, put-full}
-use Rattle.meaning.proofs.Prefixes.{upTo, upTo-more, upTo-all, upTo-within}
+use Rattle.meaning.proofs.Prefixes.{upTo, upTo-more, upTo-within}
 use Rattle.meaning.proofs.WordJoin.{word-low}
 
 -- the word of segment i of R rows
-abbrev pub cell : ℕ → (ℕ → Bool) → ℕ → ℕ
+abbrev cell : ℕ → (ℕ → Bool) → ℕ → ℕ
 cell R p i = wordOf 32 (λ j. ltb (i * 32 + j) R && p (i * 32 + j))
 
 from-at : (R : ℕ) (p : ℕ → Bool) (i : ℕ) → i < segmentCount 32 R → getD (fromRows 32 R p) i 0 ≡ cell R p i
@@ -31,13 +30,13 @@ unfolding fromRows
 from-at R p i h = getD-tabulate (segmentCount 32 R) (cell R p) i h
 
 -- segment i of the rows, as it is put
-pub segment-at : (R : ℕ) (p : ℕ → Bool) (i : ℕ) (s : Segment) → i < segmentCount 32 R
+segment-at : (R : ℕ) (p : ℕ → Bool) (i : ℕ) (s : Segment) → i < segmentCount 32 R
     → getD (kinds 32 R (fromRows 32 R p)) i s ≡ kind (rowsIn 32 R i) (cell R p i)
 segment-at R p i s h =
     kinds-at 32 (omega arith) R (fromRows 32 R p) i s (from-length 32 (omega arith) R p) h
     ∙ ap (λ (x : ℕ). kind (rowsIn 32 R i) x) (from-at R p i h)
 
-pub segments-length : (R : ℕ) (p : ℕ → Bool) → length (kinds 32 R (fromRows 32 R p)) ≡ segmentCount 32 R
+segments-length : (R : ℕ) (p : ℕ → Bool) → length (kinds 32 R (fromRows 32 R p)) ≡ segmentCount 32 R
 segments-length R p = kinds-length 32 R (fromRows 32 R p) ∙ from-length 32 (omega arith) R p
 
 -- ---- one segment that gets more rows
@@ -64,41 +63,34 @@ kind-least d real x y = go (eqb x 0) (eqb x (allSet real))
     go false true = clean-least d 1 y
     go false false = mixed-same d x y
 
-pub ones-low : (a b : ℕ) → a ≤ b → (2 ^ b - 1) % 2 ^ a ≡ 2 ^ a - 1
-ones-low a b h =
-    let e : (b - a) + a ≡ b = omega arith in
-    let full : 2 ^ b - 1 - 0 ≡ 2 ^ b - 1 = omega arith in
-    let part : 2 ^ a - 1 - 0 ≡ 2 ^ a - 1 = omega arith in
-    rw (e, full, part) at (not-mod {a = 0} (b - a) a (pow-pos a))
-
--- x is y without its last rows
-segment-grows : (d : Draft) (a b x y : ℕ) → 0 < a → a ≤ b → x ≡ y % 2 ^ a → size (put d (kind a x)) ≤ size (put d (kind b y))
+-- x is y without its last rows: of a clean segment the first rows are clean, and of the same value
+segment-grows : (d : Draft) (a b x y : ℕ) → 0 < a → a ≤ b → x ≡ y % 2 ^ a
+    → size (put d (kind a x)) ≤ size (put d (kind b y))
 unfolding kind allSet fill
 segment-grows d a b x y pos le e = go (eqb y 0) (eqb y (2 ^ b - 1)) refl refl
   where
-    like : (v z : ℕ) → v < 2 → y ≡ v * z → z % 2 ^ a ≡ 2 ^ a - 1 → kind a x ≡ clean v
-    like zero z h q m = ap (kind a) (e ∙ ap (λ (n : ℕ). n % 2 ^ a) (q ∙ omega arith) ∙ zero-mod (2 ^ a))
-    like (suc zero) z h q m =
-        let u : y ≡ z = omega arith in
-        let n : x ≡ 1 * (2 ^ a - 1) = omega (arith, e ∙ ap (λ (n : ℕ). n % 2 ^ a) u ∙ m) in
-        ap (kind a) n ∙ kind-fill a 1 pos (omega arith)
-    like (suc (suc v)) z h q m = absurd (omega arith)
+    zeros : y ≡ 0 → kind a x ≡ clean 0
+    zeros h = ap (kind a) (e ∙ ap (λ (n : ℕ). n % 2 ^ a) h ∙ zero-mod (2 ^ a))
 
-    go : (s t : Bool) → eqb y 0 ≡ s → eqb y (2 ^ b - 1) ≡ t → size (put d (kind a x)) ≤ size (put d (cond s (clean 0) (cond t (clean 1) (mixed y))))
-    go true t h k = omega (arith, ap (λ (s : Segment). size (put d s)) (like 0 (2 ^ b - 1) (omega arith) (omega (arith, eqb-true y 0 h)) (ones-low a b le)))
-    go false true h k = omega (arith, ap (λ (s : Segment). size (put d s)) (like 1 (2 ^ b - 1) (omega arith) (omega (arith, eqb-true y (2 ^ b - 1) k)) (ones-low a b le)))
+    ones : y ≡ 2 ^ b - 1 → kind a x ≡ clean 1
+    ones h = ap (kind a) (e ∙ ap (λ (n : ℕ). n % 2 ^ a) h ∙ ones-low a b le) ∙ kind-full a pos
+
+    go : (s t : Bool) → eqb y 0 ≡ s → eqb y (2 ^ b - 1) ≡ t
+        → size (put d (kind a x)) ≤ size (put d (cond s (clean 0) (cond t (clean 1) (mixed y))))
+    go true t h k = omega (arith, ap (λ (s : Segment). size (put d s)) (zeros (eqb-true y 0 h)))
+    go false true h k = omega (arith, ap (λ (s : Segment). size (put d s)) (ones (eqb-true y (2 ^ b - 1) k)))
     go false false h k = kind-least d a x y
 
 -- ---- all of them
 
 module _ (R k : ℕ) (p q : ℕ → Bool) (same : (r : ℕ) → r < R → p r ≡ q r) where
-  abbrev pub A : List Segment
+  abbrev A : List Segment
   A = kinds 32 R (fromRows 32 R p)
 
-  abbrev pub B : List Segment
+  abbrev B : List Segment
   B = kinds 32 (R + k) (fromRows 32 (R + k) q)
 
-  abbrev pub n : ℕ
+  abbrev n : ℕ
   n = R / 32
 
   -- the bits of segment i that are rows agree
@@ -108,7 +100,7 @@ module _ (R k : ℕ) (p q : ℕ → Bool) (same : (r : ℕ) → r < R → p r �
       word-ext m (λ j. ltb (i * 32 + j) R && p (i * 32 + j)) (λ j. ltb (i * 32 + j) (R + k) && q (i * 32 + j))
       (λ j l. rw (lt-ltb (i * 32 + j) R (omega arith), lt-ltb (i * 32 + j) (R + k) (omega arith)) (same (i * 32 + j) (omega arith)))
 
-  pub front-same : take n A ≡ take n B
+  front-same : take n A ≡ take n B
   unfolding rowsIn segmentCount
   front-same =
       ext-getD (clean 0) (take (R / 32) A) (take (R / 32) B)
@@ -121,7 +113,7 @@ module _ (R k : ℕ) (p q : ℕ → Bool) (same : (r : ℕ) → r < R → p r �
       ∙ sym (getD-take (R / 32) B i (clean 0) l))
 
   -- of the segment that is filled only in part, where there is one
-  pub last-cell : cell R p (R / 32) ≡ cell (R + k) q (R / 32) % 2 ^ (R % 32)
+  last-cell : cell R p (R / 32) ≡ cell (R + k) q (R / 32) % 2 ^ (R % 32)
   last-cell =
       let m = R % 32 in
       let i = R / 32 in
@@ -144,16 +136,21 @@ module _ (R k : ℕ) (p q : ℕ → Bool) (same : (r : ℕ) → r < R → p r �
 
       part : 1 ≤ R % 32 → length (body (foldl put blank A)) ≤ length (body (foldl put blank B))
       part g =
-          let la : n < length A = omega (arith, segments-length R p) in
-          let lb : n < length B = omega (arith, segments-length (R + k) q) in
-          let all : length A ≤ n + 1 = omega (arith, segments-length R p) in
-          let ea = upTo-more A n (clean 0) la in
-          let eb = upTo-more B n (clean 0) lb in
+          let m = rowsIn 32 (R + k) n in
           let d : Draft = upTo B n in
-          let ed : upTo A n ≡ d = ap (λ (l : List Segment). foldl put blank l) front-same in
-          let sa : getD A n (clean 0) ≡ kind (R % 32) (cell R p (R / 32)) = (segment-at R p (R / 32) (clean 0) (omega arith) ∙ ap (λ (a : ℕ). kind a (cell R p (R / 32))) (omega arith)) in
-          let sb : getD B n (clean 0) ≡ kind (rowsIn 32 (R + k) (R / 32)) (cell (R + k) q (R / 32)) = segment-at (R + k) q (R / 32) (clean 0) (omega arith) in
-          let grow = segment-grows d (R % 32) (rowsIn 32 (R + k) (R / 32)) (cell R p (R / 32)) (cell (R + k) q (R / 32)) g (omega arith) last-cell in
-          let fa : length (body (foldl put blank A)) ≡ size (put d (kind (R % 32) (cell R p (R / 32)))) = (ap (λ (l : List Segment). length (body (foldl put blank l))) (sym (take-all (n + 1) A all)) ∙ ap (λ (e : Draft). length (body e)) (ea ∙ ap₂ put ed sa)) in
-          let fb : length (body (upTo B (n + 1))) ≡ size (put d (kind (rowsIn 32 (R + k) (R / 32)) (cell (R + k) q (R / 32)))) = ap (λ (e : Draft). length (body e)) (eb ∙ ap (put d) sb) in
-          omega (arith, upTo-within B (n + 1))
+          let same-draft : upTo A n ≡ d = ap (λ (l : List Segment). foldl put blank l) front-same in
+          let end-a : getD A n (clean 0) ≡ kind (R % 32) (cell R p n) =
+              (segment-at R p n (clean 0) (omega arith) ∙ ap (λ (a : ℕ). kind a (cell R p n)) (omega arith)) in
+          let end-b : getD B n (clean 0) ≡ kind m (cell (R + k) q n) = segment-at (R + k) q n (clean 0) (omega arith) in
+          let put-a = upTo-more A n (clean 0) (omega (arith, segments-length R p)) ∙ ap₂ put same-draft end-a in
+          let put-b = upTo-more B n (clean 0) (omega (arith, segments-length (R + k) q)) ∙ ap (put d) end-b in
+          let all-a : body (upTo A (n + 1)) ≡ body (foldl put blank A) =
+              ap (λ (l : List Segment). body (foldl put blank l)) (take-all (n + 1) A (omega (arith, segments-length R p))) in
+          omega (
+            arith,
+            ap length all-a,
+            ap (λ (e : Draft). length (body e)) put-a,
+            ap (λ (e : Draft). length (body e)) put-b,
+            segment-grows d (R % 32) m (cell R p n) (cell (R + k) q n) g (omega arith) last-cell,
+            upTo-within B (n + 1),
+          )

@@ -59,7 +59,7 @@ kind-wider w real x h low g =
     let n : x ≡ 2 ^ w - 1 → ⊥ = λ e. g (omega arith) in
     rw (ne-eqb x (2 ^ real - 1) g, ne-eqb x (2 ^ w - 1) n)
 
-pub word-kind : (real x : ℕ) → word real (kind real x) ≡ x
+word-kind : (real x : ℕ) → word real (kind real x) ≡ x
 unfolding word kind fill
 word-kind real x = go (eqb x 0) (eqb x (allSet real)) refl refl
   where
@@ -67,6 +67,14 @@ word-kind real x = go (eqb x 0) (eqb x (allSet real)) refl refl
     go true t e f = omega (arith, eqb-true x 0 e)
     go false true e f = omega (arith, eqb-true x (allSet real) f)
     go false false e f = refl
+
+-- ones, without those from bit a on
+pub ones-low : (a b : ℕ) → a ≤ b → (2 ^ b - 1) % 2 ^ a ≡ 2 ^ a - 1
+ones-low a b h =
+    let e : (b - a) + a ≡ b = omega arith in
+    let full : 2 ^ b - 1 - 0 ≡ 2 ^ b - 1 = omega arith in
+    let part : 2 ^ a - 1 - 0 ≡ 2 ^ a - 1 = omega arith in
+    rw (e, full, part) at (not-mod {a = 0} (b - a) a (pow-pos a))
 
 -- ---- a list of segments, of which the last has perhaps fewer rows
 
@@ -138,7 +146,7 @@ module _ (w R : ℕ) where
   seen-more x y (z ∷ zs) = refl
 
   module _ (pos : 0 < w) where
-    pub last-le : lastRows w R ≤ w
+    last-le : lastRows w R ≤ w
     unfolding lastRows
     last-le = omega (arith, mod-lt (R - 1) pos)
 
@@ -146,20 +154,10 @@ module _ (w R : ℕ) where
     unfolding lastRows
     last-some = omega arith
 
-    -- a word of ones, cut
-    ones-cut : (2 ^ w - 1) % lastLimit w R ≡ 2 ^ lastRows w R - 1
-    unfolding lastLimit
-    ones-cut =
-        let k = lastRows w R in
-        let e : (w - k) + k ≡ w = omega (arith, last-le) in
-        let full : 2 ^ w - 1 - 0 ≡ 2 ^ w - 1 = omega arith in
-        let part : 2 ^ k - 1 - 0 ≡ 2 ^ k - 1 = omega arith in
-        rw (e, full, part) at (not-mod {a = 0} (w - k) k (pow-pos k))
-
     pub fill-cut : (v : ℕ) → v < 2 → fill w v % lastLimit w R ≡ fill (lastRows w R) v
-    unfolding fill allSet
+    unfolding fill allSet lastLimit
     fill-cut zero h = rw (zero-mul (2 ^ w - 1), zero-mul (2 ^ lastRows w R - 1)) (zero-mod (lastLimit w R))
-    fill-cut (suc zero) h = rw (one-mul (2 ^ w - 1), one-mul (2 ^ lastRows w R - 1)) ones-cut
+    fill-cut (suc zero) h = rw (one-mul (2 ^ w - 1), one-mul (2 ^ lastRows w R - 1)) (ones-low (lastRows w R) w last-le)
     fill-cut (suc (suc v)) h = absurd (omega arith)
 
     -- a clean run is seen as clean, over the last segment too
@@ -204,7 +202,3 @@ canonical-is R p = refl
 pub map-append : (f : ℕ → Segment) (xs ys : List ℕ) → map f (xs ++ ys) ≡ map f xs ++ map f ys
 map-append f [] ys = refl
 map-append f (x ∷ xs) ys = ap (λ (l : List Segment). f x ∷ l) (map-append f xs ys)
-
-pub map-replicate : (f : ℕ → Segment) (n x : ℕ) → map f (replicate n x) ≡ replicate n (f x)
-map-replicate f zero x = refl
-map-replicate f (suc n) x = ap (λ (l : List Segment). f x ∷ l) (map-replicate f n x)

@@ -1,24 +1,22 @@
--- The low bits of a word.
+-- A word of a + b bits is two words joined, and its low bits are the first.
 -- Assumes nothing.
-use Prim.Native.Nat.{ℕ, zero, suc, _+_, _-_, _*_, _/_, _%_, _^_, _≤_, _<_}
+use Prim.Native.Nat.{ℕ, zero, suc, _+_, _-_, _*_, _%_, _^_, _<_}
 use mathlib.Core.Bool.{Bool}
-use mathlib.Core.Path.{_≡_, refl, sym, ap, ap₂, _∙_}
+use mathlib.Core.Path.{_≡_, ap, _∙_}
 use lib.Arith.{digits-mod}
-use lib.Pow.{pow-pos}
 use native.Mathlib.Omega.{arith}
-use Rattle.meaning.specs.Rows.{bit}
 use Rattle.meaning.specs.Segment.{wordOf}
-use Rattle.meaning.proofs.RowWords.{word-ext, word-lt, bit-le}
+use Rattle.meaning.proofs.RowWords.{word-ext, word-lt}
 
-pub word-join : (a b : ℕ) (q : ℕ → Bool) → wordOf (a + b) q ≡ wordOf a q + wordOf b (λ j. q (a + j)) * 2 ^ a
+word-join : (a b : ℕ) (q : ℕ → Bool) → wordOf (a + b) q ≡ wordOf a q + wordOf b (λ j. q (a + j)) * 2 ^ a
 unfolding wordOf
 word-join zero b q =
     let e : 0 + b ≡ b = omega arith in
     ap (λ (n : ℕ). wordOf n q) e ∙ omega (arith, word-ext b q (λ j. q (0 + j)) (λ j h. ap q (omega arith)))
 word-join (suc a) b q =
     let e : suc a + b ≡ suc (a + b) = omega arith in
-    let ih : wordOf (a + b) (λ j. q (suc j)) ≡ wordOf a (λ j. q (suc j)) + wordOf b (λ j. q (suc (a + j))) * 2 ^ a = word-join a b (λ j. q (suc j)) in
-    let same : wordOf b (λ j. q (suc (a + j))) ≡ wordOf b (λ j. q (suc a + j)) = word-ext b (λ j. q (suc (a + j))) (λ j. q (suc a + j)) (λ j h. ap q (omega arith)) in
+    let ih = word-join a b (λ j. q (suc j)) in
+    let same = word-ext b (λ j. q (suc (a + j))) (λ j. q (suc a + j)) (λ j h. ap q (omega arith)) in
     let x = wordOf b (λ j. q (suc a + j)) in
     let two : x * 2 ^ suc a ≡ 2 * (x * 2 ^ a) = double x (2 ^ a) (2 ^ suc a) (omega arith) in
     ap (λ (n : ℕ). wordOf n q) e ∙ omega (arith, ih, ap (λ (z : ℕ). z * 2 ^ a) same, two)
