@@ -21,9 +21,10 @@
  * plain word may have none of them set. Plain words are the segments themselves.
  *
  * A BODY says the segments by markers, each with its dirty words behind it, which are segments as they are. Bit 0 of a
- * marker is the value of the clean segments before them, whose rows are all clear or all set, those of a last segment
- * with pad bits too; from bit ZV_CLEAN_SHIFT on stands how many these are, at most ZV_MOST_CLEAN, and from bit ZV_DIRTY_SHIFT on how many dirty words follow, at most
- * ZV_MOST_DIRTY. docs/FORMAT.md has examples. zv_compress writes a body of plain words.
+ * marker is the value of the clean segments before them: all their rows are clear or all are set, and a last one may
+ * have pad bits, which are then of no account. From bit ZV_CLEAN_SHIFT on stands how many these are, at most
+ * ZV_MOST_CLEAN, and from bit ZV_DIRTY_SHIFT on how many dirty words follow, at most ZV_MOST_DIRTY. docs/FORMAT.md has
+ * examples. zv_compress writes a body of plain words.
  *
  * AN INDEX has a head of ZV_HEAD_WORDS words: ZV_INDEX_KIND in word 0, the rows in word 1, the number N of bitmaps in
  * word 2. Then ZV_ENTRY_WORDS words for each bitmap: where its body starts and how many words it has. Then the bodies,

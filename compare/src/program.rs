@@ -66,10 +66,10 @@ fn mixed(segments: usize) -> Vec<u8> {
     question(1, &single((WORD_BITS * segments) as u32, &body))
 }
 
-/// All rows, as a run and with a dirty word at the end, and half of the last segment's: of several numbers of pads.
+/// All rows, as a run and with a dirty word at the end, and half of the last segment's: with every number of pads.
 fn tails() -> Vec<Vec<u8>> {
     let mut inputs = Vec::new();
-    for rows in [1, 2, 31, 32, 33, 40, 63, 64, 95, 97] {
+    for rows in 1..=130 {
         let count = segments(rows);
         let last = last_mask(rows);
         inputs.push(single(rows, &one_run(true, count)));

@@ -38,6 +38,12 @@ pub fn run(session: &mut Session) {
         pad_bits(session, rows);
         past_the_end(session, rows);
     }
+    // a sum takes a run from 16 segments on
+    for count in [15, 16, 17, 31, 32, 33, 34] {
+        for pads in [0, 1, 24, 31] {
+            columns(session, WORD_BITS as u32 * count - pads);
+        }
+    }
     long_runs(session);
     many_dirty_words(session);
     most_rows(session);

@@ -47,7 +47,7 @@ impl Refusal {
     pub const DIRTY_PAST_END: u32 = 5;
     /// The marker at `word` counts more segments than are left, or the body ends at `word` with segments missing.
     pub const BAD_COUNT: u32 = 6;
-    /// The marker or word at `word` sets a bit behind the last row.
+    /// The dirty word, or plain word, at `word` sets a bit behind the last row.
     pub const PAD_BIT: u32 = 7;
     /// A bad argument; `argument` says which.
     pub const BAD_ARGUMENT: u32 = 8;

@@ -18,8 +18,8 @@ enum Step {
     Fault(u32, usize),
 }
 
-// Whether d dirty words, where `left` segments are to come, reach the last one and set a pad bit there. The last of these words
-// stands at `last`.
+// Whether d dirty words, where `left` segments are to come, reach the last one and set a pad bit there. The last of
+// these words stands at `last`.
 fn dirty_over_pad(body: &[u32], last: usize, rows: u32, left: u32, d: u32) -> bool
     requires { ⌜ left ≤ segmentCount 32 rows ⌝ }
     requires { ⌜ last < length (now body) ⌝ }

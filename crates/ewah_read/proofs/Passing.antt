@@ -21,16 +21,13 @@ use Rattle.meaning.proofs.Asked.{rows-count, ones-step}
 use Rattle.meaning.proofs.Counting.{ones-append, ones-take-le}
 use Rattle.meaning.proofs.Decoded.{pieces-none}
 use Rattle.meaning.proofs.Parts.{part-is}
+use Rattle.meaning.proofs.RowWords.{segments-few}
 use Rattle.ewah.specs.Markers.{FieldsOf}
 use Rattle.ewah.specs.declared.marker.Marker.{Marker}
 use Rattle.ewah.proofs.MarkerStep.{read-step}
 use Rattle.ewah_read.specs.Pads.{padsSet}
 use Rattle.ewah_read.proofs.LastSegment.{behind-words, last-word, behind-run, pads-none, pads-all}
 use Rattle.ewah_read.proofs.LastSegment.{pads-clean, pads-dirty}
-
-pub few-segments : (R : ℕ) → R ≤ mostRows → segmentCount 32 R ≤ mostSegments
-unfolding segmentCount
-few-segments R h = omega arith
 
 -- where there are no dirty words, none of their bits are set
 pub none-set : (b : List ℕ) (from to : ℕ) → to ≡ from → ones 32 (take (to - from) (drop from b)) ≡ 0
@@ -61,7 +58,7 @@ pub none-passed : (R : ℕ) (b : List ℕ) (left : ℕ) → R ≤ mostRows → S
 unfolding ones
 none-passed R b left h s e = record {
   sound = s;
-  few = few-segments R h;
+  few = segments-few R h;
   behind = 0;
   all = omega arith;
   stands = at-start b (s .ended);

@@ -1,4 +1,4 @@
--- Corner cases of the definitions, read by hand off paper 01: zero rows, empty bodies and indexes, the limits, faults that come together.
+-- Corner cases of the definitions, read by hand off paper 01 and request 3: zero rows, the last segment, empty bodies and indexes, the limits, faults that come together.
 -- Files are proved in the order of their names, so a wrong definition is refused here or in `AllReadings` before a law's proof is.
 -- Assumes nothing.
 use Prim.Native.Nat.{ℕ}

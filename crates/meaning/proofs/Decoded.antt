@@ -1,4 +1,4 @@
--- What a body decodes to, and that it is sound exactly if it is whole, has as many segments as its rows, and leaves the pad bits zero.
+-- What a body decodes to, and that it is sound exactly if it is whole, has as many segments as its rows, and its last dirty word sets no pad bit.
 -- Assumes nothing.
 use Prim.Native.Nat.{ℕ, zero, suc, _+_, _-_, _≤_, _<_}
 use mathlib.Core.Bool.{Bool, true, false, _&&_, false≢true}
@@ -205,7 +205,8 @@ module _ (bitmap rows : ℕ) where
       let-through _ _ _ _ _ (word-clear rows left w due ws n (f .last))
       (whole-sound (suc place) due (left - 1) ws (record { ended = f .ended; count = omega (arith, f .count); last = last-rest rows left w due ws n (f .last) }))
 
--- A body is sound exactly if its last marker has all its dirty words, it decodes to as many segments as its rows have, and the pad bits are zero
+-- A body is sound exactly if its last marker has all its dirty words, it decodes to as many segments as its rows have, and
+-- a dirty word at its end sets no pad bit
 pub sound-iff : (rows : ℕ) (b : List ℕ) → Sound rows b ↔ Whole (lastLimit 32 rows) 0 (segmentCount 32 rows) b
 unfolding bodyFault
 sound-iff rows b = (sound-whole 0 rows 0 0 (segmentCount 32 rows) b (omega arith) (omega arith), whole-sound 0 rows 0 0 (segmentCount 32 rows) b)

@@ -15,6 +15,7 @@ use native.Mathlib.Numerals.{add-one}
 use native.Mathlib.Decide.{decLe}
 use native.Mathlib.Omega.{arith}
 use borrow.Author.Tests.{lt-ltb, le-ltb}
+use Rattle.meaning.specs.Limits.{mostRows, mostSegments}
 use Rattle.meaning.specs.Rows.{bit}
 use Rattle.meaning.specs.Segment.{segmentCount, lastRows, lastLimit, lastOf, isSet, bitAt, hasRow, wordOf, tabulate, fromRows}
 
@@ -112,6 +113,10 @@ last-getD (x ∷ y ∷ ys) zero h = absurd (omega arith)
 last-getD (x ∷ y ∷ ys) (suc n) h = last-getD (y ∷ ys) n (omega arith)
 
 -- ---- rows and segments
+
+pub segments-few : (R : ℕ) → R ≤ mostRows → segmentCount 32 R ≤ mostSegments
+unfolding segmentCount
+segments-few R h = omega arith
 
 module _ (w : ℕ) (pos : 0 < w) where
   pub count-zero : segmentCount w 0 ≡ 0

@@ -60,7 +60,7 @@ fromRows w R p = tabulate (segmentCount w R) (λ i. wordOf w (λ j. ltb (i * w +
 
 -- ---- clean and mixed
 
--- a segment as a format sees it: clean, all its bits being v (0 or 1), or mixed, with its word
+-- a segment as a format sees it: clean, all its rows being v (0 or 1), or mixed, with its word
 pub data Segment : Type 0 where
   clean : (v : ℕ) → Segment
   mixed : (x : ℕ) → Segment

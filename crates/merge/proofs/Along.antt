@@ -10,6 +10,7 @@ use Rattle.meaning.specs.Segment.{segmentCount, bitAt}
 use Rattle.meaning.specs.Index.{rowCount}
 use Rattle.meaning.specs.Laws.{SoundFacts}
 use Rattle.meaning.specs.Ahead.{StretchAt}
+use Rattle.meaning.proofs.RowWords.{segments-few}
 use Rattle.meaning.proofs.Sums.{sum-le, sum-add, sum-mono}
 use Rattle.ewah.specs.declared.cursor.Piece as code
 use Rattle.ewah.specs.declared.cursor.Piece.the-variants.{Clean, Dirty}
@@ -28,9 +29,6 @@ piece-most (Dirty x) h = omega arith
 bit-most : (p : code.Piece) (j : ℕ) → bitIn p j ≤ dirtyIn p
 bit-most (Clean v n) j = omega arith
 bit-most (Dirty x) j = unfold bitAt in omega arith
-
-pub segments-few : (R : ℕ) → R ≤ mostRows → segmentCount 32 R ≤ mostSegments
-segments-few R h = unfold segmentCount in omega arith
 
 -- every cursor stands at segment o of its body, and s is their survey
 pub record Along (index list ns : List ℕ) (s : Survey) (o : ℕ) : Type 0 where

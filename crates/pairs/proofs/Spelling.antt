@@ -57,6 +57,7 @@ spelled-run R o n z count even t = record {
   long = refl;
   run = λ e. refl;
   block = λ f. absurd (true≢false (sym t ∙ f));
+  others = λ i h. refl;
 }
 
 all-rows : (k : ℕ) → k ≤ 32 → allSet k ≡ 4294967295 → k ≡ 32
@@ -82,6 +83,7 @@ module _ (R o n : ℕ) (within : o + n ≤ segmentCount 32 R) where
       long = refl;
       run = λ t. refl;
       block = λ t b i h l. whole (o + i) (getD z (b * blockSegments + i) 0) (rows i l);
+      others = λ i h. refl;
     }
       where
         rows : (i : ℕ) → i < n → rowsIn 32 R (o + i) ≡ 32
@@ -93,12 +95,13 @@ module _ (R o n : ℕ) (within : o + n ≤ segmentCount 32 R) where
         ]
 
     -- and one with pad bits
-    pub spelled-last : (z′ : List ℕ) (w mask : ℕ) → even ≡ false → n ≤ blockSegments → w ≡ n - 1
+    pub spelled-last : (z′ : List ℕ) (w mask : ℕ) → even ≡ false → 1 ≤ n → n ≤ blockSegments → w ≡ n - 1
         → mask ≡ allSet (rowsIn 32 R (o + n - 1)) → WordsSpelled z count w mask z′ → Spelled R o n even z count z′
-    spelled-last z′ w mask t most p q g = record {
+    spelled-last z′ w mask t some most p q g = record {
       long = g .long;
       run = λ e. absurd (true≢false (sym e ∙ t));
       block = λ f. block;
+      others = λ i h. g .others i (λ b l e. h b w l (omega arith) e);
     }
       where
         block : (b i : ℕ) → b < count → i < n → getD z (b * blockSegments + i) 0 < 2 ^ 32

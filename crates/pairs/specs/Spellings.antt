@@ -17,10 +17,11 @@ pub record WordsSpelled (z : List ℕ) (count w mask : ℕ) (z′ : List ℕ) : 
   pub others : (i : ℕ) → ((b : ℕ) → b < count → i ≡ b * blockSegments + w → ⊥) → getD z′ i 0 ≡ getD z i 0
 
 -- the first `count` rows have the n segments from o on of R rows: a block's words are now written as the segments
--- that their rows make, and a run's stay
+-- that their rows make, and a run's stay, as do all other words
 pub record Spelled (R o n : ℕ) (even : Bool) (z : List ℕ) (count : ℕ) (z′ : List ℕ) : Type 0 where
   pub long : length z′ ≡ length z
   pub run : even ≡ true → z′ ≡ z
   pub block : even ≡ false → (b i : ℕ) → b < count → i < n → getD z (b * blockSegments + i) 0 < 2 ^ 32
       → kind 32 (getD z′ (b * blockSegments + i) 0)
       ≡ kind (rowsIn 32 R (o + i)) (getD z (b * blockSegments + i) 0 % 2 ^ rowsIn 32 R (o + i))
+  pub others : (i : ℕ) → ((b j : ℕ) → b < count → j < n → i ≡ b * blockSegments + j → ⊥) → getD z′ i 0 ≡ getD z i 0

@@ -20,12 +20,11 @@ use Rattle.meaning.specs.Canonical.{canonical}
 use Rattle.meaning.specs.Index.{rowCount, bitmapCount}
 use Rattle.meaning.specs.Laws.{SoundFacts, IndexFacts}
 use Rattle.meaning.specs.Answer.{check, threshold, badList, write, rightRows, wordsReported}
-use Rattle.meaning.proofs.RowWords.{length-tabulate, getD-tabulate}
+use Rattle.meaning.proofs.RowWords.{segments-few, length-tabulate, getD-tabulate}
 use Rattle.meaning.proofs.IndexSound.{index-means, body-facts}
 use Rattle.meaning.proofs.CanonicalBody.{canonical-sound}
 use Rattle.meaning.proofs.Tests.{or-false}
 use Rattle.meaning.proofs.Demanded.{answered-is}
-use Rattle.merge.proofs.Along.{segments-few}
 use Rattle.answers.specs.declared.refusal.Refusal.{Refusal}
 use Rattle.answers.specs.declared.answer.Answered.{Answered}
 use Rattle.answers.specs.declared.answer.Answered.the-variants.{Words, Refused}

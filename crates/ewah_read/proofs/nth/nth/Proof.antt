@@ -18,8 +18,8 @@ use Rattle.meaning.proofs.Asked.{ones-step, nth-step, nth-found, nth-pad, nth-p
 use Rattle.ewah_read.specs.declared.nth.Sought.the-variants.{Here, Ahead}
 use Rattle.ewah_read.specs.Found.{foundOf, SoughtIn}
 use Rattle.meaning.proofs.Parts.{part-is}
+use Rattle.meaning.proofs.RowWords.{segments-few}
 use Rattle.ewah.proofs.MarkerStep.{read-step}
-use Rattle.ewah_read.proofs.Passing.{few-segments}
 use Rattle.ewah_read.proofs.nth.nth.Statement.{statement}
 use Rattle.ewah_read.proofs.nth.nth.Tie as tie
 
@@ -31,7 +31,7 @@ abbrev μ-loop : tie.MeasureT-loop
 μ-loop body rows n at₀ behind₀ ahead₀ at behind ahead = length body - at
 
 few : (t : tie.At-loop Inv-loop μ-loop) → length (segments (now (t .before .before .args .body))) ≤ mostSegments
-few t = let s = t .before .before in omega (arith, few-segments (s .args .rows) (s .pre .0), s .pre .1 .count)
+few t = let s = t .before .before in omega (arith, segments-few (s .args .rows) (s .pre .0), s .pre .1 .count)
 
 -- the step over the marker that was read
 over : (c : tie.After-read Inv-loop μ-loop)

@@ -15,7 +15,7 @@ use Rattle.meaning.specs.Column.{sumValue}
 use Rattle.ewah.specs.Cursors.{leftOf}
 use Rattle.adder.specs.Digits.{Paired}
 use Rattle.walk.specs.Queries.{cursorOf}
-use Rattle.merge.proofs.Along.{segments-few}
+use Rattle.meaning.proofs.RowWords.{segments-few}
 use Rattle.pairs.specs.Passes.{Columns, Chosen}
 use Rattle.pairs.specs.Spellings.{Spelled}
 use Rattle.pairs.proofs.Rows.{BlockOf, Cleared, zeros}

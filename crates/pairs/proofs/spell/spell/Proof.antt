@@ -39,7 +39,7 @@ returns-3 c =
     let else1 = c .before .before .before .before .before in
     let s = else1 .before in
     let block = else1 .if1 .left in
-    spelled-last _ _ _ (rw (s .pre .0) at (s .pre .2)) _ _ _ _ _ _ block (s .pre .5 block)
+    spelled-last _ _ _ (rw (s .pre .0) at (s .pre .2)) _ _ _ _ _ _ block (s .pre .1) (s .pre .5 block)
     (ap (λ (k : ℕ). k - 1) (c .before .wide .ensures .0))
     (c .before .before .before .before .mask-before .ensures) (c .spell-each .ensures)
 
