@@ -140,12 +140,12 @@ module _ (R k : ℕ) (p q : ℕ → Bool) (same : (r : ℕ) → r < R → p r �
           let d : Draft = upTo B n in
           let same-draft : upTo A n ≡ d = ap (λ (l : List Segment). foldl put blank l) front-same in
           let end-a : getD A n (clean 0) ≡ kind (R % 32) (cell R p n) =
-              (segment-at R p n (clean 0) (omega arith) ∙ ap (λ (a : ℕ). kind a (cell R p n)) (omega arith)) in
+          (segment-at R p n (clean 0) (omega arith) ∙ ap (λ (a : ℕ). kind a (cell R p n)) (omega arith)) in
           let end-b : getD B n (clean 0) ≡ kind m (cell (R + k) q n) = segment-at (R + k) q n (clean 0) (omega arith) in
           let put-a = upTo-more A n (clean 0) (omega (arith, segments-length R p)) ∙ ap₂ put same-draft end-a in
           let put-b = upTo-more B n (clean 0) (omega (arith, segments-length (R + k) q)) ∙ ap (put d) end-b in
           let all-a : body (upTo A (n + 1)) ≡ body (foldl put blank A) =
-              ap (λ (l : List Segment). body (foldl put blank l)) (take-all (n + 1) A (omega (arith, segments-length R p))) in
+          ap (λ (l : List Segment). body (foldl put blank l)) (take-all (n + 1) A (omega (arith, segments-length R p))) in
           omega (
             arith,
             ap length all-a,
