@@ -14,25 +14,19 @@ use Rattle.meaning.specs.Ewah.{Piece, dirtyWord, pieces, lastDirty, valueOf, cl
 use Rattle.meaning.proofs.RowWords.{has-at, before-last, pad-clear, last-getD}
 use Rattle.meaning.proofs.Counted.{count-none}
 use Rattle.meaning.proofs.Counting.{count-all, full-set}
-use Rattle.meaning.proofs.Decoded.{last-run}
+use Rattle.meaning.proofs.Decoded.{last-run, last-behind}
 use Rattle.ewah.proofs.Pieces.{cons-at}
 use Rattle.ewah_read.specs.Pads.{padsSet}
 
 -- ---- where the last piece, if it is a dirty word, is below lim
 
 module _ (lim : ℕ) (pos : 0 < lim) where
-  -- so it is behind one dirty word
-  behind-word : (w : ℕ) (ps : List Piece) → lastDirty (dirtyWord w ∷ ps) < lim → lastDirty ps < lim
-  unfolding lastDirty
-  behind-word w [] h = pos
-  behind-word w (q ∷ ps) h = h
-
-  -- and behind d of them
+  -- so it is behind d dirty words
   pub behind-words : (d : ℕ) (ws : List ℕ) → lastDirty (pieces d ws) < lim → lastDirty (pieces 0 (drop d ws)) < lim
   unfolding pieces
   behind-words zero ws h = h
   behind-words (suc d) [] h = h
-  behind-words (suc d) (w ∷ ws) h = behind-words d ws (behind-word w (pieces d ws) h)
+  behind-words (suc d) (w ∷ ws) h = behind-words d ws (last-behind lim w (pieces d ws) pos h)
 
   -- where no piece is behind them the last of them is below lim
   pub last-word : (d : ℕ) (ws : List ℕ) → d < length ws → pieces 0 (drop (suc d) ws) ≡ []
@@ -40,7 +34,7 @@ module _ (lim : ℕ) (pos : 0 < lim) where
   unfolding pieces lastDirty
   last-word d [] l e h = absurd (omega arith)
   last-word zero (w ∷ ws) l e h = subst (λ (ps : List Piece). lastDirty (dirtyWord w ∷ ps) < lim) e h
-  last-word (suc d) (w ∷ ws) l e h = last-word d ws (omega arith) e (behind-word w (pieces (suc d) ws) h)
+  last-word (suc d) (w ∷ ws) l e h = last-word d ws (omega arith) e (last-behind lim w (pieces (suc d) ws) pos h)
 
 -- a marker's run is no dirty word
 pub behind-run : (b : List ℕ) (i : ℕ) → i < length b
@@ -53,12 +47,13 @@ behind-run b i h =
 
 -- ---- the pad bits that are set, by the word of the last segment, n
 
+-- how many they are
+abbrev pub pads : (R : ℕ) → List ℕ → ℕ
+pads R b = countBelow (length (segments b) * 32 - R) (λ r. rowsOf b (R + r))
+
 module _ (R : ℕ) (b : List ℕ) (n : ℕ)
     (count : length (segments b) ≡ segmentCount 32 R) (end : length (segments b) ≡ suc n) where
-  abbrev pads : ℕ
-  pads = countBelow (length (segments b) * 32 - R) (λ r. rowsOf b (R + r))
-
-  pub pads-none : getD (segments b) n 0 < lastLimit 32 R → pads ≡ 0
+  pub pads-none : getD (segments b) n 0 < lastLimit 32 R → pads R b ≡ 0
   unfolding rowsOf
   pads-none h =
       let low : lastOf (segments b) < lastLimit 32 R = rw (last-getD (segments b) n end) h in
@@ -77,7 +72,7 @@ module _ (R : ℕ) (b : List ℕ) (n : ℕ)
       ∙ ap (λ (x : ℕ). eqb (x / 2 ^ j % 2) 1) f
       ∙ full-set 32 j (omega arith)
 
-  pub pads-all : getD (segments b) n 0 ≡ fill 32 1 → pads ≡ length (segments b) * 32 - R
+  pub pads-all : getD (segments b) n 0 ≡ fill 32 1 → pads R b ≡ length (segments b) * 32 - R
   unfolding rowsOf
   pads-all f = count-all (length (segments b) * 32 - R) (λ r. hasRow 32 (segments b) (R + r)) (full-row f)
 

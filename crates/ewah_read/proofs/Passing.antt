@@ -27,16 +27,12 @@ use Rattle.ewah.specs.declared.marker.Marker.{Marker}
 use Rattle.ewah.proofs.MarkerStep.{read-step}
 use Rattle.ewah_read.specs.Pads.{padsSet}
 use Rattle.ewah_read.proofs.LastSegment.{behind-words, last-word, behind-run, pads-none, pads-all}
-use Rattle.ewah_read.proofs.LastSegment.{pads-clean, pads-dirty}
+use Rattle.ewah_read.proofs.LastSegment.{pads, pads-clean, pads-dirty}
 
 -- where there are no dirty words, none of their bits are set
 pub none-set : (b : List ℕ) (from to : ℕ) → to ≡ from → ones 32 (take (to - from) (drop from b)) ≡ 0
 unfolding ones
 none-set b from to e = let z : to - from ≡ 0 = omega (arith, e) in rw z refl
-
--- the bits of the last segment that are no rows, and are set
-abbrev pads : (R : ℕ) → List ℕ → ℕ
-pads R b = countBelow (length (segments b) * 32 - R) (λ r. rowsOf b (R + r))
 
 -- ---- where the count stands
 

@@ -20,8 +20,8 @@ pub fn count_run(value: u32, clean: u32) -> u32
     clean * (value * 32)
 }
 
-// How many bits of many words are set. A function of its own, so that the loop over markers puts the slice into memory, as
-// such a call needs it, only where it has many words to count.
+// How many bits of many words are set. A function of its own, so that the loop over markers puts the slice into memory,
+// as such a call needs it, only where it has many words to count.
 fn count_many(ws: &[u32], from: usize, to: usize) -> u32
     requires { ⌜ (from ≤ to) × (to ≤ length (now ws)) × (to ≤ from + mostSegments) ⌝ }
     ensures { λ r. ⌜ r ≡ ones 32 (take (to - from) (drop from (now (ws .entry)))) ⌝ }

@@ -111,7 +111,8 @@ pub enum Found {
     Past,
 }
 
-// The nth set row, from 0. Where the bit that is found lies past the last row it is a pad bit, and there are not so many rows.
+// The nth set row, from 0. Where the bit that is found lies past the last row it is a pad bit, and not so many rows are
+// set.
 pub fn nth(body: &[u32], rows: u32, n: u32) -> Found
     requires { ⌜ (rows ≤ mostRows) × SoundFacts rows (now body) ⌝ }
     ensures { λ r. ⌜ foundOf r ≡ askNth rows (rowsOf (now (body .entry))) n ⌝ }

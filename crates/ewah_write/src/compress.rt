@@ -10,8 +10,8 @@ use crate::writer;
 use words::bits;
 use words::rows;
 
-// The last word as the writer takes it: all ones where all its rows are set. It is made before the loop over the others: made
-// behind it, its mask would be kept in a register throughout.
+// The last word as the writer takes it: all ones where all its rows are set. It is made before the loop over the others:
+// made behind it, its mask would be kept in a register throughout.
 fn last_word(plain: &[u32], rows: u32) -> u32
     requires { ⌜ PlainRows rows (now plain) ⌝ }
     requires { ⌜ 1 ≤ length (now plain) ⌝ }

@@ -126,6 +126,12 @@ none-pieces zero (m ∷ ws) e =
     omega (arith, run-length (cleanOf m) (fill 32 (valueOf m)) (decode (dirtyOf m) ws), none-pieces (dirtyOf m) ws (p .1))
 none-pieces (suc due) (w ∷ ws) e = let z : _≡_ {A = ℕ} (suc (length (pieces due ws))) 0 = ap length e in absurd (omega arith)
 
+-- behind a dirty word the last one is as low
+pub last-behind : (lim w : ℕ) (ps : List Piece) → 0 < lim → lastDirty (dirtyWord w ∷ ps) < lim → lastDirty ps < lim
+unfolding lastDirty
+last-behind lim w [] pos h = pos
+last-behind lim w (q ∷ ps) pos h = h
+
 -- the test for pad bits of a dirty word, and the last piece
 module _ (R left w due : ℕ) (ws : List ℕ) (count : suc (length (decode due ws)) ≡ left) where
   word-clear : lastDirty (dirtyWord w ∷ pieces due ws) < lastLimit 32 R → overPad 32 R left 1 w ≡ false
@@ -148,14 +154,6 @@ module _ (R left w due : ℕ) (ws : List ℕ) (count : suc (length (decode due w
           let q : leb (lastLimit 32 R) w ≡ false = rw (eq-eqb 1 left (omega (arith, none-pieces due ws p))) at t in
           leb-false (lastLimit 32 R) w q
       go (q ∷ ps) p h = h
-
-  last-rest : lastDirty (dirtyWord w ∷ pieces due ws) < lastLimit 32 R → lastDirty (pieces due ws) < lastLimit 32 R
-  unfolding lastDirty
-  last-rest h = go (pieces due ws) h
-    where
-      go : (ps : List Piece) → lastDirty (dirtyWord w ∷ ps) < lastLimit 32 R → lastDirty ps < lastLimit 32 R
-      go [] h = unfold lastLimit in pow-pos (lastRows 32 R)
-      go (q ∷ ps) h = h
 
 -- ---- both ways
 
@@ -203,7 +201,7 @@ module _ (bitmap rows : ℕ) where
   whole-sound place (suc due) left (w ∷ ws) f =
       let n : suc (length (decode due ws)) ≡ left = omega (arith, f .count) in
       let-through _ _ _ _ _ (word-clear rows left w due ws n (f .last))
-      (whole-sound (suc place) due (left - 1) ws (record { ended = f .ended; count = omega (arith, f .count); last = last-rest rows left w due ws n (f .last) }))
+      (whole-sound (suc place) due (left - 1) ws (record { ended = f .ended; count = omega (arith, f .count); last = last-behind (lastLimit 32 rows) w (pieces due ws) (unfold lastLimit in pow-pos (lastRows 32 rows)) (f .last) }))
 
 -- A body is sound exactly if its last marker has all its dirty words, it decodes to as many segments as its rows have, and
 -- a dirty word at its end sets no pad bit

@@ -5,7 +5,7 @@ use mathlib.Core.Path.{_≡_, _∙_}
 use mathlib.Core.List.{List}
 use native.Mathlib.Omega.{arith}
 use lib.ListN.{length, getD}
-use Rattle.meaning.specs.Limits.{mostRows, mostSegments, mostNamed, queryNumbers, mostClean}
+use Rattle.meaning.specs.Limits.{mostNamed, queryNumbers, mostClean}
 use Rattle.meaning.specs.Segment.{segmentCount, bitAt}
 use Rattle.meaning.specs.Index.{rowCount}
 use Rattle.meaning.specs.Laws.{SoundFacts}

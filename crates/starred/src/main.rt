@@ -13,8 +13,8 @@ fn short_bodies() {
     cases::compresses(64, &[0xFFFF_FFFF, 0xFFFF_FFFF], 1, &[0x0000_0005, 7, 7, 7]);
 }
 
-// Bodies of 40 rows: all set, written and read as a run, and read with the last segment as a dirty word; rows 0 and 39; a
-// pad bit.
+// Bodies of 40 rows: all set, written and read as a run, and read with the last segment as a dirty word; rows 0 and 39;
+// a pad bit.
 fn forty_rows() {
     cases::compresses(40, &[0xFFFF_FFFF, 0xFF], 1, &[0x0000_0005, 7, 7, 7]);
     cases::compresses(40, &[1, 0x80], 3, &[0x0004_0000, 1, 0x80, 7]);

@@ -40,8 +40,8 @@ pub fn mask_before(rows: u32, segments: u32, end: u32) -> u32
     bits::low_ones(last_rows(rows))
 }
 
-// The word that a segment is written as, of whose bits the mask has the rows: all ones where all its rows are set, so that it
-// is a clean segment like any other; else its rows, with no pad bit.
+// The word that a segment is written as, of whose bits the mask has the rows: all ones where all its rows are set, so
+// that it is a clean segment like any other; else its rows, with no pad bit.
 pub fn spelled(x: u32, mask: u32) -> u32
     ensures { λ r. ⌜ ((real : ℕ) → 1 ≤ real → real ≤ 32 → mask ≡ allSet real
         → kind 32 r ≡ kind real (x % 2 ^ real)) ⌝ }
