@@ -9,11 +9,11 @@ use lib.ListN.{length, getD, replicate, length-append}
 use native.Mathlib.Omega.{arith}
 use borrow.Author.Tests.{ltb-true}
 use Rattle.meaning.specs.Limits.{mostClean, mostDirty}
-use Rattle.meaning.specs.Segment.{Segment, clean, mixed, kind, kinds, cut, hasRow, fromRows, fill, allSet, segmentCount, lastRows}
+use Rattle.meaning.specs.Segment.{Segment, clean, mixed, kind, kinds, hasRow, fromRows, fill, allSet, segmentCount, lastRows}
 use Rattle.meaning.specs.Ewah.{Sound, marker, decode, segments, rowsOf, valueOf, cleanOf, dirtyOf}
 use Rattle.meaning.specs.Canonical.{Canonical, Draft, blank, draft, body, opened, put, canonicalOf, canonical}
 use Rattle.meaning.specs.Demands.{Words, Exactly, BodyOf, Fewest}
-use Rattle.meaning.proofs.Segments.{canonical-is, encoded, fits-clean, seen, words-cut, cut-length}
+use Rattle.meaning.proofs.Segments.{cut, canonical-is, encoded, fits-clean, seen, words-cut, cut-length}
 use Rattle.meaning.proofs.Cut.{cut-rows, cut-decide}
 use Rattle.meaning.proofs.RowWords.{rows-decide, from-length, from-has, from-last, from-below}
 use Rattle.meaning.proofs.Decoded.{sound-iff}

@@ -11,8 +11,8 @@ use native.Mathlib.Nat.{div-add-mod', mod-lt, le-div-iff-mul-le, suc-mul}
 use native.Mathlib.Decide.{decLe}
 use native.Mathlib.Omega.{arith}
 use borrow.Author.Tests.{lt-ltb, le-ltb}
-use Rattle.meaning.specs.Segment.{Segment, kind, kinds, cut, rowsIn, segmentCount, lastRows, lastLimit, isSet, bitAt, hasRow, fromRows}
-use Rattle.meaning.proofs.Segments.{cut-length, cut-inside, cut-end, cut-last, cut-below, kinds-inside, kinds-end, last-some}
+use Rattle.meaning.specs.Segment.{Segment, kind, kinds, rowsIn, segmentCount, lastRows, lastLimit, isSet, bitAt, hasRow, fromRows}
+use Rattle.meaning.proofs.Segments.{cut, cut-length, cut-inside, cut-end, cut-last, cut-below, kinds-inside, kinds-end, last-some}
 use Rattle.meaning.proofs.RowWords.{count-suc, count-zero, rows-decide, before-last}
 
 -- a bit below k of a word cut at k

@@ -8,11 +8,11 @@ use lib.Dec.{eqb, ltb}
 use lib.ListN.{length, replicate, length-append}
 use native.Mathlib.Omega.{arith}
 use native.Mathlib.Decide.{decLe}
-use Rattle.meaning.proofs.Segments.{fits-clean, seen, seen-run, seen-word}
+use Rattle.meaning.proofs.Segments.{cut, fits-clean, seen, seen-run, seen-word}
 use mathlib.Core.Logic.{_⊎_, inl, inr}
 use borrow.Author.Tests.{lt-ltb, le-ltb, eq-eqb}
 use Rattle.meaning.specs.Limits.{mostClean, mostDirty}
-use Rattle.meaning.specs.Segment.{Segment, clean, mixed, kinds, cut}
+use Rattle.meaning.specs.Segment.{Segment, clean, mixed, kinds}
 use Rattle.meaning.specs.Ewah.{marker, decode, segments, valueOf, cleanOf, dirtyOf}
 use Rattle.meaning.specs.Canonical.{Draft, blank, draft, body, opened, put, canonicalOf}
 

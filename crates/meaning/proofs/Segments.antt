@@ -11,7 +11,7 @@ use native.Mathlib.Nat.{mod-lt, mod-le, zero-mod, zero-mul, one-mul, mod-eq-of-l
 use native.Mathlib.Omega.{arith}
 use borrow.Author.Tests.{ltb-true, eq-eqb, eqb-true, ne-eqb}
 use Rattle.meaning.specs.Limits.{mostClean}
-use Rattle.meaning.specs.Segment.{Segment, clean, mixed, kind, kinds, cut, fill, allSet, fromRows, lastRows, lastLimit, lastOf}
+use Rattle.meaning.specs.Segment.{Segment, clean, mixed, kind, kinds, fill, allSet, fromRows, lastRows, lastLimit, lastOf}
 use Rattle.meaning.specs.Canonical.{canonicalOf, canonical}
 
 pub both : (a b : Bool) → a && b ≡ true → (a ≡ true) × (b ≡ true)
@@ -77,6 +77,13 @@ ones-low a b h =
     rw (e, full, part) at (not-mod {a = 0} (b - a) a (pow-pos a))
 
 -- ---- a list of segments, of which the last has perhaps fewer rows
+
+-- segments of R rows without the pad bits of the last
+unfoldable pub cut : (w R : ℕ) → List ℕ → List ℕ
+unfolding lastLimit
+cut w R [] = []
+cut w R (x ∷ []) = x % lastLimit w R ∷ []
+cut w R (x ∷ y ∷ ys) = x ∷ cut w R (y ∷ ys)
 
 module _ (w R : ℕ) where
   pub cut-length : (xs : List ℕ) → length (cut w R xs) ≡ length xs

@@ -94,13 +94,6 @@ unfoldable pub lastLimit : (w R : ℕ) → ℕ
 unfolding lastRows
 lastLimit w R = 2 ^ lastRows w R
 
--- segments of R rows without the pad bits of the last
-unfoldable pub cut : (w R : ℕ) → List ℕ → List ℕ
-unfolding lastLimit
-cut w R [] = []
-cut w R (x ∷ []) = x % lastLimit w R ∷ []
-cut w R (x ∷ y ∷ ys) = x ∷ cut w R (y ∷ ys)
-
 -- of `left` segments still to come the next c end with the word x; that is the last of all, and has a pad bit set
 unfoldable pub overPad : (w R left c x : ℕ) → Bool
 unfolding lastLimit

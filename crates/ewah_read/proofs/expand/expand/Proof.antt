@@ -9,10 +9,11 @@ use mathlib.Core.List.{List, _++_}
 use denote.Ref.{now}
 use lib.Bits.{bitAnd, and-mask}
 use lib.ListN.{length, getD, set, drop, List·getD-append}
-use Rattle.meaning.specs.Segment.{cut, fromRows, segmentCount, lastLimit, lastRows}
+use Rattle.meaning.specs.Segment.{fromRows, segmentCount, lastLimit, lastRows}
 use Rattle.meaning.specs.Ewah.{segments, rowsOf}
 use Rattle.meaning.specs.Laws.{SoundFacts}
 use Rattle.meaning.specs.Demands.{Words}
+use Rattle.meaning.proofs.Segments.{cut}
 use Rattle.meaning.proofs.Cut.{cut-part, cut-none, cut-decide}
 use Rattle.meaning.proofs.CanonicalBody.{decoded-words}
 use Rattle.ewah_read.proofs.expand.expand.Statement.{statement}
