@@ -1,4 +1,4 @@
--- Corner cases of the definitions, read by hand off paper 01 and request 3: zero rows, the last segment, empty bodies and indexes, the limits, faults that come together.
+-- Corner cases of the definitions, read by hand off paper 01 and requests 3 and 4: zero rows, the last segment, empty bodies and indexes, the limits, faults that come together.
 -- Files are proved in the order of their names, so a wrong definition is refused here or in `AllReadings` before a law's proof is.
 -- Assumes nothing.
 use Prim.Native.Nat.{ℕ}
@@ -7,8 +7,12 @@ use mathlib.Core.Path.{_≡_, refl}
 use mathlib.Core.List.{List, [], _∷_}
 use lib.ListN.{replicate}
 use Rattle.meaning.specs.Refusal.{Outcome, refused, answer}
+use Rattle.meaning.specs.Ewah.{ewahFault}
+use Rattle.meaning.specs.Wah.{wahFault}
+use Rattle.meaning.specs.Rewriting.{rewrite, rewriteBitmap, rewriteIndex}
 use Rattle.meaning.specs.Answer.{checkBody, bodyRow, bodyCount, bodyNth, expand, compress, check, bitmapRefusal, bitmap, partOf, notOf, threshold, symmetric}
-use Rattle.meaning.specs.Readings.{isSound, isRefused, isAnswer, isNumber, same, looped, three, ninetySix}
+use Rattle.meaning.specs.declared.Format.the-variants.{Ewah, Wah}
+use Rattle.meaning.specs.Readings.{isSound, isRefused, isAnswer, isNumber, same, looped, three, ninetySix, wasteful}
 
 unfoldable pub every : List Bool → Bool
 every [] = true
@@ -25,73 +29,73 @@ isNo (answer t) = not t
 pub bodies : List Bool
 bodies =
     -- zero rows: no words, idle markers, a marker with counts, one whose dirty word is not there
-    isSound (checkBody 0 [])
-    ∷ isSound (checkBody 0 (0 ∷ 1 ∷ []))
-    ∷ isRefused (checkBody 0 (2 ∷ [])) 6 0 0
-    ∷ isRefused (checkBody 0 (0 ∷ 0x00020000 ∷ 5 ∷ [])) 6 0 1
-    ∷ isRefused (checkBody 0 (0x00020000 ∷ [])) 5 0 0
+    isSound (checkBody Ewah 0 [])
+    ∷ isSound (checkBody Ewah 0 (0 ∷ 1 ∷ []))
+    ∷ isRefused (checkBody Ewah 0 (2 ∷ [])) 6 0 0
+    ∷ isRefused (checkBody Ewah 0 (0 ∷ 0x00020000 ∷ 5 ∷ [])) 6 0 1
+    ∷ isRefused (checkBody Ewah 0 (0x00020000 ∷ [])) 5 0 0
     -- an empty body with rows; idle markers with rows, of value 1 over a padded tail and behind the last segment
-    ∷ isRefused (checkBody 33 []) 6 0 0
-    ∷ isSound (checkBody 40 (1 ∷ 4 ∷ 1 ∷ []))
-    ∷ isSound (checkBody 64 (5 ∷ 0 ∷ 1 ∷ []))
+    ∷ isRefused (checkBody Ewah 33 []) 6 0 0
+    ∷ isSound (checkBody Ewah 40 (1 ∷ 4 ∷ 1 ∷ []))
+    ∷ isSound (checkBody Ewah 64 (5 ∷ 0 ∷ 1 ∷ []))
     -- the last word: a pad bit, a marker too many, segments missing
-    ∷ isRefused (checkBody 40 (0x00040000 ∷ 1 ∷ 0x180 ∷ [])) 7 0 2
-    ∷ isRefused (checkBody 64 (4 ∷ 2 ∷ [])) 6 0 1
-    ∷ isRefused (checkBody 96 (2 ∷ [])) 6 0 1
+    ∷ isRefused (checkBody Ewah 40 (0x00040000 ∷ 1 ∷ 0x180 ∷ [])) 7 0 2
+    ∷ isRefused (checkBody Ewah 64 (4 ∷ 2 ∷ [])) 6 0 1
+    ∷ isRefused (checkBody Ewah 96 (2 ∷ [])) 6 0 1
     -- a run of ones over the last segment: its real rows and no others, behind idle markers and before them; the same segment as a
     -- dirty word, and with a pad bit
-    ∷ isSound (checkBody 40 (5 ∷ []))
-    ∷ isSound (checkBody 40 (0 ∷ 3 ∷ 1 ∷ 3 ∷ 1 ∷ []))
-    ∷ isSound (checkBody 40 (0x00020003 ∷ 0xFF ∷ []))
-    ∷ isRefused (checkBody 40 (0x00020003 ∷ 0xFFFFFFFF ∷ [])) 7 0 1
-    ∷ isRefused (checkBody 40 (5 ∷ 3 ∷ [])) 6 0 1
-    ∷ isNumber (bodyCount 40 (5 ∷ [])) 40
-    ∷ isNumber (bodyCount 40 (3 ∷ 3 ∷ 1 ∷ [])) 40
-    ∷ isNumber (bodyCount 40 (0x00020003 ∷ 0xFF ∷ 1 ∷ [])) 40
-    ∷ isNumber (bodyNth 40 (5 ∷ []) 39) 39
-    ∷ isRefused (bodyNth 40 (5 ∷ []) 40) 8 0 0
-    ∷ isYes (bodyRow 40 (5 ∷ []) 39)
-    ∷ isRefused (bodyRow 40 (5 ∷ []) 40) 8 0 0
-    ∷ isAnswer (expand 40 (5 ∷ []) 2) (0xFFFFFFFF ∷ 0xFF ∷ [])
+    ∷ isSound (checkBody Ewah 40 (5 ∷ []))
+    ∷ isSound (checkBody Ewah 40 (0 ∷ 3 ∷ 1 ∷ 3 ∷ 1 ∷ []))
+    ∷ isSound (checkBody Ewah 40 (0x00020003 ∷ 0xFF ∷ []))
+    ∷ isRefused (checkBody Ewah 40 (0x00020003 ∷ 0xFFFFFFFF ∷ [])) 7 0 1
+    ∷ isRefused (checkBody Ewah 40 (5 ∷ 3 ∷ [])) 6 0 1
+    ∷ isNumber (bodyCount Ewah 40 (5 ∷ [])) 40
+    ∷ isNumber (bodyCount Ewah 40 (3 ∷ 3 ∷ 1 ∷ [])) 40
+    ∷ isNumber (bodyCount Ewah 40 (0x00020003 ∷ 0xFF ∷ 1 ∷ [])) 40
+    ∷ isNumber (bodyNth Ewah 40 (5 ∷ []) 39) 39
+    ∷ isRefused (bodyNth Ewah 40 (5 ∷ []) 40) 8 0 0
+    ∷ isYes (bodyRow Ewah 40 (5 ∷ []) 39)
+    ∷ isRefused (bodyRow Ewah 40 (5 ∷ []) 40) 8 0 0
+    ∷ isAnswer (expand Ewah 40 (5 ∷ []) 2) (0xFFFFFFFF ∷ 0xFF ∷ [])
     -- it is written so, down to one row
-    ∷ isAnswer (compress 40 (0xFFFFFFFF ∷ 0xFF ∷ []) 1) (5 ∷ [])
-    ∷ isAnswer (compress 40 (0 ∷ 0xFF ∷ []) 2) (2 ∷ 3 ∷ [])
-    ∷ isAnswer (compress 40 (1 ∷ 0xFF ∷ []) 3) (0x00020000 ∷ 1 ∷ 3 ∷ [])
-    ∷ isAnswer (compress 33 (0xFFFFFFFF ∷ 1 ∷ []) 1) (5 ∷ [])
-    ∷ isAnswer (compress 1 (1 ∷ []) 1) (3 ∷ [])
-    ∷ isRefused (compress 40 (0xFFFFFFFF ∷ 0xFF ∷ []) 0) 9 0 1
+    ∷ isAnswer (compress Ewah 40 (0xFFFFFFFF ∷ 0xFF ∷ []) 1) (5 ∷ [])
+    ∷ isAnswer (compress Ewah 40 (0 ∷ 0xFF ∷ []) 2) (2 ∷ 3 ∷ [])
+    ∷ isAnswer (compress Ewah 40 (1 ∷ 0xFF ∷ []) 3) (0x00020000 ∷ 1 ∷ 3 ∷ [])
+    ∷ isAnswer (compress Ewah 33 (0xFFFFFFFF ∷ 1 ∷ []) 1) (5 ∷ [])
+    ∷ isAnswer (compress Ewah 1 (1 ∷ []) 1) (3 ∷ [])
+    ∷ isRefused (compress Ewah 40 (0xFFFFFFFF ∷ 0xFF ∷ []) 0) 9 0 1
     -- 5 before 6, 6 before 7, a marker before its dirty words
-    ∷ isRefused (checkBody 32 (0x00040006 ∷ [])) 5 0 0
-    ∷ isRefused (checkBody 40 (7 ∷ [])) 6 0 0
-    ∷ isRefused (checkBody 40 (0x00020005 ∷ 0xFFFFFFFF ∷ [])) 6 0 0
+    ∷ isRefused (checkBody Ewah 32 (0x00040006 ∷ [])) 5 0 0
+    ∷ isRefused (checkBody Ewah 40 (7 ∷ [])) 6 0 0
+    ∷ isRefused (checkBody Ewah 40 (0x00020005 ∷ 0xFFFFFFFF ∷ [])) 6 0 0
     -- the most rows, and one more, tested before the body
-    ∷ isSound (checkBody 16777216 (0x0001FFFE ∷ 0x0001FFFE ∷ 0x0001FFFE ∷ 0x0001FFFE ∷ 0x0001FFFE ∷ 0x0001FFFE ∷ 0x0001FFFE ∷ 0x0001FFFE ∷ 0x00000010 ∷ []))
-    ∷ isRefused (checkBody 16777217 []) 3 0 1
-    ∷ isRefused (compress 16777217 [] 0) 3 0 1
+    ∷ isSound (checkBody Ewah 16777216 (0x0001FFFE ∷ 0x0001FFFE ∷ 0x0001FFFE ∷ 0x0001FFFE ∷ 0x0001FFFE ∷ 0x0001FFFE ∷ 0x0001FFFE ∷ 0x0001FFFE ∷ 0x00000010 ∷ []))
+    ∷ isRefused (checkBody Ewah 16777217 []) 3 0 1
+    ∷ isRefused (compress Ewah 16777217 [] 0) 3 0 1
     -- rows and set rows past the last; 3 and the body's faults come before 8
-    ∷ isRefused (bodyRow 64 (5 ∷ []) 64) 8 0 0
-    ∷ isRefused (bodyRow 64 (3 ∷ []) 64) 6 0 1
-    ∷ isRefused (bodyNth 64 (5 ∷ []) 64) 8 0 0
-    ∷ isRefused (bodyNth 0 [] 0) 8 0 0
-    ∷ isRefused (bodyRow 0 [] 0) 8 0 0
+    ∷ isRefused (bodyRow Ewah 64 (5 ∷ []) 64) 8 0 0
+    ∷ isRefused (bodyRow Ewah 64 (3 ∷ []) 64) 6 0 1
+    ∷ isRefused (bodyNth Ewah 64 (5 ∷ []) 64) 8 0 0
+    ∷ isRefused (bodyNth Ewah 0 [] 0) 8 0 0
+    ∷ isRefused (bodyRow Ewah 0 [] 0) 8 0 0
     -- rows 5 and 64 of 96: a row, how many, each of them, and one past the last
-    ∷ isYes (bodyRow 96 ninetySix 64)
-    ∷ isNo (bodyRow 96 ninetySix 63)
-    ∷ isNumber (bodyCount 96 ninetySix) 2
-    ∷ isNumber (bodyNth 96 ninetySix 0) 5
-    ∷ isNumber (bodyNth 96 ninetySix 1) 64
-    ∷ isRefused (bodyNth 96 ninetySix 2) 8 0 0
+    ∷ isYes (bodyRow Ewah 96 ninetySix 64)
+    ∷ isNo (bodyRow Ewah 96 ninetySix 63)
+    ∷ isNumber (bodyCount Ewah 96 ninetySix) 2
+    ∷ isNumber (bodyNth Ewah 96 ninetySix 0) 5
+    ∷ isNumber (bodyNth Ewah 96 ninetySix 1) 64
+    ∷ isRefused (bodyNth Ewah 96 ninetySix 2) 8 0 0
     -- buffers: nothing needed, exactly enough, one less
-    ∷ isAnswer (expand 0 [] 0) []
-    ∷ isAnswer (expand 40 (3 ∷ 2 ∷ []) 2) (0xFFFFFFFF ∷ 0 ∷ [])
-    ∷ isRefused (expand 40 (3 ∷ 2 ∷ []) 1) 9 0 2
-    ∷ isAnswer (compress 0 [] 0) []
-    ∷ isAnswer (compress 40 (1 ∷ 0x80 ∷ []) 3) (0x00040000 ∷ 1 ∷ 0x80 ∷ [])
-    ∷ isRefused (compress 40 (1 ∷ 0x80 ∷ []) 2) 9 0 3
+    ∷ isAnswer (expand Ewah 0 [] 0) []
+    ∷ isAnswer (expand Ewah 40 (3 ∷ 2 ∷ []) 2) (0xFFFFFFFF ∷ 0 ∷ [])
+    ∷ isRefused (expand Ewah 40 (3 ∷ 2 ∷ []) 1) 9 0 2
+    ∷ isAnswer (compress Ewah 0 [] 0) []
+    ∷ isAnswer (compress Ewah 40 (1 ∷ 0x80 ∷ []) 3) (0x00040000 ∷ 1 ∷ 0x80 ∷ [])
+    ∷ isRefused (compress Ewah 40 (1 ∷ 0x80 ∷ []) 2) 9 0 3
     -- plain words: 8 before 7, 7 at the last word
-    ∷ isRefused (compress 40 (1 ∷ []) 9) 8 0 0
-    ∷ isRefused (compress 40 (1 ∷ 2 ∷ 0x100 ∷ []) 9) 8 0 0
-    ∷ isRefused (compress 40 (1 ∷ 0x100 ∷ []) 0) 7 0 1
+    ∷ isRefused (compress Ewah 40 (1 ∷ []) 9) 8 0 0
+    ∷ isRefused (compress Ewah 40 (1 ∷ 2 ∷ 0x100 ∷ []) 9) 8 0 0
+    ∷ isRefused (compress Ewah 40 (1 ∷ 0x100 ∷ []) 0) 7 0 1
     ∷ []
 
 -- 40 rows: all of them as one run, none, and all of them with a dirty word at the end
@@ -110,7 +114,9 @@ indexes =
     ∷ isSound (check (1 ∷ 4 ∷ 0 ∷ []))
     ∷ isRefused (check (1 ∷ 4 ∷ 0 ∷ 9 ∷ [])) 4 0 3
     -- kind, rows and N, each before the next
-    ∷ isRefused (check (2 ∷ 16777217 ∷ 65 ∷ [])) 2 0 0
+    ∷ isRefused (check (3 ∷ 16777217 ∷ 65 ∷ [])) 2 0 0
+    ∷ isRefused (check (0 ∷ 4 ∷ 0 ∷ [])) 2 0 0
+    ∷ isRefused (check (2 ∷ 16777217 ∷ 65 ∷ [])) 3 0 1
     ∷ isRefused (check (1 ∷ 16777217 ∷ 65 ∷ [])) 3 0 1
     ∷ isRefused (check (1 ∷ 16777216 ∷ 65 ∷ [])) 3 0 2
     ∷ isRefused (check (1 ∷ 16777216 ∷ 64 ∷ [])) 1 0 3
@@ -153,10 +159,88 @@ indexes =
     ∷ isAnswer (threshold fullTail (0 ∷ 1 ∷ []) 2 1) (4 ∷ [])
     ∷ []
 
+-- WAH: rows 0 to 39 of 40, none of them, and rows 0 and 39
+abbrev archive : List ℕ
+archive = 2 ∷ 40 ∷ 3 ∷ 9 ∷ 1 ∷ 10 ∷ 1 ∷ 11 ∷ 2 ∷ 0xC0000002 ∷ 0x80000002 ∷ 0x00000001 ∷ 0x00000100 ∷ []
+
+-- as it is rewritten
+abbrev archiveEwah : List ℕ
+archiveEwah = 1 ∷ 40 ∷ 3 ∷ 9 ∷ 1 ∷ 10 ∷ 1 ∷ 11 ∷ 3 ∷ 5 ∷ 4 ∷ 0x00040000 ∷ 0x00000001 ∷ 0x00000080 ∷ []
+
+pub wahs : List Bool
+wahs =
+    -- no rows: no words, and no others
+    isSound (checkBody Wah 0 [])
+    ∷ isRefused (checkBody Wah 0 (0 ∷ [])) 6 0 0
+    ∷ isRefused (checkBody Wah 0 (0x80000000 ∷ [])) 10 0 0
+    -- a literal or a fill with no segment left, also with all bits; a fill one too long; an early end; 3 before all
+    ∷ isRefused (checkBody Wah 31 (0 ∷ 0x7FFFFFFF ∷ [])) 6 0 1
+    ∷ isRefused (checkBody Wah 31 (0 ∷ 0xFFFFFFFF ∷ [])) 6 0 1
+    ∷ isRefused (checkBody Wah 31 (0x80000002 ∷ [])) 6 0 0
+    ∷ isRefused (checkBody Wah 32 (0 ∷ [])) 6 0 1
+    ∷ isRefused (checkBody Wah 31 []) 6 0 0
+    ∷ isRefused (checkBody Wah 16777217 (0x80000000 ∷ [])) 3 0 1
+    -- the last segment: a fill of ones over pad bits, a literal of all rows, one with a pad bit, an empty fill before it
+    ∷ isSound (checkBody Wah 32 (0xC0000002 ∷ []))
+    ∷ isSound (checkBody Wah 32 (0x7FFFFFFF ∷ 1 ∷ []))
+    ∷ isRefused (checkBody Wah 32 (0x7FFFFFFF ∷ 2 ∷ [])) 7 0 1
+    ∷ isRefused (checkBody Wah 32 (0x80000000 ∷ 2 ∷ 2 ∷ [])) 10 0 0
+    -- the longest: a fill of all segments of the most rows
+    ∷ isSound (checkBody Wah 16777216 (0x80084211 ∷ []))
+    ∷ isRefused (checkBody Wah 16777216 (0x80084212 ∷ [])) 6 0 0
+    -- questions: the last row, the count without pad bits, the nth
+    ∷ isYes (bodyRow Wah 40 (0xC0000002 ∷ []) 39)
+    ∷ isRefused (bodyRow Wah 40 (0xC0000002 ∷ []) 40) 8 0 0
+    ∷ isNo (bodyRow Wah 64 (0x7FFFFFFF ∷ 0 ∷ 3 ∷ []) 31)
+    ∷ isYes (bodyRow Wah 64 (0x7FFFFFFF ∷ 0 ∷ 3 ∷ []) 62)
+    ∷ isNumber (bodyCount Wah 40 (0xC0000002 ∷ [])) 40
+    ∷ isNumber (bodyNth Wah 64 (0x7FFFFFFF ∷ 0 ∷ 3 ∷ []) 32) 63
+    ∷ isRefused (bodyNth Wah 40 (0xC0000002 ∷ []) 40) 8 0 0
+    -- plain words keep 32 rows, and 7 is judged on them
+    ∷ isAnswer (expand Wah 64 (0x7FFFFFFF ∷ 0 ∷ 3 ∷ []) 2) (0x7FFFFFFF ∷ 0xC0000000 ∷ [])
+    ∷ isRefused (expand Wah 62 (0x80000002 ∷ []) 1) 9 0 2
+    ∷ isAnswer (compress Wah 64 (0x7FFFFFFF ∷ 0xC0000000 ∷ []) 3) (0x7FFFFFFF ∷ 0 ∷ 3 ∷ [])
+    ∷ isRefused (compress Wah 40 (0 ∷ 0x100 ∷ []) 9) 7 0 1
+    ∷ isRefused (compress Wah 62 (0 ∷ 0 ∷ 0 ∷ []) 9) 8 0 0
+    ∷ isRefused (compress Wah 40 (1 ∷ 0 ∷ []) 1) 9 0 2
+    -- canonical form: a lone clean segment, runs of two, a full last segment joins ones before it
+    ∷ isAnswer (compress Wah 93 (0x7FFFFFFF ∷ 0 ∷ 0 ∷ []) 2) (0x7FFFFFFF ∷ 0x80000002 ∷ [])
+    ∷ isAnswer (compress Wah 33 (0x80000001 ∷ 1 ∷ []) 2) (1 ∷ 3 ∷ [])
+    -- rewriting: either way, to the same format, and what is refused
+    ∷ isAnswer (rewrite Wah Ewah 40 (0x7FFFFFFF ∷ 0x1FF ∷ []) 1) (5 ∷ [])
+    ∷ isAnswer (rewrite Ewah Wah 40 (5 ∷ []) 1) (0xC0000002 ∷ [])
+    ∷ isAnswer (rewrite Wah Wah 40 (0x7FFFFFFF ∷ 0x1FF ∷ []) 1) (0xC0000002 ∷ [])
+    ∷ isAnswer (rewrite Ewah Ewah 96 wasteful 4) ninetySix
+    ∷ isRefused (rewrite Ewah Wah 40 (6 ∷ []) 9) 6 0 0
+    ∷ isRefused (rewrite Wah Ewah 40 (0 ∷ []) 0) 6 0 1
+    ∷ isRefused (rewrite Ewah Wah 40 (5 ∷ []) 0) 9 0 1
+    ∷ isAnswer (rewriteBitmap archive 2 Ewah 3) (0x00040000 ∷ 0x00000001 ∷ 0x00000080 ∷ [])
+    ∷ isRefused (rewriteBitmap archive 3 Ewah 3) 8 0 0
+    ∷ isAnswer (rewriteIndex archive Ewah 14) archiveEwah
+    ∷ isAnswer (rewriteIndex archiveEwah Wah 13) archive
+    ∷ isAnswer (rewriteIndex archive Wah 13) archive
+    ∷ isRefused (rewriteIndex archive Ewah 13) 9 0 14
+    ∷ isRefused (rewriteIndex (3 ∷ 40 ∷ 0 ∷ []) Wah 9) 2 0 0
+    -- an index of WAH bodies: its faults have places in it, and its answers its format
+    ∷ isSound (check archive)
+    ∷ isRefused (check (2 ∷ 40 ∷ 1 ∷ 5 ∷ 2 ∷ 0x7FFFFFFF ∷ 0x7FFFFFFF ∷ [])) 7 0 6
+    ∷ isRefused (check (2 ∷ 40 ∷ 1 ∷ 5 ∷ 1 ∷ 0x80000000 ∷ [])) 10 0 5
+    ∷ isAnswer (notOf archive 0 1) (0x80000002 ∷ [])
+    ∷ isAnswer (notOf archive 2 2) (0x7FFFFFFE ∷ 0xFF ∷ [])
+    ∷ isAnswer (threshold archive three 1 1) (0xC0000002 ∷ [])
+    ∷ isAnswer (threshold archive three 2 2) (0x00000001 ∷ 0x00000100 ∷ [])
+    ∷ isRefused (threshold archive three 2 1) 9 0 2
+    ∷ isAnswer (symmetric archive (1 ∷ []) (1 ∷ 0 ∷ []) 1) (0xC0000002 ∷ [])
+    ∷ []
+
 pub bodies-hold : every bodies ≡ true
-unfolding every bodies isYes isNo isNumber isSound isRefused isAnswer checkBody bodyRow bodyCount bodyNth expand compress
+unfolding every bodies isYes isNo isNumber isSound isRefused isAnswer checkBody bodyRow bodyCount bodyNth expand compress ewahFault
 bodies-hold = refl
 
+pub wahs-hold : every wahs ≡ true
+unfolding every wahs isYes isNo isNumber isSound isRefused isAnswer checkBody bodyRow bodyCount bodyNth expand compress rewrite rewriteBitmap rewriteIndex check notOf threshold symmetric ewahFault wahFault
+wahs-hold = refl
+
 pub indexes-hold : every indexes ≡ true
-unfolding every indexes isSound isRefused isAnswer same check bitmapRefusal bitmap partOf notOf threshold symmetric
+unfolding every indexes isSound isRefused isAnswer same check bitmapRefusal bitmap partOf notOf threshold symmetric ewahFault
 indexes-hold = refl

@@ -1,52 +1,52 @@
 -- Each question over bitmaps agrees with the rows.
 -- Assumes nothing.
-use Prim.Native.Nat.{ℕ, suc, _≤_}
-use mathlib.Core.Bool.{Bool, false, _||_, not}
+use Prim.Native.Nat.{ℕ, _≤_}
+use mathlib.Core.Bool.{Bool, false, _||_}
 use mathlib.Core.Path.{_≡_}
 use mathlib.Core.List.{List}
-use borrow.Author.Tests.{ltb-false}
-use lib.Dec.{eqb, ltb}
+use lib.Dec.{eqb}
 use lib.ListN.{length, length-map}
 use Rattle.meaning.specs.Limits.{mostNamed, histogramCounts}
 use Rattle.meaning.specs.Rows.{countBelow}
 use Rattle.meaning.specs.Refusal.{answer}
-use Rattle.meaning.specs.Index.{rowCount, rowsAt}
+use Rattle.meaning.specs.Index.{formatOf, rowCount, rowsAt}
 use Rattle.meaning.specs.Question.{complement, byTable, held, sumOf, histogramOf}
 use Rattle.meaning.specs.Answer.{write, check, badBitmap, askLogical, logical, askNot, notOf, badList, named, rightRows, badThreshold, askThreshold, threshold, badSymmetric, askSymmetric, symmetric, askHistogram, histogram}
-use Rattle.meaning.specs.Canonical.{canonical}
+use Rattle.meaning.specs.Format.{canonical}
+use Rattle.meaning.specs.declared.Format.{Format}
 use Rattle.meaning.specs.Laws.{Answers, AnswerLaws}
 use Rattle.meaning.proofs.Outcomes.{refuse-answer, then-answer, fits-answer}
-use Rattle.meaning.proofs.CanonicalBody.{canonical-body, canonical-form}
+use Rattle.meaning.proofs.Formats.{canonical-body, canonical-form}
 use Rattle.meaning.proofs.Demanded.{good-list}
 use Rattle.meaning.proofs.Counted.{histogram-adds}
 use Rattle.meaning.proofs.RowWords.{length-tabulate}
 
-written : (R : ℕ) (p : ℕ → Bool) (room : ℕ) (b : List ℕ) → write R p room ≡ answer b → Answers R p b
+pub written : (F : Format) (R : ℕ) (p : ℕ → Bool) (room : ℕ) (b : List ℕ) → write F R p room ≡ answer b → Answers F R p b
 unfolding write
-written R p room b e =
-    let is = fits-answer room (canonical R p) b e in
-    let right = canonical-body R p in
-    rw is (record { right = right; form = canonical-form R p })
+written F R p room b e =
+    let is = fits-answer room (canonical F R p) b e in
+    let right = canonical-body F R p in
+    rw is (record { right = right; form = canonical-form F R p })
 
 of-pair : (index : List ℕ) (op : (ℕ → Bool) → (ℕ → Bool) → ℕ → Bool) (j k room : ℕ) (b : List ℕ) → logical index op j k room ≡ answer b
-    → Answers (rowCount index) (op (rowsAt index j) (rowsAt index k)) b
+    → Answers (formatOf index) (rowCount index) (op (rowsAt index j) (rowsAt index k)) b
 unfolding logical askLogical
 of-pair index op j k room b e =
-    written _ _ room b (refuse-answer (badBitmap index j || badBitmap index k) 8 0 0 _ b (then-answer (check index) _ b e .1) .1)
+    written _ _ _ room b (refuse-answer (badBitmap index j || badBitmap index k) 8 0 0 _ b (then-answer (check index) _ b e .1) .1)
 
-of-not : (index : List ℕ) (k room : ℕ) (b : List ℕ) → notOf index k room ≡ answer b → Answers (rowCount index) (complement (rowsAt index k)) b
+of-not : (index : List ℕ) (k room : ℕ) (b : List ℕ) → notOf index k room ≡ answer b → Answers (formatOf index) (rowCount index) (complement (rowsAt index k)) b
 unfolding notOf askNot
-of-not index k room b e = written _ _ room b (refuse-answer (badBitmap index k) 8 0 0 _ b (then-answer (check index) _ b e .1) .1)
+of-not index k room b e = written _ _ _ room b (refuse-answer (badBitmap index k) 8 0 0 _ b (then-answer (check index) _ b e .1) .1)
 
-of-threshold : (index list : List ℕ) (T room : ℕ) (b : List ℕ) → threshold index list T room ≡ answer b → Answers (rowCount index) (rightRows index list T) b
+of-threshold : (index list : List ℕ) (T room : ℕ) (b : List ℕ) → threshold index list T room ≡ answer b → Answers (formatOf index) (rowCount index) (rightRows index list T) b
 unfolding threshold askThreshold
 of-threshold index list T room b e =
-    written _ _ room b (refuse-answer (badThreshold index list T) 8 0 0 _ b (then-answer (check index) _ b e .1) .1)
+    written _ _ _ room b (refuse-answer (badThreshold index list T) 8 0 0 _ b (then-answer (check index) _ b e .1) .1)
 
-of-symmetric : (index list table : List ℕ) (room : ℕ) (b : List ℕ) → symmetric index list table room ≡ answer b → Answers (rowCount index) (byTable table (named index list)) b
+of-symmetric : (index list table : List ℕ) (room : ℕ) (b : List ℕ) → symmetric index list table room ≡ answer b → Answers (formatOf index) (rowCount index) (byTable table (named index list)) b
 unfolding symmetric askSymmetric
 of-symmetric index list table room b e =
-    written _ _ room b (refuse-answer (badSymmetric index list table) 8 0 0 _ b (then-answer (check index) _ b e .1) .1)
+    written _ _ _ room b (refuse-answer (badSymmetric index list table) 8 0 0 _ b (then-answer (check index) _ b e .1) .1)
 
 few-named : (index list : List ℕ) → badList index list ≡ false → length (named index list) ≤ mostNamed
 unfolding named

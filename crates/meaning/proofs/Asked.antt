@@ -1,6 +1,7 @@
 -- Questions on one sound body, answered from the set bits of its segments.
 -- Assumes nothing.
 use Prim.Native.Nat.{ℕ, _+_, _-_, _*_, _≤_, _<_}
+use mathlib.Core.Bool.{Bool}
 use mathlib.Core.Path.{_≡_, sym, ap, _∙_, subst}
 use mathlib.Core.List.{List, _++_, append-assoc}
 use lib.Dec.{lit<}
@@ -11,14 +12,17 @@ use borrow.Author.Tests.{le-leb, lt-leb}
 use Rattle.meaning.specs.Rows.{countBelow}
 use Rattle.meaning.specs.Segment.{hasRow, ones, fill, segmentCount}
 use Rattle.meaning.specs.Refusal.{refused, answer, refuseIf}
-use Rattle.meaning.specs.Ewah.{segments, rowsOf}
+use Rattle.meaning.specs.Ewah.{segments}
+use Rattle.meaning.specs.Format.{width, segmentsOf, rowsOf}
+use Rattle.meaning.specs.declared.Format.{Format}
 use Rattle.meaning.specs.Answer.{askNth}
 use Rattle.meaning.specs.Demands.{IsNth}
 use Rattle.meaning.proofs.Counted.{nth-eq, nth-below}
 use Rattle.meaning.proofs.Counting.{ones-append, count-rows, nth-row, nth-over, nth-left, nth-right}
+use Rattle.meaning.proofs.Formats.{width-pos}
 use Rattle.meaning.proofs.Walk.{Step}
 
--- ---- the set bits of the segments behind a walk
+-- ---- the set bits of the segments behind a walk from marker to marker of an EWAH body
 
 pub ones-step : (b : List ℕ) (i o v c d : ℕ) → Step b i o v c d
     → ones 32 (take (o + c + d) (segments b)) ≡ ones 32 (take o (segments b)) + ones 32 (replicate c (fill 32 v) ++ take d (drop (i + 1) b))
@@ -47,23 +51,38 @@ nth-step b i o v c d s k r a =
 
 -- ---- a body with as many segments as R rows have
 
-module _ (R : ℕ) (b : List ℕ) (count : length (segments b) ≡ segmentCount 32 R) where
-  -- the set bits are the set rows, and the pad bits that a run of ones sets
-  pub rows-count : ones 32 (segments b) ≡ countBelow R (rowsOf b) + countBelow (length (segments b) * 32 - R) (λ r. rowsOf b (R + r))
-  unfolding rowsOf
-  rows-count = count-rows 32 (lit< tt) R (segments b) count
+module _ (F : Format) (R : ℕ) (b : List ℕ) (count : length (segmentsOf F b) ≡ segmentCount (width F) R) where
+  abbrev w : ℕ
+  w = width F
 
-  pub nth-found : (n r : ℕ) → IsNth (length (segments b) * 32) (hasRow 32 (segments b)) n r → r < R → askNth R (rowsOf b) n ≡ answer r
+  -- its segments, and their set bits as rows
+  abbrev segs : List ℕ
+  segs = segmentsOf F b
+
+  abbrev has : ℕ → Bool
+  has = hasRow w segs
+
+  -- the set bits are the set rows, and the pad bits that a run of ones sets
+  pub rows-count : ones (width F) (segmentsOf F b)
+      ≡ countBelow R (rowsOf F b) + countBelow (length (segmentsOf F b) * width F - R) (λ r. rowsOf F b (R + r))
+  unfolding rowsOf
+  rows-count = count-rows w (width-pos F) R segs count
+
+  -- a set bit that is a row
+  pub nth-found : (n r : ℕ) → IsNth (length (segmentsOf F b) * width F) (hasRow (width F) (segmentsOf F b)) n r → r < R
+      → askNth R (rowsOf F b) n ≡ answer r
   unfolding rowsOf askNth refuseIf
   nth-found n r a h =
-      let i : IsNth R (hasRow 32 (segments b)) n r = nth-row 32 (lit< tt) R (segments b) n r a h in
-      rw (lt-leb (countBelow R (hasRow 32 (segments b))) n (nth-below R (hasRow 32 (segments b)) n r i), nth-eq R (hasRow 32 (segments b)) n r i)
+      let i : IsNth R has n r = nth-row w (width-pos F) R segs n r a h in
+      rw (lt-leb (countBelow R has) n (nth-below R has n r i), nth-eq R has n r i)
 
   -- a set bit past the last row
-  pub nth-pad : (n r : ℕ) → IsNth (length (segments b) * 32) (hasRow 32 (segments b)) n r → R ≤ r → askNth R (rowsOf b) n ≡ refused 8 0 0
+  pub nth-pad : (n r : ℕ) → IsNth (length (segmentsOf F b) * width F) (hasRow (width F) (segmentsOf F b)) n r → R ≤ r
+      → askNth R (rowsOf F b) n ≡ refused 8 0 0
   unfolding rowsOf askNth refuseIf
-  nth-pad n r a h = rw (le-leb (countBelow R (hasRow 32 (segments b))) n (nth-over 32 (lit< tt) R (segments b) n r a h))
+  nth-pad n r a h = rw (le-leb (countBelow R has) n (nth-over w (width-pos F) R segs n r a h))
 
-  pub nth-past : (n : ℕ) → ones 32 (segments b) ≤ n → askNth R (rowsOf b) n ≡ refused 8 0 0
+  -- no such set bit
+  pub nth-past : (n : ℕ) → ones (width F) (segmentsOf F b) ≤ n → askNth R (rowsOf F b) n ≡ refused 8 0 0
   unfolding askNth refuseIf
-  nth-past n h = rw (le-leb (countBelow R (rowsOf b)) n (omega (arith, rows-count)))
+  nth-past n h = rw (le-leb (countBelow R (rowsOf F b)) n (omega (arith, rows-count)))

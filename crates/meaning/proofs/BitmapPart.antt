@@ -5,8 +5,8 @@ use mathlib.Core.Path.{_≡_, sym, ap}
 use mathlib.Core.List.{List, []}
 use borrow.Author.Tests.{leb-false}
 use Rattle.meaning.specs.Refusal.{refused, answer, sound, refuseIf, _then_}
-use Rattle.meaning.specs.Ewah.{rowsOf}
-use Rattle.meaning.specs.Index.{bitmapCount, bodyAt, rowsAt, indexFault}
+use Rattle.meaning.specs.Format.{rowsOf}
+use Rattle.meaning.specs.Index.{formatOf, bitmapCount, bodyAt, rowsAt, indexFault}
 use Rattle.meaning.specs.Answer.{check, badBitmap, bitmapRefusal, bitmap, partOf}
 use Rattle.meaning.specs.Laws.{Known, PartLaws}
 use Rattle.meaning.proofs.Outcomes.{refuse-answer, then-answer, then-sound}
@@ -29,7 +29,7 @@ known index k e =
       below = below;
       part = part;
       is-sound = rw part (f .bodies k below);
-      rows = λ r. ap (λ (b : List ℕ). rowsOf b r) (sym part);
+      rows = λ r. ap (λ (b : List ℕ). rowsOf (formatOf index) b r) (sym part);
     }
 
 none : (index : List ℕ) (k number place word : ℕ) → bitmapRefusal index k ≡ refused number place word → partOf (bitmap index k) ≡ []

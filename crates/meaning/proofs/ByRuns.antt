@@ -13,7 +13,7 @@ use borrow.Author.Tests.{ltb-true, ltb-false, eqb-true, eq-eqb, ne-eqb}
 use Rattle.meaning.specs.Limits.{mostClean, mostDirty}
 use Rattle.meaning.specs.Segment.{Segment, clean, mixed}
 use Rattle.meaning.specs.Ewah.{marker}
-use Rattle.meaning.specs.Canonical.{draft, body, opened, put, canonicalOf}
+use Rattle.meaning.specs.Canonical.{draft, body, opened, put, ewahOf}
 use Rattle.meaning.specs.Paragraph.{Group, group, before, groups, withDirty, groupWords, groupsWords}
 use Rattle.meaning.proofs.Segments.{both, fits-clean}
 
@@ -201,8 +201,8 @@ from-draft done v c ds (mixed x ∷ ss) h k =
         ∙ rw (open-mixed x gs, f .2, append-assoc)
         (ap (λ (l : List ℕ). done ++ l) (sym (new-mixed v c ds x (f .0) (f .1) h (omega (arith, ltb-false)))))
 
-pub by-runs : (ss : List Segment) → canonicalOf ss ≡ groupsWords (groups ss)
-unfolding canonicalOf body put opened groups groupsWords
+pub by-runs : (ss : List Segment) → ewahOf ss ≡ groupsWords (groups ss)
+unfolding ewahOf body put opened groups groupsWords
 by-runs [] = refl
 by-runs (clean b ∷ ss) = from-draft [] b 1 [] ss (omega arith) (omega arith) ∙ rw (open-clean b (groups ss))
 by-runs (mixed x ∷ ss) = from-draft [] 0 0 (x ∷ []) ss (omega arith) (omega arith) ∙ rw (open-mixed x (groups ss))

@@ -10,14 +10,15 @@ use lib.Pow.{pow-mono}
 use native.Mathlib.Nat.{div-one}
 use native.Mathlib.Decide.{decLe}
 use native.Mathlib.Omega.{arith}
-use borrow.Author.Tests.{ltb-false, le-ltb, lt-leb, le-leb, leb-false, not-false}
+use borrow.Author.Tests.{ltb-false, le-ltb, le-leb, leb-false, not-false}
 use Rattle.meaning.specs.Limits.{mostRows, leastColumn, mostColumn, mostValueColumn}
 use Rattle.meaning.specs.Segment.{tabulate, isSet}
 use Rattle.meaning.specs.Refusal.{Outcome, refused, answer, sound, refuseIf, _then_}
-use Rattle.meaning.specs.Canonical.{Canonical}
-use Rattle.meaning.specs.Index.{rowCount, bitmapCount, rowsAt, SoundIndex, indexFault}
+use Rattle.meaning.specs.Format.{Canonical}
+use Rattle.meaning.specs.declared.Format.{Format}
+use Rattle.meaning.specs.Index.{formatOf, rowCount, bitmapCount, rowsAt, SoundIndex, indexFault}
 use Rattle.meaning.specs.Question.{intersection}
-use Rattle.meaning.specs.Answer.{check, badBitmap, anyBad, named}
+use Rattle.meaning.specs.Answer.{check, anyBad, named}
 use Rattle.meaning.specs.NewIndex.{indexOf, writeIndex}
 use Rattle.meaning.specs.Column.{valueOf, slice, slicesFrom, columnOf, sumValue}
 use Rattle.meaning.specs.Columns.{sliceCount, wider, existing, slicesOf, valueAt, badColumn, badRow, strays, askValue, value, pairColumn, askPair, askSum, sum}
@@ -26,7 +27,7 @@ use Rattle.meaning.proofs.Tests.{or-false, or-true}
 use Rattle.meaning.proofs.Outcomes.{refuse-no, refuse-yes, refuse-answer, then-sound, then-refused, then-answer, fits-yes, fits-no, fits-answer}
 use Rattle.meaning.proofs.RowWords.{length-tabulate, getD-tabulate}
 use Rattle.meaning.proofs.IndexSound.{index-means}
-use Rattle.meaning.proofs.CanonicalBody.{canonical-form}
+use Rattle.meaning.proofs.Formats.{canonical-form}
 use Rattle.meaning.proofs.Demanded.{all-good}
 use Rattle.meaning.proofs.NewIndexes.{new-index-holds}
 use Rattle.meaning.proofs.StraysFound.{stray-laws}
@@ -143,7 +144,7 @@ module _ (index first second : List ℕ) (room : ℕ) where
   noSecond = badColumn index mostColumn second
 
   abbrev written : Outcome (List ℕ)
-  written = writeIndex (rowCount index) (pairColumn index sumValue (suc (wider first second)) first second) room
+  written = writeIndex (formatOf index) (rowCount index) (pairColumn index sumValue (suc (wider first second)) first second) room
 
   asks-both : GoodPair index first second
       → sum index first second room ≡ (strays index first then strays index second then written)
@@ -185,12 +186,12 @@ and-not : (a b : Bool) → a && b ≡ true → a ≡ false → ⊥
 and-not true b e f = true≢false f
 and-not false b e f = true≢false (sym e)
 
-module _ (R : ℕ) (exists : ℕ → Bool) (v : ℕ → ℕ) (n : ℕ) (few : R ≤ mostRows) (some : 1 ≤ n) (most : n ≤ mostSumSlices) where
+module _ (F : Format) (R : ℕ) (exists : ℕ → Bool) (v : ℕ → ℕ) (n : ℕ) (few : R ≤ mostRows) (some : 1 ≤ n) (most : n ≤ mostSumSlices) where
   abbrev ps : List (ℕ → Bool)
   ps = columnOf exists v n
 
   abbrev out : List ℕ
-  out = indexOf R ps
+  out = indexOf F R ps
 
   -- its slices' numbers
   abbrev ks : List ℕ
@@ -200,8 +201,8 @@ module _ (R : ℕ) (exists : ℕ → Bool) (v : ℕ → ℕ) (n : ℕ) (few : R 
   unfolding columnOf
   ps-length = ap suc (slices-length exists v 0 n)
 
-  new : NewIndex R ps out
-  new = new-index-holds R ps few (omega (arith, ps-length))
+  new : NewIndex F R ps out
+  new = new-index-holds F R ps few (omega (arith, ps-length))
 
   out-exists : (r : ℕ) → r < R → rowsAt out 0 r ≡ exists r
   unfolding columnOf
@@ -323,25 +324,27 @@ module _ (index first second : List ℕ) where
   abbrev width : ℕ
   width = suc (wider first second)
 
-  sum-is : sumIndex index first second ≡ indexOf (rowCount index) (columnOf both total width)
+  sum-is : sumIndex index first second ≡ indexOf (formatOf index) (rowCount index) (columnOf both total width)
   unfolding pairColumn sumValue
   sum-is = refl
 
   is-column : (few : rowCount index ≤ mostRows) (most : width ≤ mostSumSlices)
-      → ColumnOf index first second width total (indexOf (rowCount index) (columnOf both total width))
+      → ColumnOf index first second width total (indexOf (formatOf index) (rowCount index) (columnOf both total width))
   unfolding intersection
   is-column few most =
+      let F = formatOf index in
       let R = rowCount index in
-      let new = new R both total width few (omega arith) most in
+      let new = new F R both total width few (omega arith) most in
       record {
         is-sound = new .is-sound;
+        format = new .format;
         rows = new .rows;
-        count = new .count ∙ ps-length R both total width few (omega arith) most;
-        forms = λ k h. subst (λ (b : List ℕ). Canonical R b) (sym (new .bodies k (omega (arith, ps-length R both total width few (omega arith) most)))) (canonical-form R _);
-        exists = out-exists R both total width few (omega arith) most;
-        slices = out-slices R both total width few (omega arith) most;
-        no-strays = out-strays R both total width few (omega arith) most;
-        values = out-values R both total width few (omega arith) most (sum-below index first second);
+        count = new .count ∙ ps-length F R both total width few (omega arith) most;
+        forms = λ k h. subst (λ (b : List ℕ). Canonical F R b) (sym (new .bodies k (omega (arith, ps-length F R both total width few (omega arith) most)))) (canonical-form F R _);
+        exists = out-exists F R both total width few (omega arith) most;
+        slices = out-slices F R both total width few (omega arith) most;
+        no-strays = out-strays F R both total width few (omega arith) most;
+        values = out-values F R both total width few (omega arith) most (sum-below index first second);
       }
 
 pub sum-laws : SumLaws

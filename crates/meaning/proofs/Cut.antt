@@ -22,7 +22,7 @@ low-bit x j d =
     let m : x / 2 ^ j % 2 ^ suc d % 2 ≡ x / 2 ^ j % 2 = rw e at (mod-mod-pow (x / 2 ^ j) d 1) in
     rw (field x (suc d) j) m
 
-bit-below : (x j k : ℕ) → j < k → x % 2 ^ k / 2 ^ j % 2 ≡ x / 2 ^ j % 2
+pub bit-below : (x j k : ℕ) → j < k → x % 2 ^ k / 2 ^ j % 2 ≡ x / 2 ^ j % 2
 bit-below x j k h = let e : suc (k - suc j) + j ≡ k = omega arith in rw e at (low-bit x j (k - suc j))
 
 -- the last of some segments, which lie before others, cut in place

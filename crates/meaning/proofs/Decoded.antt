@@ -1,19 +1,23 @@
--- What a body decodes to, and that it is sound exactly if it is whole, has as many segments as its rows, and its last dirty word sets no pad bit.
+-- What an EWAH body decodes to, and that it is sound exactly if it is whole, has as many segments as its rows, and its last
+-- dirty word sets no pad bit.
 -- Assumes nothing.
-use Prim.Native.Nat.{ℕ, zero, suc, _+_, _-_, _≤_, _<_}
-use mathlib.Core.Bool.{Bool, true, false, _&&_, false≢true}
+use Prim.Native.Nat.{ℕ, zero, suc, _+_, _-_, _%_, _≤_, _<_}
+use mathlib.Core.Bool.{Bool, true, false, false≢true}
 use mathlib.Core.Path.{_≡_, refl, sym, ap, _∙_}
 use mathlib.Core.List.{List, [], _∷_, _++_, append-assoc}
-use lib.Dec.{eqb, leb, ltb}
-use lib.ListN.{length, replicate, length-append, length-replicate}
-use lib.Pow.{pow-pos}
+use lib.Dec.{ltb}
+use lib.ListN.{length, replicate}
 use mathlib.Core.Logic.{_↔_}
 use native.Mathlib.Omega.{arith}
-use borrow.Author.Tests.{ltb-false, leb-false, le-ltb, lt-leb, eq-eqb, ne-eqb}
+use borrow.Author.Tests.{ltb-false, le-ltb}
 use Rattle.meaning.specs.Limits.{mostClean, mostDirty}
-use Rattle.meaning.specs.Segment.{fill, lastLimit, lastRows, segmentCount, overPad}
+use Rattle.meaning.specs.Segment.{fill, lastLimit, segmentCount, overPad}
 use Rattle.meaning.specs.Refusal.{Verdict, sound, refuseIf}
-use Rattle.meaning.specs.Ewah.{Piece, dirtyWord, pieces, runThen, lastDirty, decode, valueOf, cleanOf, dirtyOf, marker, dueAfter, faultFrom, bodyFault, Sound}
+use Rattle.meaning.specs.Piece.{Piece, dirtyWord, runThen, pieceSize, dirtyIn, lastDirty, flat}
+use Rattle.meaning.specs.Ewah.{pieces, decode, segments, valueOf, cleanOf, dirtyOf, marker, dueAfter, faultFrom, ewahFault}
+use Rattle.meaning.specs.Demands.{Words}
+use Rattle.meaning.specs.Ahead.{NoneEmpty}
+use Rattle.meaning.proofs.Pieces.{flat-run, run-length, some-run, some-none, last-rest, limit-pos, pad-clear, pad-last, LowPieces, low-run, flat-below}
 
 pub decode-append : (due : ℕ) (a b : List ℕ) → decode due (a ++ b) ≡ decode due a ++ decode (dueAfter due a) b
 unfolding decode dueAfter
@@ -36,22 +40,6 @@ pub due-dirty : (ds : List ℕ) → dueAfter (length ds) ds ≡ 0
 unfolding dueAfter
 due-dirty [] = refl
 due-dirty (d ∷ ds) = due-dirty ds
-
--- no marker has both counts zero
-abbrev pub Busy : ℕ → List ℕ → Type 0
-Busy due [] = Unit {0}
-Busy zero (m ∷ ws) = (0 < cleanOf m + dirtyOf m) × Busy (dirtyOf m) ws
-Busy (suc due) (w ∷ ws) = Busy due ws
-
-pub busy-append : (due : ℕ) (a b : List ℕ) → Busy due a → Busy (dueAfter due a) b → Busy due (a ++ b)
-unfolding dueAfter
-busy-append due [] b h k = k
-busy-append zero (m ∷ ws) b h k = (h .0, busy-append (dirtyOf m) ws b (h .1) k)
-busy-append (suc due) (w ∷ ws) b h k = busy-append due ws b h k
-
-pub busy-dirty : (ds : List ℕ) → Busy (length ds) ds
-busy-dirty [] = tt
-busy-dirty (d ∷ ds) = busy-dirty ds
 
 -- ---- a marker's fields come back
 
@@ -88,14 +76,25 @@ decode-length due [] h = omega arith
 decode-length zero (m ∷ ws) h = omega arith
 decode-length (suc due) (w ∷ ws) h = omega (arith, decode-length due ws (omega arith))
 
-pub and-false : (a : Bool) → a && false ≡ false
-and-false true = refl
-and-false false = refl
+-- ---- pieces
 
--- ---- the last piece
+pub flat-pieces : (due : ℕ) (b : List ℕ) → flat 32 (pieces due b) ≡ decode due b
+unfolding pieces decode flat
+flat-pieces due [] = refl
+flat-pieces zero (m ∷ ws) =
+    flat-run 32 (valueOf m) (cleanOf m) (pieces (dirtyOf m) ws)
+    ∙ ap (λ (l : List ℕ). replicate (cleanOf m) (fill 32 (valueOf m)) ++ l) (flat-pieces (dirtyOf m) ws)
+flat-pieces (suc due) (w ∷ ws) = ap (λ (l : List ℕ). w ∷ l) (flat-pieces due ws)
 
-pub run-length : (c x : ℕ) (ys : List ℕ) → length (replicate c x ++ ys) ≡ c + length ys
-run-length c x ys = rw (length-append (replicate c x) ys, length-replicate c x)
+pub pieces-some : (due : ℕ) (b : List ℕ) → NoneEmpty (pieces due b)
+unfolding pieces pieceSize
+pieces-some due [] = tt
+pieces-some zero (m ∷ ws) = some-run (valueOf m) (cleanOf m) (pieces (dirtyOf m) ws) (pieces-some (dirtyOf m) ws)
+pieces-some (suc due) (w ∷ ws) = (omega arith, pieces-some due ws)
+
+-- a body of no segments has no pieces
+pub pieces-none : (due : ℕ) (ws : List ℕ) → length (decode due ws) ≡ 0 → pieces due ws ≡ []
+pieces-none due ws e = some-none 32 (pieces due ws) (pieces-some due ws) (ap length (flat-pieces due ws) ∙ e)
 
 pub last-run : (v c : ℕ) (ps : List Piece) → lastDirty (runThen v c ps) ≡ lastDirty ps
 unfolding lastDirty runThen
@@ -103,61 +102,40 @@ last-run v zero ps = refl
 last-run v (suc c) [] = refl
 last-run v (suc c) (q ∷ ps) = refl
 
-run-none : (v c : ℕ) (ps : List Piece) → runThen v c ps ≡ [] → (c ≡ 0) × (ps ≡ [])
-unfolding runThen
-run-none v zero ps e = (refl, e)
-run-none v (suc c) ps e = let z : _≡_ {A = ℕ} (suc (length ps)) 0 = ap length e in absurd (omega arith)
-
--- a body has no pieces exactly if it has no segments
-pub pieces-none : (due : ℕ) (ws : List ℕ) → length (decode due ws) ≡ 0 → pieces due ws ≡ []
-unfolding decode pieces runThen
-pieces-none due [] e = refl
-pieces-none zero (m ∷ ws) e =
-    let n = run-length (cleanOf m) (fill 32 (valueOf m)) (decode (dirtyOf m) ws) in
-    let z : cleanOf m ≡ 0 = omega arith in
-    rw z (pieces-none (dirtyOf m) ws (omega arith))
-pieces-none (suc due) (w ∷ ws) e = absurd (omega arith)
-
-none-pieces : (due : ℕ) (ws : List ℕ) → pieces due ws ≡ [] → length (decode due ws) ≡ 0
-unfolding decode pieces
-none-pieces due [] e = refl
-none-pieces zero (m ∷ ws) e =
-    let p = run-none (valueOf m) (cleanOf m) (pieces (dirtyOf m) ws) e in
-    omega (arith, run-length (cleanOf m) (fill 32 (valueOf m)) (decode (dirtyOf m) ws), none-pieces (dirtyOf m) ws (p .1))
-none-pieces (suc due) (w ∷ ws) e = let z : _≡_ {A = ℕ} (suc (length (pieces due ws))) 0 = ap length e in absurd (omega arith)
-
 -- behind a dirty word the last one is as low
 pub last-behind : (lim w : ℕ) (ps : List Piece) → 0 < lim → lastDirty (dirtyWord w ∷ ps) < lim → lastDirty ps < lim
-unfolding lastDirty
-last-behind lim w [] pos h = pos
-last-behind lim w (q ∷ ps) pos h = h
+last-behind lim w ps pos h = last-rest lim (dirtyWord w) ps pos h
 
 -- the test for pad bits of a dirty word, and the last piece
 module _ (R left w due : ℕ) (ws : List ℕ) (count : suc (length (decode due ws)) ≡ left) where
-  word-clear : lastDirty (dirtyWord w ∷ pieces due ws) < lastLimit 32 R → overPad 32 R left 1 w ≡ false
-  unfolding overPad lastDirty
-  word-clear h = go (pieces due ws) refl h
-    where
-      go : (ps : List Piece) → pieces due ws ≡ ps → lastDirty (dirtyWord w ∷ ps) < lastLimit 32 R → ltb 0 1 && eqb 1 left && leb (lastLimit 32 R) w ≡ false
-      go [] p h = rw (lt-leb (lastLimit 32 R) w h, and-false)
-      go (q ∷ ps) p h = rw (ne-eqb 1 left (λ z. more q ps p (omega arith)), and-false (ltb 0 1))
-        where
-          more : (q : Piece) (ps : List Piece) → pieces due ws ≡ q ∷ ps → length (decode due ws) ≡ 0 → ⊥
-          more q ps p e = let z : _≡_ {A = ℕ} (suc (length ps)) 0 = ap length (sym p ∙ pieces-none due ws e) in absurd (omega arith)
+  spelt : pieceSize (dirtyWord w) + length (flat 32 (pieces due ws)) ≡ left
+  unfolding pieceSize
+  spelt = omega (arith, ap length (flat-pieces due ws))
 
-  word-last : overPad 32 R left 1 w ≡ false → lastDirty (pieces due ws) < lastLimit 32 R → lastDirty (dirtyWord w ∷ pieces due ws) < lastLimit 32 R
-  unfolding overPad lastDirty
-  word-last t h = go (pieces due ws) refl h
-    where
-      go : (ps : List Piece) → pieces due ws ≡ ps → lastDirty ps < lastLimit 32 R → lastDirty (dirtyWord w ∷ ps) < lastLimit 32 R
-      go [] p h =
-          let q : leb (lastLimit 32 R) w ≡ false = rw (eq-eqb 1 left (omega (arith, none-pieces due ws p))) at t in
-          leb-false (lastLimit 32 R) w q
-      go (q ∷ ps) p h = h
+  word-clear : lastDirty (dirtyWord w ∷ pieces due ws) < lastLimit 32 R → overPad 32 R left 1 w ≡ false
+  unfolding dirtyIn pieceSize
+  word-clear h = pad-clear 32 R left (dirtyWord w) (pieces due ws) (omega arith, pieces-some due ws) spelt h
+
+  word-last : overPad 32 R left 1 w ≡ false → lastDirty (pieces due ws) < lastLimit 32 R
+      → lastDirty (dirtyWord w ∷ pieces due ws) < lastLimit 32 R
+  unfolding dirtyIn
+  word-last t h = pad-last 32 R left (dirtyWord w) (pieces due ws) spelt t h
+
+-- ---- segments of 32 bits
+
+pieces-low : (due : ℕ) (b : List ℕ) → Words b → LowPieces 32 (pieces due b)
+unfolding pieces valueOf
+pieces-low due [] h = tt
+pieces-low zero (m ∷ ws) h =
+    low-run 32 (m % 2) (cleanOf m) (pieces (dirtyOf m) ws) (omega arith) (pieces-low (dirtyOf m) ws (λ i. h (suc i)))
+pieces-low (suc due) (w ∷ ws) h = (h 0, pieces-low due ws (λ i. h (suc i)))
+
+pub decoded-words : (b : List ℕ) → Words b → Words (segments b)
+decoded-words b h = rw (← flat-pieces 0 b) (flat-below 32 (pieces 0 b) (pieces-low 0 b h))
 
 -- ---- both ways
 
-not-refused : (t : Bool) (n b w : ℕ) (r : Verdict) → refuseIf t n b w r ≡ sound → (t ≡ false) × (r ≡ sound)
+pub not-refused : (t : Bool) (n b w : ℕ) (r : Verdict) → refuseIf t n b w r ≡ sound → (t ≡ false) × (r ≡ sound)
 unfolding refuseIf
 not-refused true n b w r e = let z : _≡_ {A = ℕ} 0 1 = cc in absurd (omega arith)
 not-refused false n b w r e = (refl, e)
@@ -172,7 +150,7 @@ module _ (bitmap rows : ℕ) where
   unfolding faultFrom dueAfter decode pieces
   sound-whole place due left [] h k e =
       let p = not-refused (ltb 0 left) 6 bitmap place sound e in
-      record { ended = omega arith; count = omega (arith, ltb-false 0 left (p .0)); last = unfold lastDirty lastLimit in pow-pos (lastRows 32 rows) }
+      record { ended = omega arith; count = omega (arith, ltb-false 0 left (p .0)); last = unfold lastDirty in limit-pos 32 rows }
   sound-whole place zero left (m ∷ ws) h k e =
       let rest : Verdict = faultFrom bitmap rows (suc place) (dirtyOf m) (left - cleanOf m) ws in
       let t6 : Bool = ltb left (cleanOf m + dirtyOf m) in
@@ -201,10 +179,10 @@ module _ (bitmap rows : ℕ) where
   whole-sound place (suc due) left (w ∷ ws) f =
       let n : suc (length (decode due ws)) ≡ left = omega (arith, f .count) in
       let-through _ _ _ _ _ (word-clear rows left w due ws n (f .last))
-      (whole-sound (suc place) due (left - 1) ws (record { ended = f .ended; count = omega (arith, f .count); last = last-behind (lastLimit 32 rows) w (pieces due ws) (unfold lastLimit in pow-pos (lastRows 32 rows)) (f .last) }))
+      (whole-sound (suc place) due (left - 1) ws (record { ended = f .ended; count = omega (arith, f .count); last = last-behind (lastLimit 32 rows) w (pieces due ws) (limit-pos 32 rows) (f .last) }))
 
 -- A body is sound exactly if its last marker has all its dirty words, it decodes to as many segments as its rows have, and
 -- a dirty word at its end sets no pad bit
-pub sound-iff : (rows : ℕ) (b : List ℕ) → Sound rows b ↔ Whole (lastLimit 32 rows) 0 (segmentCount 32 rows) b
-unfolding bodyFault
+pub sound-iff : (rows : ℕ) (b : List ℕ) → (ewahFault 0 0 rows b ≡ sound) ↔ Whole (lastLimit 32 rows) 0 (segmentCount 32 rows) b
+unfolding ewahFault
 sound-iff rows b = (sound-whole 0 rows 0 0 (segmentCount 32 rows) b (omega arith) (omega arith), whole-sound 0 rows 0 0 (segmentCount 32 rows) b)

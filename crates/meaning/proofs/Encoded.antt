@@ -1,20 +1,23 @@
--- The canonical form decodes to the segments that it was made from.
+-- EWAH's canonical form is a sound body of 32-bit words that decodes to the segments that it was made from.
 -- Assumes nothing.
-use Prim.Native.Nat.{ℕ, zero, suc, _+_, _≤_, _<_}
+use Prim.Native.Nat.{ℕ, zero, suc, _+_, _^_, _≤_, _<_}
 use mathlib.Core.Bool.{Bool, true, false, cond, _&&_}
 use mathlib.Core.Path.{_≡_, refl, sym, ap, _∙_}
 use mathlib.Core.List.{List, [], _∷_, _++_, append-assoc, append-nil, map, foldl}
 use lib.Dec.{eqb, ltb}
 use lib.ListN.{length, replicate, length-append, length-map}
-use lib.Pow.{pow-pos}
 use native.Mathlib.Omega.{arith}
 use borrow.Author.Tests.{ltb-true}
 use Rattle.meaning.specs.Limits.{mostClean, mostDirty}
-use Rattle.meaning.specs.Segment.{Segment, clean, mixed, kind, kinds, fill, allSet, segmentCount, lastRows, lastLimit, lastOf}
-use Rattle.meaning.specs.Ewah.{Piece, cleanRun, dirtyWord, runThen, pieces, lastDirty, decode, segments, marker, Sound, dueAfter, valueOf, cleanOf, dirtyOf}
-use Rattle.meaning.specs.Canonical.{Draft, blank, draft, body, opened, put, canonicalOf}
+use Rattle.meaning.specs.Segment.{Segment, clean, mixed, kind, kinds, fill, segmentCount, lastRows, lastLimit, lastOf}
+use Rattle.meaning.specs.Refusal.{sound}
+use Rattle.meaning.specs.Piece.{Piece, cleanRun, dirtyWord, runThen, lastDirty}
+use Rattle.meaning.specs.Ewah.{pieces, decode, segments, marker, ewahFault, dueAfter, valueOf, cleanOf, dirtyOf}
+use Rattle.meaning.specs.Canonical.{Draft, blank, draft, body, opened, put, ewahOf}
+use Rattle.meaning.specs.Demands.{Words}
 use Rattle.meaning.proofs.Segments.{fits-clean, word, encoded, kinds-length}
-use Rattle.meaning.proofs.Decoded.{Busy, busy-append, busy-dirty, sound-iff, decode-append, due-append, decode-dirty, due-dirty, value-marker, clean-marker, dirty-marker}
+use Rattle.meaning.proofs.Pieces.{replicate-suc, last-append, limit-pos, below-join, below-one, Ok, AllOk, kind-ok, kinds-ok, mixedWord, mixed-le}
+use Rattle.meaning.proofs.Decoded.{sound-iff, decode-append, due-append, decode-dirty, due-dirty, value-marker, clean-marker, dirty-marker}
 
 -- a draft as `put` makes it
 record Fit (done : List ℕ) (v c : ℕ) (ds : List ℕ) : Type 0 where
@@ -22,8 +25,9 @@ record Fit (done : List ℕ) (v c : ℕ) (ds : List ℕ) : Type 0 where
   hv : v < 2
   hc : c ≤ mostClean
   hd : length ds ≤ mostDirty
-  busy : Busy 0 done
   used : 0 < c + length ds
+  low : Words done
+  lows : Words ds
 
 module _ (done : List ℕ) (v c : ℕ) (ds : List ℕ) (f : Fit done v c ds) where
   decode-body : decode 0 (body (draft done v c ds)) ≡ decode 0 done ++ (replicate c (fill 32 v) ++ ds)
@@ -43,12 +47,16 @@ module _ (done : List ℕ) (v c : ℕ) (ds : List ℕ) (f : Fit done v c ds) whe
   due-body =
       rw (due-append 0 done (marker v c (length ds) ∷ ds), f .whole, dirty-marker v c (length ds) (f .hv) (f .hc) (f .hd)) (due-dirty ds)
 
-  busy-body : Busy 0 (body (draft done v c ds))
+  marker-lt : marker v c (length ds) < 2 ^ 32
+  unfolding marker
+  marker-lt = omega (arith, f .hv, f .hc, f .hd)
+
+  low-body : Words (body (draft done v c ds))
   unfolding body
-  busy-body =
-      let dm = dirty-marker v c (length ds) (f .hv) (f .hc) (f .hd) in
-      busy-append 0 done (marker v c (length ds) ∷ ds) (f .busy)
-      (rw (f .whole) (omega (arith, dm, clean-marker v c (length ds) (f .hv) (f .hc) (f .hd), f .used), rw dm (busy-dirty ds)))
+  low-body =
+      below-join (2 ^ 32) done (marker v c (length ds) ∷ ds) (f .low)
+      (below-join (2 ^ 32) (marker v c (length ds) ∷ []) ds
+      (below-one (2 ^ 32) (marker v c (length ds)) (omega arith) marker-lt) (f .lows))
 
 abbrev Good : Draft → Type 0
 Good blank = Unit {0}
@@ -59,33 +67,39 @@ unfolding body dueAfter
 good-due blank g = refl
 good-due (draft done v c ds) g = due-body done v c ds g
 
-abbrev Ok : Segment → Type 0
-Ok (clean v) = v < 2
-Ok (mixed x) = Unit {0}
-
-kind-ok : (real x : ℕ) → Ok (kind real x)
-unfolding kind
-kind-ok real x = go (eqb x 0) (eqb x (allSet real))
-  where
-    go : (s t : Bool) → Ok (cond s (clean 0) (cond t (clean 1) (mixed x)))
-    go true t = omega arith
-    go false true = omega arith
-    go false false = tt
+good-low : (d : Draft) → Good d → Words (body d)
+unfolding body
+good-low blank g = λ i. omega arith
+good-low (draft done v c ds) g = low-body done v c ds g
 
 -- the draft e is in order, and decodes to one segment more than the words b do
 abbrev Longer : List ℕ → Segment → Draft → Type 0
 Longer b s e = Good e × (decode 0 (body e) ≡ decode 0 b ++ word 32 s ∷ [])
 
-opened-longer : (b : List ℕ) (s : Segment) → dueAfter 0 b ≡ 0 → Busy 0 b → Ok s → Longer b s (opened b s)
+opened-longer : (b : List ℕ) (s : Segment) → dueAfter 0 b ≡ 0 → Words b → Ok 32 s → Longer b s (opened b s)
 unfolding opened word
-opened-longer b (clean v) h y k =
-    let f : Fit b v 1 [] = record { whole = h; hv = k; hc = omega arith; hd = omega arith; busy = y; used = omega arith } in (f, decode-body b v 1 [] f)
-opened-longer b (mixed x) h y k =
-    let f : Fit b 0 0 (x ∷ []) = record { whole = h; hv = omega arith; hc = omega arith; hd = omega arith; busy = y; used = omega arith } in (f, decode-body b 0 0 (x ∷ []) f)
-
-replicate-suc : (c x : ℕ) → replicate c x ++ x ∷ [] ≡ x ∷ replicate c x
-replicate-suc zero x = refl
-replicate-suc (suc c) x = ap (λ (l : List ℕ). x ∷ l) (replicate-suc c x)
+opened-longer b (clean v) h l k =
+    let f : Fit b v 1 [] = record {
+      whole = h;
+      hv = k;
+      hc = omega arith;
+      hd = omega arith;
+      used = omega arith;
+      low = l;
+      lows = λ i. omega arith;
+    } in
+    (f, decode-body b v 1 [] f)
+opened-longer b (mixed x) h l k =
+    let f : Fit b 0 0 (x ∷ []) = record {
+      whole = h;
+      hv = omega arith;
+      hc = omega arith;
+      hd = omega arith;
+      used = omega arith;
+      low = l;
+      lows = below-one (2 ^ 32) x (omega arith) k;
+    } in
+    (f, decode-body b 0 0 (x ∷ []) f)
 
 grown : (done : List ℕ) (v c : ℕ) (ds : List ℕ) → Fit done v (suc c) ds → Fit done v c ds → length ds ≡ 0
     → decode 0 (body (draft done v (suc c) ds)) ≡ decode 0 (body (draft done v c ds)) ++ fill 32 v ∷ []
@@ -93,43 +107,45 @@ grown done v c [] f g e =
     decode-body done v (suc c) [] f ∙ rw (decode-body done v c [] g, append-nil (replicate c (fill 32 v)), append-assoc, replicate-suc)
 grown done v c (d ∷ ds) f g e = absurd (omega arith)
 
-put-longer : (d : Draft) (s : Segment) → Good d → Ok s → Longer (body d) s (put d s)
+put-longer : (d : Draft) (s : Segment) → Good d → Ok 32 s → Longer (body d) s (put d s)
 unfolding put body word
-put-longer blank s g k = opened-longer [] s (unfold dueAfter in refl) tt k
+put-longer blank s g k = opened-longer [] s (unfold dueAfter in refl) (λ i. omega arith) k
 put-longer (draft done v c ds) (clean b) g k = go (eqb (length ds) 0 && eqb v b && ltb c mostClean) refl
   where
     old : List ℕ
     old = body (draft done v c ds)
 
     go : (t : Bool) → (eqb (length ds) 0 && eqb v b && ltb c mostClean) ≡ t → Longer old (clean b) (cond t (draft done v (suc c) ds) (opened old (clean b)))
-    go false e = opened-longer old (clean b) (due-body done v c ds g) (busy-body done v c ds g) k
+    go false e = opened-longer old (clean b) (due-body done v c ds g) (low-body done v c ds g) k
     go true e =
         let p = fits-clean (length ds) v b c e in
-        let f : Fit done v (suc c) ds = record { whole = g .whole; hv = g .hv; hc = p .2; hd = g .hd; busy = g .busy; used = omega arith } in
+        let f : Fit done v (suc c) ds = record { whole = g .whole; hv = g .hv; hc = p .2; hd = g .hd; used = omega arith; low = g .low; lows = g .lows } in
         (f, grown done v c ds f g (p .0) ∙ ap (λ (z : ℕ). decode 0 old ++ fill 32 z ∷ []) (p .1))
 put-longer (draft done v c ds) (mixed x) g k = go (ltb (length ds) mostDirty) refl
   where
     old : List ℕ
     old = body (draft done v c ds)
 
+    more : length (ds ++ x ∷ []) ≡ length ds + 1
+    more = length-append ds (x ∷ [])
+
     go : (t : Bool) → ltb (length ds) mostDirty ≡ t → Longer old (mixed x) (cond t (draft done v c (ds ++ x ∷ [])) (opened old (mixed x)))
-    go false e = opened-longer old (mixed x) (due-body done v c ds g) (busy-body done v c ds g) k
+    go false e = opened-longer old (mixed x) (due-body done v c ds g) (low-body done v c ds g) k
     go true e =
-        let f : Fit done v c (ds ++ x ∷ []) = record { whole = g .whole; hv = g .hv; hc = g .hc; hd = omega (arith, length-append ds (x ∷ []), ltb-true (length ds) mostDirty e); busy = g .busy; used = omega (arith, length-append ds (x ∷ [])) } in
+        let f : Fit done v c (ds ++ x ∷ []) = record {
+          whole = g .whole;
+          hv = g .hv;
+          hc = g .hc;
+          hd = omega (arith, more, ltb-true (length ds) mostDirty e);
+          used = omega (arith, more);
+          low = g .low;
+          lows = below-join (2 ^ 32) ds (x ∷ []) (g .lows) (below-one (2 ^ 32) x (omega arith) k);
+        } in
         (f, decode-body done v c (ds ++ x ∷ []) f ∙ rw (decode-body done v c ds g) (simp append-assoc))
 
 -- segment by segment
-abbrev AllOk : List Segment → Type 0
-AllOk [] = Unit {0}
-AllOk (s ∷ ss) = Ok s × AllOk ss
-
-kinds-ok : (w R : ℕ) (xs : List ℕ) → AllOk (kinds w R xs)
-unfolding kinds
-kinds-ok w R [] = tt
-kinds-ok w R (x ∷ []) = (kind-ok (lastRows w R) x, tt)
-kinds-ok w R (x ∷ y ∷ ys) = (kind-ok w x, kinds-ok w R (y ∷ ys))
-
-puts : (ss : List Segment) (d : Draft) → Good d → AllOk ss → Good (foldl put d ss) × (decode 0 (body (foldl put d ss)) ≡ decode 0 (body d) ++ map (word 32) ss)
+puts : (ss : List Segment) (d : Draft) → Good d → AllOk 32 ss
+    → Good (foldl put d ss) × (decode 0 (body (foldl put d ss)) ≡ decode 0 (body d) ++ map (word 32) ss)
 puts [] d g k = (g, sym (append-nil (decode 0 (body d))))
 puts (s ∷ ss) d g k =
     let p = put-longer d s g (k .0) in
@@ -149,27 +165,18 @@ pieces-append due [] b = refl
 pieces-append zero (m ∷ ws) b = rw (pieces-append (dirtyOf m) ws b) (run-append (valueOf m) (cleanOf m) (pieces (dirtyOf m) ws) (pieces (dueAfter (dirtyOf m) ws) b))
 pieces-append (suc due) (w ∷ ws) b = ap (λ (l : List Piece). dirtyWord w ∷ l) (pieces-append due ws b)
 
-last-append : (ps : List Piece) (q : Piece) (qs : List Piece) → lastDirty (ps ++ q ∷ qs) ≡ lastDirty (q ∷ qs)
-unfolding lastDirty
-last-append [] q qs = refl
-last-append (p ∷ []) q qs = refl
-last-append (p ∷ r ∷ ps) q qs = last-append (r ∷ ps) q qs
+words-last : (d : ℕ) (ds : List ℕ) → lastDirty (dirtyWord d ∷ pieces (length ds) ds) ≡ lastOf (d ∷ ds)
+unfolding pieces lastDirty lastOf
+words-last d [] = refl
+words-last d (e ∷ es) = words-last e es
 
 -- behind other pieces, the dirty words of a marker that has a segment
 last-words : (ps : List Piece) (v c : ℕ) (ds : List ℕ) → 0 < c + length ds → lastDirty (ps ++ runThen v c (pieces (length ds) ds)) ≡ lastOf ds
 unfolding runThen pieces lastDirty lastOf
 last-words ps v zero [] h = absurd (omega arith)
 last-words ps v (suc c) [] h = last-append ps (cleanRun v (suc c)) []
-last-words ps v zero (d ∷ ds) h = last-append ps (dirtyWord d) (pieces (length ds) ds) ∙ words d ds
-  where
-    words : (d : ℕ) (ds : List ℕ) → lastDirty (dirtyWord d ∷ pieces (length ds) ds) ≡ lastOf (d ∷ ds)
-    words d [] = refl
-    words d (e ∷ es) = words e es
-last-words ps v (suc c) (d ∷ ds) h = last-append ps (cleanRun v (suc c)) (dirtyWord d ∷ pieces (length ds) ds) ∙ words d ds
-  where
-    words : (d : ℕ) (ds : List ℕ) → lastDirty (dirtyWord d ∷ pieces (length ds) ds) ≡ lastOf (d ∷ ds)
-    words d [] = refl
-    words d (e ∷ es) = words e es
+last-words ps v zero (d ∷ ds) h = last-append ps (dirtyWord d) (pieces (length ds) ds) ∙ words-last d ds
+last-words ps v (suc c) (d ∷ ds) h = last-append ps (cleanRun v (suc c)) (dirtyWord d ∷ pieces (length ds) ds) ∙ words-last d ds
 
 draft-last : (done : List ℕ) (v c : ℕ) (ds : List ℕ) → Fit done v c ds → lastDirty (pieces 0 (body (draft done v c ds))) ≡ lastOf ds
 unfolding body pieces
@@ -182,11 +189,6 @@ draft-last done v c ds f =
       dirty-marker v c (length ds) (f .hv) (f .hc) (f .hd),
     )
     (last-words (pieces 0 done) v c ds (f .used))
-
--- the word of a mixed segment
-abbrev mixedWord : Segment → ℕ
-mixedWord (clean v) = 0
-mixedWord (mixed x) = x
 
 last-snoc : (ds : List ℕ) (x : ℕ) → lastOf (ds ++ x ∷ []) ≡ x
 unfolding lastOf
@@ -222,43 +224,44 @@ put-last (draft done v c ds) (mixed x) g = go (ltb (length ds) mostDirty) g
     go true g = draft-last done v c (ds ++ x ∷ []) g ∙ last-snoc ds x
     go false g = draft-last old 0 0 (x ∷ []) g ∙ (unfold lastOf in refl)
 
-mixed-le : (w real x : ℕ) → mixedWord (kind real x) ≤ x
-unfolding kind
-mixed-le w real x = go (eqb x 0) (eqb x (allSet real))
-  where
-    go : (s t : Bool) → mixedWord (cond s (clean 0) (cond t (clean 1) (mixed x))) ≤ x
-    go true t = omega arith
-    go false true = omega arith
-    go false false = omega arith
-
-last-low : (R x : ℕ) (xs : List ℕ) (d : Draft) → Good d → lastOf (x ∷ xs) < lastLimit 32 R → lastDirty (pieces 0 (body (foldl put d (kinds 32 R (x ∷ xs))))) < lastLimit 32 R
+last-low : (R x : ℕ) (xs : List ℕ) (d : Draft) → Good d → Words (x ∷ xs) → lastOf (x ∷ xs) < lastLimit 32 R
+    → lastDirty (pieces 0 (body (foldl put d (kinds 32 R (x ∷ xs))))) < lastLimit 32 R
 unfolding kinds lastOf
-last-low R x [] d g h =
-    let p = put-longer d (kind (lastRows 32 R) x) g (kind-ok (lastRows 32 R) x) in
-    omega (arith, put-last d (kind (lastRows 32 R) x) (p .0), mixed-le 32 (lastRows 32 R) x)
-last-low R x (y ∷ ys) d g h = last-low R y ys (put d (kind 32 x)) (put-longer d (kind 32 x) g (kind-ok 32 x) .0) h
+last-low R x [] d g low h =
+    let p = put-longer d (kind (lastRows 32 R) x) g (kind-ok 32 (lastRows 32 R) x (low 0)) in
+    omega (arith, put-last d (kind (lastRows 32 R) x) (p .0), mixed-le (lastRows 32 R) x)
+last-low R x (y ∷ ys) d g low h =
+    last-low R y ys (put d (kind 32 x)) (put-longer d (kind 32 x) g (kind-ok 32 32 x (low 0)) .0) (λ i. low (suc i)) h
 
--- ---- the canonical form
+-- ---- the canonical form of segments of R rows
 
--- it decodes to the words of the segments that it was made from, and its last marker has all its dirty words
-pub encoded-decodes : (R : ℕ) (xs : List ℕ) → segments (encoded R xs) ≡ map (word 32) (kinds 32 R xs)
-unfolding encoded canonicalOf decode
-encoded-decodes R xs = puts (kinds 32 R xs) blank tt (kinds-ok 32 R xs) .1
+module _ (R : ℕ) (xs : List ℕ) (low : Words xs) where
+  made-good : Good (foldl put blank (kinds 32 R xs))
+  made-good = puts (kinds 32 R xs) blank tt (kinds-ok 32 R xs low) .0
 
-pub encoded-whole : (R : ℕ) (xs : List ℕ) → dueAfter 0 (encoded R xs) ≡ 0
-unfolding encoded canonicalOf
-encoded-whole R xs = good-due (foldl put blank (kinds 32 R xs)) (puts (kinds 32 R xs) blank tt (kinds-ok 32 R xs) .0)
+  -- it decodes to the words of the segments that it was made from
+  pub encoded-decodes : segments (encoded R xs) ≡ map (word 32) (kinds 32 R xs)
+  unfolding encoded ewahOf decode
+  encoded-decodes = puts (kinds 32 R xs) blank tt (kinds-ok 32 R xs low) .1
 
-encoded-last : (R : ℕ) (xs : List ℕ) → lastOf xs < lastLimit 32 R → lastDirty (pieces 0 (encoded R xs)) < lastLimit 32 R
-unfolding encoded canonicalOf
-encoded-last R [] h = unfold kinds body pieces lastDirty lastLimit in pow-pos (lastRows 32 R)
-encoded-last R (x ∷ xs) h = last-low R x xs blank tt h
+  pub encoded-words : Words (encoded R xs)
+  unfolding encoded ewahOf
+  encoded-words = good-low (foldl put blank (kinds 32 R xs)) made-good
 
--- ... and is sound
-pub encoded-sound : (R : ℕ) (xs : List ℕ) → length xs ≡ segmentCount 32 R → lastOf xs < lastLimit 32 R → Sound R (encoded R xs)
-encoded-sound R xs n h =
+  encoded-whole : dueAfter 0 (encoded R xs) ≡ 0
+  unfolding encoded ewahOf
+  encoded-whole = good-due (foldl put blank (kinds 32 R xs)) made-good
+
+encoded-last : (R : ℕ) (xs : List ℕ) → Words xs → lastOf xs < lastLimit 32 R → lastDirty (pieces 0 (encoded R xs)) < lastLimit 32 R
+unfolding encoded ewahOf
+encoded-last R [] low h = unfold kinds body pieces lastDirty in limit-pos 32 R
+encoded-last R (x ∷ xs) low h = last-low R x xs blank tt low h
+
+pub encoded-sound : (R : ℕ) (xs : List ℕ) → length xs ≡ segmentCount 32 R → Words xs → lastOf xs < lastLimit 32 R
+    → ewahFault 0 0 R (encoded R xs) ≡ sound
+encoded-sound R xs n low h =
     sound-iff R (encoded R xs) .1 (record {
-      ended = encoded-whole R xs;
-      count = ap length (encoded-decodes R xs) ∙ length-map (kinds 32 R xs) (word 32) ∙ kinds-length 32 R xs ∙ n;
-      last = encoded-last R xs h;
+      ended = encoded-whole R xs low;
+      count = ap length (encoded-decodes R xs low) ∙ length-map (kinds 32 R xs) (word 32) ∙ kinds-length 32 R xs ∙ n;
+      last = encoded-last R xs low h;
     })

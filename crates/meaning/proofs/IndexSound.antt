@@ -1,7 +1,7 @@
 -- An index is sound exactly if the plain facts of `IndexFacts` hold.
 -- Assumes nothing.
 use Prim.Native.Nat.{ℕ, zero, suc, _+_, _≤_, _<_}
-use mathlib.Core.Bool.{false, not}
+use mathlib.Core.Bool.{Bool, true, false, cond, not, _||_}
 use mathlib.Core.Path.{_≡_, refl, ap, _∙_, subst}
 use mathlib.Core.List.{List}
 use lib.Dec.{eqb, ltb}
@@ -9,26 +9,40 @@ use lib.ListN.{length, getD}
 use native.Mathlib.Omega.{arith}
 use native.Mathlib.Decide.{decLe}
 use borrow.Author.Tests.{ltb-false, le-ltb, eqb-true, eq-eqb, not-false}
-use Rattle.meaning.specs.Limits.{mostRows, mostBitmaps, mostIndexWords, indexKind, headWords}
-use Rattle.meaning.specs.Segment.{segmentCount}
+use Rattle.meaning.specs.Limits.{mostRows, mostBitmaps, mostIndexWords, ewahKind, wahKind, headWords}
 use Rattle.meaning.specs.Refusal.{sound, _then_}
-use Rattle.meaning.specs.Ewah.{bodyFault}
-use Rattle.meaning.specs.Index.{rowCount, bitmapCount, entryPlace, startOf, lengthOf, bodyPlace, bodyAt, headFault, entriesFault, bodiesFault, indexFault, SoundIndex}
+use Rattle.meaning.specs.Format.{kindOf, bodyFault}
+use Rattle.meaning.specs.declared.Format.the-variants.{Ewah, Wah}
+use Rattle.meaning.specs.Index.{isKind, formatOf, rowCount, bitmapCount, entryPlace, startOf, lengthOf, bodyPlace, bodyAt, headFault, entriesFault, bodiesFault, indexFault, SoundIndex}
 use Rattle.meaning.specs.Laws.{SoundFacts, HeadFacts, EntryFacts, IndexFacts, IndexMeans}
-use Rattle.meaning.proofs.Decoded.{sound-whole, whole-sound, let-through}
+use Rattle.meaning.proofs.Decoded.{let-through}
+use Rattle.meaning.proofs.Formats.{fault-means}
 use Rattle.meaning.proofs.Outcomes.{refuse-answer, then-answer, then-sound}
 
--- ---- a body, whatever its number and place
+or-false-true : (a : Bool) → a || false ≡ true → a ≡ true
+or-false-true true e = refl
+or-false-true false e = e
 
-pub body-facts : (k place R : ℕ) (b : List ℕ) → bodyFault k place R b ≡ sound → SoundFacts R b
-unfolding bodyFault
-body-facts k place R b e =
-    let f = sound-whole k R place 0 (segmentCount 32 R) b (omega arith) (omega arith) e in
-    record { ended = f .ended; count = f .count; pads = f .last }
+or-yes : (a : Bool) → a || true ≡ true
+or-yes true = refl
+or-yes false = refl
 
-pub facts-body : (k place R : ℕ) (b : List ℕ) → SoundFacts R b → bodyFault k place R b ≡ sound
-unfolding bodyFault
-facts-body k place R b f = whole-sound k R place 0 (segmentCount 32 R) b (record { ended = f .ended; count = f .count; last = f .pads })
+-- a kind is that of the format which it states
+kind-is : (index : List ℕ) → isKind (getD index 0 0) ≡ true → getD index 0 0 ≡ kindOf (formatOf index)
+unfolding isKind formatOf
+kind-is index e = go (getD index 0 0) (eqb (getD index 0 0) wahKind) refl e
+  where
+    go : (x : ℕ) (t : Bool) → eqb x wahKind ≡ t → eqb x ewahKind || t ≡ true → x ≡ kindOf (cond t Wah Ewah)
+    go x true f e = eqb-true x wahKind f
+    go x false f e = eqb-true x ewahKind (or-false-true (eqb x ewahKind) e)
+
+is-kind : (index : List ℕ) → getD index 0 0 ≡ kindOf (formatOf index) → isKind (getD index 0 0) ≡ true
+unfolding isKind formatOf
+is-kind index e = go (getD index 0 0) (eqb (getD index 0 0) wahKind) refl e
+  where
+    go : (x : ℕ) (t : Bool) → eqb x wahKind ≡ t → x ≡ kindOf (cond t Wah Ewah) → eqb x ewahKind || eqb x wahKind ≡ true
+    go x true f e = rw (eq-eqb x wahKind e, or-yes (eqb x ewahKind))
+    go x false f e = rw (eq-eqb x ewahKind e)
 
 not-equal : (m n : ℕ) → not (eqb m n) ≡ false → m ≡ n
 not-equal m n e = eqb-true m n (not-false (eqb m n) e)
@@ -47,14 +61,14 @@ module _ (index : List ℕ) where
   head-facts e =
       let a = refuse-answer (ltb mostIndexWords n) 3 0 0 _ tt e in
       let b = refuse-answer (ltb n headWords) 1 0 n _ tt (a .1) in
-      let c = refuse-answer (not (eqb (getD index 0 0) indexKind)) 2 0 0 _ tt (b .1) in
+      let c = refuse-answer (not (isKind (getD index 0 0))) 2 0 0 _ tt (b .1) in
       let d = refuse-answer (ltb mostRows (rowCount index)) 3 0 1 _ tt (c .1) in
       let f = refuse-answer (ltb mostBitmaps N) 3 0 2 _ tt (d .1) in
       let g = refuse-answer (ltb n (entryPlace index N)) 1 0 n _ tt (f .1) in
       record {
         few-words = ltb-false mostIndexWords n (a .0);
         head = ltb-false n headWords (b .0);
-        kind = not-equal (getD index 0 0) indexKind (c .0);
+        kind = kind-is index (not-false (isKind (getD index 0 0)) (c .0));
         few-rows = ltb-false mostRows (rowCount index) (d .0);
         few-bitmaps = ltb-false mostBitmaps N (f .0);
         contents = ltb-false n (entryPlace index N) (g .0);
@@ -65,7 +79,7 @@ module _ (index : List ℕ) where
   facts-head h =
       let-through (ltb mostIndexWords n) 3 0 0 _ (le-ltb mostIndexWords n (h .few-words))
       (let-through (ltb n headWords) 1 0 n _ (le-ltb n headWords (h .head))
-      (let-through (not (eqb (getD index 0 0) indexKind)) 2 0 0 _ (ap not (eq-eqb (getD index 0 0) indexKind (h .kind)))
+      (let-through (not (isKind (getD index 0 0))) 2 0 0 _ (ap not (is-kind index (h .kind)))
       (let-through (ltb mostRows (rowCount index)) 3 0 1 _ (le-ltb mostRows (rowCount index) (h .few-rows))
       (let-through (ltb mostBitmaps N) 3 0 2 _ (le-ltb mostBitmaps N (h .few-bitmaps))
       (let-through (ltb n (entryPlace index N)) 1 0 n _ (le-ltb n (entryPlace index N) (h .contents))
@@ -130,21 +144,21 @@ module _ (index : List ℕ) where
 
   -- ---- the bodies
 
-  pub bodies-sound : (more k : ℕ) → bodiesFault index k more ≡ sound → (i : ℕ) → k ≤ i → i < k + more → SoundFacts (rowCount index) (bodyAt index i)
+  pub bodies-sound : (more k : ℕ) → bodiesFault index k more ≡ sound → (i : ℕ) → k ≤ i → i < k + more → SoundFacts (formatOf index) (rowCount index) (bodyAt index i)
   unfolding bodiesFault
   bodies-sound zero k e i a b = absurd (omega arith)
   bodies-sound (suc more) k e i a b =
-      let p = then-answer (bodyFault k (startOf index k) (rowCount index) (bodyAt index k)) (bodiesFault index (suc k) more) tt e in
+      let p = then-answer (bodyFault (formatOf index) k (startOf index k) (rowCount index) (bodyAt index k)) (bodiesFault index (suc k) more) tt e in
       elim (decLe (suc k) i) [
         | yes l ↦ bodies-sound more (suc k) (p .1) i l (omega arith)
-        | no l ↦ let is : k ≡ i = omega arith in subst (λ (j : ℕ). SoundFacts (rowCount index) (bodyAt index j)) is (body-facts k (startOf index k) (rowCount index) (bodyAt index k) (p .0))
+        | no l ↦ let is : k ≡ i = omega arith in subst (λ (j : ℕ). SoundFacts (formatOf index) (rowCount index) (bodyAt index j)) is (fault-means (formatOf index) k (startOf index k) (rowCount index) (bodyAt index k) .0 (p .0))
       ]
 
-  sound-bodies : (more k : ℕ) → ((i : ℕ) → k ≤ i → i < k + more → SoundFacts (rowCount index) (bodyAt index i)) → bodiesFault index k more ≡ sound
+  sound-bodies : (more k : ℕ) → ((i : ℕ) → k ≤ i → i < k + more → SoundFacts (formatOf index) (rowCount index) (bodyAt index i)) → bodiesFault index k more ≡ sound
   unfolding bodiesFault
   sound-bodies zero k f = refl
   sound-bodies (suc more) k f =
-      then-sound (bodyFault k (startOf index k) (rowCount index) (bodyAt index k)) (bodiesFault index (suc k) more) (facts-body k (startOf index k) (rowCount index) (bodyAt index k) (f k (omega arith) (omega arith)))
+      then-sound (bodyFault (formatOf index) k (startOf index k) (rowCount index) (bodyAt index k)) (bodiesFault index (suc k) more) (fault-means (formatOf index) k (startOf index k) (rowCount index) (bodyAt index k) .1 (f k (omega arith) (omega arith)))
       ∙ sound-bodies more (suc k) (λ i a b. f i (omega arith) (omega arith))
 
   -- ---- the index

@@ -14,7 +14,7 @@ use borrow.Author.Tests.{lt-ltb, le-ltb, eq-eqb}
 use Rattle.meaning.specs.Limits.{mostClean, mostDirty}
 use Rattle.meaning.specs.Segment.{Segment, clean, mixed, kinds}
 use Rattle.meaning.specs.Ewah.{marker, decode, segments, valueOf, cleanOf, dirtyOf}
-use Rattle.meaning.specs.Canonical.{Draft, blank, draft, body, opened, put, canonicalOf}
+use Rattle.meaning.specs.Canonical.{Draft, blank, draft, body, opened, put, ewahOf}
 
 -- the words so far, and how many of the last marker's dirty words are taken: a blank draft has no room
 unfoldable pub size : Draft → ℕ
@@ -158,8 +158,8 @@ reads-cheap (marked m {ws} {ss} r) h =
 reads-cheap (dirty {due} w s {ws} {ss} r) h = cheap-dirty due (length ws) s ss h (reads-cheap r (omega arith))
 
 -- No body with such a reading has fewer words than the canonical form
-pub least-reads : (b : List ℕ) (ss : List Segment) → Reads 0 b ss → length (canonicalOf ss) ≤ length b
-unfolding canonicalOf size
+pub least-reads : (b : List ℕ) (ss : List Segment) → Reads 0 b ss → length (ewahOf ss) ≤ length b
+unfolding ewahOf size
 least-reads b ss r = omega (arith, reads-cheap r (omega arith) .room blank (unfold taken in omega arith))
 
 -- what is seen of a body's segments is a reading of it, for any number of rows
@@ -171,7 +171,7 @@ decode-reads R zero (m ∷ ws) =
 decode-reads R (suc due) (w ∷ ws) = let s = seen-word 32 R (omega arith) w (decode due ws) in rw (s .1) (dirty w (s .0) (decode-reads R due ws))
 
 -- No body with these segments has fewer words
-pub least : (R : ℕ) (b : List ℕ) → length (canonicalOf (seen 32 R (segments b))) ≤ length b
+pub least : (R : ℕ) (b : List ℕ) → length (ewahOf (seen 32 R (segments b))) ≤ length b
 least R b = least-reads b (seen 32 R (segments b)) (decode-reads R 0 b)
 
 -- ---- what one step adds
@@ -221,8 +221,8 @@ pub most-words : (ss : List Segment) → mostDirty * length (body (foldl put bla
 unfolding size taken body
 most-words ss = omega (arith, steps-pay blank ss)
 
-pub most-words-div : (ss : List Segment) → length (canonicalOf ss) ≤ length ss + length ss / mostDirty + 1
-unfolding canonicalOf
+pub most-words-div : (ss : List Segment) → length (ewahOf ss) ≤ length ss + length ss / mostDirty + 1
+unfolding ewahOf
 most-words-div ss = omega (arith, most-words ss)
 
 pub run-adds : (d : Draft) (v n : ℕ) → n ≤ mostClean → length (body (foldl put d (replicate n (clean v)))) ≤ length (body d) + 1

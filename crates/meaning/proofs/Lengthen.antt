@@ -1,4 +1,4 @@
--- The canonical body never gets shorter as rows come.
+-- EWAH's canonical body never gets shorter as rows come.
 -- Assumes nothing.
 use Prim.Native.Nat.{ℕ, _+_, _-_, _*_, _/_, _%_, _^_, _≤_, _<_}
 use mathlib.Core.Bool.{Bool, true, false, cond, _&&_}
@@ -13,7 +13,9 @@ use native.Mathlib.Omega.{arith}
 use borrow.Author.Tests.{lt-ltb, le-ltb, eqb-true}
 use Rattle.meaning.specs.Limits.{mostDirty}
 use Rattle.meaning.specs.Segment.{Segment, clean, mixed, kind, fill, allSet, kinds, rowsIn, segmentCount, wordOf, fromRows}
-use Rattle.meaning.specs.Canonical.{Draft, blank, body, put, canonicalOf, canonical}
+use Rattle.meaning.specs.Canonical.{Draft, blank, body, put, ewahOf}
+use Rattle.meaning.specs.Format.{canonical}
+use Rattle.meaning.specs.declared.Format.the-variants.{Ewah}
 use Rattle.meaning.proofs.RowWords.{word-ext, word-short, getD-tabulate, from-length}
 use Rattle.meaning.proofs.Segments.{ones-low, kind-full, kinds-length}
 use Rattle.meaning.proofs.Cut.{kinds-at}
@@ -125,8 +127,8 @@ module _ (R k : ℕ) (p q : ℕ → Bool) (same : (r : ℕ) → r < R → p r �
       let b : cell (R + k) q i % 2 ^ m ≡ wordOf m new = rw e at (word-low m (32 - m) new) in
       sym (mod-eq-of-lt short) ∙ a ∙ low-agree i m (omega arith) (omega arith) ∙ sym b
 
-  pub never-shorter : length (canonical R p) ≤ length (canonical (R + k) q)
-  unfolding canonical canonicalOf rowsIn segmentCount size
+  pub never-shorter : length (canonical Ewah R p) ≤ length (canonical Ewah (R + k) q)
+  unfolding canonical ewahOf rowsIn segmentCount size
   never-shorter = elim (decLe 1 (R % 32)) [ yes g ↦ part g | no g ↦ even (omega arith) ]
     where
       even : R % 32 ≡ 0 → length (body (foldl put blank A)) ≤ length (body (foldl put blank B))

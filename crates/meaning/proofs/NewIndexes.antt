@@ -2,26 +2,25 @@
 -- bitmaps are its sets, in canonical form.
 -- Assumes nothing.
 use Prim.Native.Nat.{ℕ, zero, suc, _+_, _-_, _*_, _/_, _≤_, _<_}
-use mathlib.Core.Bool.{Bool}
+use mathlib.Core.Bool.{Bool, cond}
 use mathlib.Core.Path.{_≡_, refl, sym, ap, ap₂, _∙_, subst}
 use mathlib.Core.List.{List, [], _∷_, _++_, map, append-assoc, append-nil}
+use lib.Dec.{eqb}
 use lib.ListN.{length, getD, take, drop, length-append, length-map, List·getD-append}
 use lib.Seq.{drop-append-add, take-append-seam, take-all}
 use native.Mathlib.Omega.{arith}
-use Rattle.meaning.specs.Limits.{mostRows, mostSegments, mostDirty, mostBitmaps, mostIndexWords, mostValueColumn, headWords, entryWords}
-use Rattle.meaning.specs.Segment.{segmentCount, fromRows, kinds}
-use Rattle.meaning.specs.Ewah.{rowsOf}
-use Rattle.meaning.specs.Canonical.{canonical}
-use Rattle.meaning.specs.Index.{rowCount, bitmapCount, entryPlace, startOf, lengthOf, bodyPlace, bodyAt, rowsAt}
+use Rattle.meaning.specs.Limits.{mostRows, mostSegments, mostDirty, mostBitmaps, mostIndexWords, wahKind, headWords, entryWords}
+use Rattle.meaning.specs.Segment.{segmentCount}
+use Rattle.meaning.specs.Format.{kindOf, rowsOf, canonical}
+use Rattle.meaning.specs.declared.Format.{Format}
+use Rattle.meaning.specs.declared.Format.the-variants.{Ewah, Wah}
+use Rattle.meaning.specs.Index.{formatOf, rowCount, bitmapCount, entryPlace, startOf, lengthOf, bodyPlace, bodyAt, rowsAt}
 use Rattle.meaning.specs.Question.{totalWords}
 use Rattle.meaning.specs.NewIndex.{entriesOf, joined, contentsEnd, assembled, indexOf}
 use Rattle.meaning.specs.Laws.{SoundFacts, IndexFacts}
 use Rattle.meaning.specs.ColumnLaws.{none, NewIndex, NewIndexHolds}
-use Rattle.meaning.proofs.Decoded.{sound-iff}
-use Rattle.meaning.proofs.Segments.{kinds-length}
-use Rattle.meaning.proofs.RowWords.{from-length}
-use Rattle.meaning.proofs.Least.{most-words-div}
-use Rattle.meaning.proofs.CanonicalBody.{canonical-sound, canonical-rows}
+use Rattle.meaning.proofs.Enough.{most-words}
+use Rattle.meaning.proofs.Formats.{sound-means, canonical-sound, canonical-rows}
 use Rattle.meaning.proofs.IndexSound.{index-means}
 
 -- ---- entries and bodies
@@ -95,9 +94,9 @@ total-le (b ∷ bs) (suc k) = omega (arith, total-le bs k)
 
 -- ---- the index of these bodies
 
-module _ (R : ℕ) (bs : List (List ℕ)) where
+module _ (F : Format) (R : ℕ) (bs : List (List ℕ)) where
   abbrev index : List ℕ
-  index = assembled R bs
+  index = assembled F R bs
 
   abbrev N : ℕ
   N = length bs
@@ -163,15 +162,24 @@ module _ (R : ℕ) (bs : List (List ℕ)) where
       from : contentsEnd N + totalWords (take k bs) ≡ headWords + (length contents + totalWords (take k bs))
       from = unfold contentsEnd in omega (arith, entries-length (contentsEnd N) bs)
 
+  -- its format, as its head says
+  pub format-is : formatOf index ≡ F
+  unfolding formatOf assembled
+  format-is = go F
+    where
+      go : (F : Format) → cond (eqb (kindOf F) wahKind) Wah Ewah ≡ F
+      go Ewah = refl
+      go Wah = refl
+
   -- it is sound if its bodies are, and it is in the limits
   pub assembled-facts : R ≤ mostRows → N ≤ mostBitmaps → length index ≤ mostIndexWords
-      → ((k : ℕ) → k < N → SoundFacts R (getD bs k [])) → IndexFacts index
+      → ((k : ℕ) → k < N → SoundFacts F R (getD bs k [])) → IndexFacts index
   unfolding assembled contentsEnd entryPlace rowCount bitmapCount
   assembled-facts r n l f = record {
     head = record {
       few-words = l;
       head = omega (arith, length-is);
-      kind = refl;
+      kind = ap kindOf (sym format-is);
       few-rows = r;
       few-bitmaps = n;
       contents = omega (arith, length-is);
@@ -184,7 +192,8 @@ module _ (R : ℕ) (bs : List (List ℕ)) where
           ∙ ap (λ (l : List (List ℕ)). contentsEnd N + totalWords l) (take-all N bs (omega arith))
           ∙ sym length-is;
     };
-    bodies = λ k h. subst (λ (b : List ℕ). SoundFacts R b) (sym (body-is k h)) (f k h);
+    bodies = λ k h. subst (λ (G : Format). SoundFacts G R (bodyAt index k)) (sym format-is)
+        (subst (λ (b : List ℕ). SoundFacts F R b) (sym (body-is k h)) (f k h));
   }
 
 -- ---- the index of these sets
@@ -194,61 +203,52 @@ abbrev pub mostBodyWords : ℕ
 mostBodyWords = mostSegments + mostSegments / mostDirty + 1
 
 -- whatever the rows are
-pub canonical-words : (R : ℕ) (p : ℕ → Bool) → R ≤ mostRows → length (canonical R p) ≤ mostBodyWords
-unfolding canonical
-canonical-words R p h =
-    let ks = kinds 32 R (fromRows 32 R p) in
-    let n : length ks ≡ segmentCount 32 R =
-    kinds-length 32 R (fromRows 32 R p)
-    ∙ from-length 32 (omega arith) R p in
-    let s : segmentCount 32 R ≤ 524288 = unfold segmentCount in omega arith in
-    omega (arith, most-words-div ks)
+pub canonical-words : (F : Format) (R : ℕ) (p : ℕ → Bool) → R ≤ mostRows → length (canonical F R p) ≤ mostBodyWords
+unfolding segmentCount
+canonical-words Ewah R p h = omega (arith, most-words Ewah R p)
+canonical-words Wah R p h = omega (arith, most-words Wah R p)
 
 -- so many for each of them
-pub total-words : (R : ℕ) (ps : List (ℕ → Bool)) → R ≤ mostRows
-    → totalWords (map (canonical R) ps) ≤ mostBodyWords * length ps
+pub total-words : (F : Format) (R : ℕ) (ps : List (ℕ → Bool)) → R ≤ mostRows
+    → totalWords (map (canonical F R) ps) ≤ mostBodyWords * length ps
 unfolding totalWords
-total-words R [] h = omega arith
-total-words R (p ∷ ps) h = omega (arith, canonical-words R p h, total-words R ps h)
+total-words F R [] h = omega arith
+total-words F R (p ∷ ps) h = omega (arith, canonical-words F R p h, total-words F R ps h)
 
 -- body k is the canonical one of set k
-pub at-map : (R : ℕ) (ps : List (ℕ → Bool)) (k : ℕ) → k < length ps
-    → getD (map (canonical R) ps) k [] ≡ canonical R (getD ps k none)
-at-map R [] k h = absurd (omega arith)
-at-map R (p ∷ ps) zero h = refl
-at-map R (p ∷ ps) (suc k) h = at-map R ps k (omega arith)
+pub at-map : (F : Format) (R : ℕ) (ps : List (ℕ → Bool)) (k : ℕ) → k < length ps
+    → getD (map (canonical F R) ps) k [] ≡ canonical F R (getD ps k none)
+at-map F R [] k h = absurd (omega arith)
+at-map F R (p ∷ ps) zero h = refl
+at-map F R (p ∷ ps) (suc k) h = at-map F R ps k (omega arith)
 
-canonical-facts : (R : ℕ) (p : ℕ → Bool) → SoundFacts R (canonical R p)
-canonical-facts R p =
-    let f = sound-iff R (canonical R p) .0 (canonical-sound R p) in
-    record { ended = f .ended; count = f .count; pads = f .last }
-
-module _ (R : ℕ) (ps : List (ℕ → Bool)) (h : R ≤ mostRows) (n : length ps ≤ mostValueColumn) where
+module _ (F : Format) (R : ℕ) (ps : List (ℕ → Bool)) (h : R ≤ mostRows) (n : length ps ≤ mostBitmaps) where
   abbrev bs : List (List ℕ)
-  bs = map (canonical R) ps
+  bs = map (canonical F R) ps
 
   as-many : length bs ≡ length ps
-  as-many = length-map ps (canonical R)
+  as-many = length-map ps (canonical F R)
 
-  is-body : (k : ℕ) → k < length ps → bodyAt (assembled R bs) k ≡ canonical R (getD ps k none)
-  is-body k g = body-is R bs k (omega (arith, as-many)) ∙ at-map R ps k g
+  is-body : (k : ℕ) → k < length ps → bodyAt (assembled F R bs) k ≡ canonical F R (getD ps k none)
+  is-body k g = body-is F R bs k (omega (arith, as-many)) ∙ at-map F R ps k g
 
-  sound-body : (k : ℕ) → k < length bs → SoundFacts R (getD bs k [])
+  sound-body : (k : ℕ) → k < length bs → SoundFacts F R (getD bs k [])
   sound-body k g =
-      subst (λ (b : List ℕ). SoundFacts R b) (sym (at-map R ps k (omega (arith, as-many))))
-      (canonical-facts R (getD ps k none))
+      subst (λ (b : List ℕ). SoundFacts F R b) (sym (at-map F R ps k (omega (arith, as-many))))
+      (sound-means F R (canonical F R (getD ps k none)) .0 (canonical-sound F R (getD ps k none)))
 
-  few-words : length (assembled R bs) ≤ mostIndexWords
-  few-words = unfold contentsEnd in omega (arith, as-many, length-is R bs, total-words R ps h)
+  few-words : length (assembled F R bs) ≤ mostIndexWords
+  few-words = unfold contentsEnd in omega (arith, as-many, length-is F R bs, total-words F R ps h)
 
-  is-new : NewIndex R ps (indexOf R ps)
+  is-new : NewIndex F R ps (indexOf F R ps)
   unfolding indexOf rowsAt
   is-new = record {
-    is-sound = index-means (assembled R bs) .1 (assembled-facts R bs h (omega (arith, as-many)) few-words sound-body);
-    rows = row-count R bs;
-    count = bitmap-count R bs ∙ as-many;
+    is-sound = index-means (assembled F R bs) .1 (assembled-facts F R bs h (omega (arith, as-many)) few-words sound-body);
+    format = format-is F R bs;
+    rows = row-count F R bs;
+    count = bitmap-count F R bs ∙ as-many;
     bodies = is-body;
-    sets = λ k r g l. ap (λ (b : List ℕ). rowsOf b r) (is-body k g) ∙ canonical-rows R (getD ps k none) r l;
+    sets = λ k r g l. ap (λ (G : Format). rowsOf G (bodyAt (assembled F R bs) k) r) (format-is F R bs) ∙ ap (λ (b : List ℕ). rowsOf F b r) (is-body k g) ∙ canonical-rows F R (getD ps k none) r l;
   }
 
 -- whatever the sets are

@@ -7,17 +7,22 @@ use lib.Dec.{eqb, leb, ltb}
 use lib.ListN.{length, getD}
 use native.Mathlib.Omega.{arith}
 use Rattle.meaning.specs.Refusal.{Outcome, refused, answer, Verdict, sound, refuseIf, _then_, IsNumber, Numbered}
-use Rattle.meaning.specs.Limits.{mostRows, mostBitmaps, mostIndexWords, indexKind, headWords, mostColumn, mostValueColumn}
+use Rattle.meaning.specs.Limits.{mostRows, mostBitmaps, mostIndexWords, headWords, mostColumn, mostValueColumn}
 use Rattle.meaning.specs.Rows.{countBelow, nthBelow}
 use Rattle.meaning.specs.Segment.{overPad, segmentCount, lastLimit, lastOf, hasRow, fromRows}
-use Rattle.meaning.specs.Ewah.{cleanOf, dirtyOf, faultFrom, bodyFault, rowsOf}
-use Rattle.meaning.specs.Canonical.{canonical}
-use Rattle.meaning.specs.Index.{bitmapCount, entryPlace, startOf, lengthOf, rowCount, bodyAt, rowsAt, entriesFault, bodiesFault, headFault, indexFault}
+use Rattle.meaning.specs.Piece.{pieceSize, dirtyIn}
+use Rattle.meaning.specs.Ewah.{cleanOf, dirtyOf, faultFrom, ewahFault}
+use Rattle.meaning.specs.Wah.{pieceOf, wahFaultFrom, wahFault}
+use Rattle.meaning.specs.Format.{bodyFault, rowsOf, canonical}
+use Rattle.meaning.specs.declared.Format.{Format}
+use Rattle.meaning.specs.declared.Format.the-variants.{Ewah, Wah}
+use Rattle.meaning.specs.Index.{isKind, formatOf, bitmapCount, entryPlace, startOf, lengthOf, rowCount, bodyAt, rowsAt, entriesFault, bodiesFault, headFault, indexFault}
 use Rattle.meaning.specs.Question.{intersection, union, symmetricDifference, difference, complement, byTable}
 use Rattle.meaning.specs.NewIndex.{indexOf, writeIndex}
 use Rattle.meaning.specs.Column.{sumValue}
 use Rattle.meaning.specs.Answer as meaning
 use Rattle.meaning.specs.Columns as columns
+use Rattle.meaning.specs.Rewriting as rewriting
 
 pub number-of : (A : Type 0) (n b w : ℕ) → Numbered {A = A} (refused n b w) → 1 ≤ n
 unfolding Numbered
@@ -55,9 +60,19 @@ fault bitmap R place zero left (m ∷ ws) =
     (fault bitmap R (suc place) (dirtyOf m) (left - cleanOf m) ws))
 fault bitmap R place (suc due) left (w ∷ ws) = refuse (overPad 32 R left 1 w) 7 bitmap place _ (omega arith) (fault bitmap R (suc place) due (left - 1) ws)
 
-body : (bitmap place R : ℕ) (b : List ℕ) → Numbered (bodyFault bitmap place R b)
-unfolding bodyFault
-body bitmap place R b = fault bitmap R place 0 _ b
+wah-fault : (bitmap R place left : ℕ) (ws : List ℕ) → Numbered (wahFaultFrom bitmap R place left ws)
+unfolding wahFaultFrom
+wah-fault bitmap R place left [] = refuse (ltb 0 left) 6 bitmap place sound (omega arith) (answered tt)
+wah-fault bitmap R place left (x ∷ xs) =
+    refuse (eqb (pieceSize (pieceOf x)) 0) 10 bitmap place _ (omega arith)
+    (refuse (ltb left (pieceSize (pieceOf x))) 6 bitmap place _ (omega arith)
+    (refuse (overPad 31 R left 1 (dirtyIn (pieceOf x))) 7 bitmap place _ (omega arith)
+    (wah-fault bitmap R (suc place) (left - pieceSize (pieceOf x)) xs)))
+
+body : (F : Format) (bitmap place R : ℕ) (b : List ℕ) → Numbered (bodyFault F bitmap place R b)
+unfolding ewahFault wahFault
+body Ewah bitmap place R b = fault bitmap R place 0 _ b
+body Wah bitmap place R b = wah-fault bitmap R place _ b
 
 module _ (index : List ℕ) where
   entries : (k more end : ℕ) → Numbered (entriesFault index k more end)
@@ -71,14 +86,14 @@ module _ (index : List ℕ) where
   bodies : (k more : ℕ) → Numbered (bodiesFault index k more)
   unfolding bodiesFault
   bodies k zero = answered tt
-  bodies k (suc more) = after (bodyFault k (startOf index k) (rowCount index) (bodyAt index k)) (bodiesFault index (suc k) more) (body k (startOf index k) (rowCount index) (bodyAt index k)) (bodies (suc k) more)
+  bodies k (suc more) = after (bodyFault (formatOf index) k (startOf index k) (rowCount index) (bodyAt index k)) (bodiesFault index (suc k) more) (body (formatOf index) k (startOf index k) (rowCount index) (bodyAt index k)) (bodies (suc k) more)
 
   head : Numbered (headFault index)
   unfolding headFault
   head =
       refuse (ltb mostIndexWords (length index)) 3 0 0 _ (omega arith)
       (refuse (ltb (length index) headWords) 1 0 (length index) _ (omega arith)
-      (refuse (not (eqb (getD index 0 0) indexKind)) 2 0 0 _ (omega arith)
+      (refuse (not (isKind (getD index 0 0))) 2 0 0 _ (omega arith)
       (refuse (ltb mostRows (rowCount index)) 3 0 1 _ (omega arith)
       (refuse (ltb mostBitmaps (bitmapCount index)) 3 0 2 _ (omega arith)
       (refuse (ltb (length index) (entryPlace index (bitmapCount index))) 1 0 (length index) _ (omega arith)
@@ -108,9 +123,9 @@ ask-plain : (R : ℕ) (p : ℕ → Bool) (room : ℕ) → Numbered (meaning.askP
 unfolding meaning.askPlain
 ask-plain R p room = fits room (fromRows 32 R p)
 
-write : (R : ℕ) (p : ℕ → Bool) (room : ℕ) → Numbered (meaning.write R p room)
+write : (F : Format) (R : ℕ) (p : ℕ → Bool) (room : ℕ) → Numbered (meaning.write F R p room)
 unfolding meaning.write
-write R p room = fits room (canonical R p)
+write F R p room = fits room (canonical F R p)
 
 rows : (R : ℕ) → Numbered (meaning.rowsFault R)
 unfolding meaning.rowsFault
@@ -118,26 +133,26 @@ rows R = refuse (ltb mostRows R) 3 0 1 sound (omega arith) (answered tt)
 
 -- ---- of a body alone
 
-module _ (R : ℕ) (b : List ℕ) where
-  pub check-body : Numbered (meaning.checkBody R b)
+module _ (F : Format) (R : ℕ) (b : List ℕ) where
+  pub check-body : Numbered (meaning.checkBody F R b)
   unfolding meaning.checkBody
-  check-body = after (meaning.rowsFault R) (bodyFault 0 0 R b) (rows R) (body 0 0 R b)
+  check-body = after (meaning.rowsFault R) (bodyFault F 0 0 R b) (rows R) (body F 0 0 R b)
 
-  pub body-row : (r : ℕ) → Numbered (meaning.bodyRow R b r)
+  pub body-row : (r : ℕ) → Numbered (meaning.bodyRow F R b r)
   unfolding meaning.bodyRow
-  body-row r = after (meaning.checkBody R b) _ check-body (ask-row R (rowsOf b) r)
+  body-row r = after (meaning.checkBody F R b) _ check-body (ask-row R (rowsOf F b) r)
 
-  pub body-count : Numbered (meaning.bodyCount R b)
+  pub body-count : Numbered (meaning.bodyCount F R b)
   unfolding meaning.bodyCount
-  body-count = after (meaning.checkBody R b) _ check-body (ask-count R (rowsOf b))
+  body-count = after (meaning.checkBody F R b) _ check-body (ask-count R (rowsOf F b))
 
-  pub body-nth : (n : ℕ) → Numbered (meaning.bodyNth R b n)
+  pub body-nth : (n : ℕ) → Numbered (meaning.bodyNth F R b n)
   unfolding meaning.bodyNth
-  body-nth n = after (meaning.checkBody R b) _ check-body (ask-nth R (rowsOf b) n)
+  body-nth n = after (meaning.checkBody F R b) _ check-body (ask-nth R (rowsOf F b) n)
 
-  pub expand : (room : ℕ) → Numbered (meaning.expand R b room)
+  pub expand : (room : ℕ) → Numbered (meaning.expand F R b room)
   unfolding meaning.expand
-  expand room = after (meaning.checkBody R b) _ check-body (ask-plain R (rowsOf b) room)
+  expand room = after (meaning.checkBody F R b) _ check-body (ask-plain R (rowsOf F b) room)
 
 plain : (R : ℕ) (ws : List ℕ) → Numbered (meaning.plainFault R ws)
 unfolding meaning.plainFault
@@ -146,9 +161,9 @@ plain R ws =
     (refuse (not (eqb (length ws) (segmentCount 32 R))) 8 0 0 _ (omega arith)
     (refuse (leb (lastLimit 32 R) (lastOf ws)) 7 0 (length ws - 1) sound (omega arith) (answered tt)))
 
-pub compress : (R : ℕ) (ws : List ℕ) (room : ℕ) → Numbered (meaning.compress R ws room)
+pub compress : (F : Format) (R : ℕ) (ws : List ℕ) (room : ℕ) → Numbered (meaning.compress F R ws room)
 unfolding meaning.compress
-compress R ws room = after (meaning.plainFault R ws) _ (plain R ws) (write R (hasRow 32 ws) room)
+compress F R ws room = after (meaning.plainFault R ws) _ (plain R ws) (write F R (hasRow 32 ws) room)
 
 -- ---- of an index
 
@@ -178,13 +193,13 @@ module _ (index : List ℕ) where
   unfolding meaning.logical meaning.askLogical
   logical op j k room =
       after (meaning.check index) _ (check index)
-      (refuse (meaning.badBitmap index j || meaning.badBitmap index k) 8 0 0 _ (omega arith) (write (rowCount index) (op (rowsAt index j) (rowsAt index k)) room))
+      (refuse (meaning.badBitmap index j || meaning.badBitmap index k) 8 0 0 _ (omega arith) (write (formatOf index) (rowCount index) (op (rowsAt index j) (rowsAt index k)) room))
 
   pub not-of : (k room : ℕ) → Numbered (meaning.notOf index k room)
   unfolding meaning.notOf meaning.askNot
   not-of k room =
       after (meaning.check index) _ (check index)
-      (refuse (meaning.badBitmap index k) 8 0 0 _ (omega arith) (write (rowCount index) (complement (rowsAt index k)) room))
+      (refuse (meaning.badBitmap index k) 8 0 0 _ (omega arith) (write (formatOf index) (rowCount index) (complement (rowsAt index k)) room))
 
   pub and : (j k room : ℕ) → Numbered (meaning.and index j k room)
   unfolding meaning.and
@@ -207,13 +222,13 @@ module _ (index : List ℕ) where
     unfolding meaning.threshold meaning.askThreshold
     threshold T room =
         after (meaning.check index) _ (check index)
-        (refuse (meaning.badThreshold index list T) 8 0 0 _ (omega arith) (write (rowCount index) (meaning.rightRows index list T) room))
+        (refuse (meaning.badThreshold index list T) 8 0 0 _ (omega arith) (write (formatOf index) (rowCount index) (meaning.rightRows index list T) room))
 
     pub symmetric : (table : List ℕ) (room : ℕ) → Numbered (meaning.symmetric index list table room)
     unfolding meaning.symmetric meaning.askSymmetric
     symmetric table room =
         after (meaning.check index) _ (check index)
-        (refuse (meaning.badSymmetric index list table) 8 0 0 _ (omega arith) (write (rowCount index) (byTable table (meaning.named index list)) room))
+        (refuse (meaning.badSymmetric index list table) 8 0 0 _ (omega arith) (write (formatOf index) (rowCount index) (byTable table (meaning.named index list)) room))
 
     pub histogram : Numbered (meaning.histogram index list)
     unfolding meaning.histogram meaning.askHistogram
@@ -247,8 +262,22 @@ module _ (index : List ℕ) where
       refuse (columns.badColumn index mostColumn first || columns.badColumn index mostColumn second) 8 0 0 _ (omega arith)
       (after (columns.strays index first) _ (strays first)
       (after (columns.strays index second) _ (strays second)
-      (fits room (indexOf (rowCount index) (columns.pairColumn index op n first second)))))
+      (fits room (indexOf (formatOf index) (rowCount index) (columns.pairColumn index op n first second)))))
 
   pub sum : (first second : List ℕ) (room : ℕ) → Numbered (columns.sum index first second room)
   unfolding columns.sum columns.askSum
   sum first second room = after (meaning.check index) _ (check index) (pair sumValue (suc (columns.wider first second)) first second room)
+
+  -- ---- rewriting
+
+  pub rewrite-bitmap : (k : ℕ) (G : Format) (room : ℕ) → Numbered (rewriting.rewriteBitmap index k G room)
+  unfolding rewriting.rewriteBitmap
+  rewrite-bitmap k G room = after (meaning.bitmapRefusal index k) _ (bitmap-refusal index k) (write G (rowCount index) (rowsAt index k) room)
+
+  pub rewrite-index : (G : Format) (room : ℕ) → Numbered (rewriting.rewriteIndex index G room)
+  unfolding rewriting.rewriteIndex writeIndex
+  rewrite-index G room = after (meaning.check index) _ (check index) (fits room (indexOf G (rowCount index) (rewriting.setsFrom index 0 (bitmapCount index))))
+
+pub rewrite : (F G : Format) (R : ℕ) (b : List ℕ) (room : ℕ) → Numbered (rewriting.rewrite F G R b room)
+unfolding rewriting.rewrite
+rewrite F G R b room = after (meaning.checkBody F R b) _ (check-body F R b) (write G R (rowsOf F b) room)

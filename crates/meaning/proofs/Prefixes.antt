@@ -1,6 +1,6 @@
 -- The draft of the first segments of a list: it grows by one segment at a time, stays within the canonical form of the whole list, and ends there.
 -- Assumes nothing.
-use Prim.Native.Nat.{ℕ, _+_, _-_, _*_, _≤_, _<_}
+use Prim.Native.Nat.{ℕ, _+_, _*_, _≤_, _<_}
 use mathlib.Core.Path.{_≡_, sym, ap, _∙_}
 use mathlib.Core.List.{List, [], _∷_, foldl, foldl-append}
 use lib.ListN.{length, take, drop, getD, take-append-drop, length-take}
@@ -8,7 +8,7 @@ use lib.Seq.{take-suc, take-all, take-add}
 use native.Mathlib.Omega.{arith}
 use native.Mathlib.Numerals.{add-one}
 use Rattle.meaning.specs.Segment.{Segment, clean, kind, kinds, rowsIn, segmentCount}
-use Rattle.meaning.specs.Canonical.{Draft, blank, body, put, canonicalOf}
+use Rattle.meaning.specs.Canonical.{Draft, blank, body, put, ewahOf}
 use Rattle.meaning.proofs.Least.{puts-grow, puts-add}
 use Rattle.meaning.proofs.Segments.{kinds-length}
 use Rattle.meaning.proofs.Cut.{kinds-at}
@@ -30,12 +30,12 @@ upTo-word R xs i n h =
     upTo-more (kinds 32 R xs) i (clean 0) (omega (arith, kinds-length 32 R xs))
     ∙ ap (λ (s : Segment). put (upTo (kinds 32 R xs) i) s) (kinds-at 32 (omega arith) R xs i (clean 0) n (omega arith))
 
-pub upTo-all : (ss : List Segment) (i : ℕ) → length ss ≤ i → body (upTo ss i) ≡ canonicalOf ss
-unfolding canonicalOf
+pub upTo-all : (ss : List Segment) (i : ℕ) → length ss ≤ i → body (upTo ss i) ≡ ewahOf ss
+unfolding ewahOf
 upTo-all ss i h = rw (take-all i ss h)
 
-pub upTo-within : (ss : List Segment) (i : ℕ) → length (body (upTo ss i)) ≤ length (canonicalOf ss)
-unfolding canonicalOf
+pub upTo-within : (ss : List Segment) (i : ℕ) → length (body (upTo ss i)) ≤ length (ewahOf ss)
+unfolding ewahOf
 upTo-within ss i =
     let e : foldl put (upTo ss i) (drop i ss) ≡ foldl put blank ss = sym (foldl-append put blank (take i ss) (drop i ss)) ∙ rw take-append-drop in
     omega (arith, puts-grow (upTo ss i) (drop i ss), ap (λ (d : Draft). length (body d)) e)

@@ -12,7 +12,9 @@ use native.Mathlib.Omega.{arith}
 use borrow.Author.Tests.{ltb-true, eq-eqb, eqb-true, ne-eqb}
 use Rattle.meaning.specs.Limits.{mostClean}
 use Rattle.meaning.specs.Segment.{Segment, clean, mixed, kind, kinds, fill, allSet, fromRows, lastRows, lastLimit, lastOf}
-use Rattle.meaning.specs.Canonical.{canonicalOf, canonical}
+use Rattle.meaning.specs.Canonical.{ewahOf}
+use Rattle.meaning.specs.Format.{canonical}
+use Rattle.meaning.specs.declared.Format.the-variants.{Ewah}
 
 pub both : (a b : Bool) → a && b ≡ true → (a ≡ true) × (b ≡ true)
 both true b e = (refl, e)
@@ -153,7 +155,7 @@ module _ (w R : ℕ) where
   seen-more x y (z ∷ zs) = refl
 
   module _ (pos : 0 < w) where
-    last-le : lastRows w R ≤ w
+    pub last-le : lastRows w R ≤ w
     unfolding lastRows
     last-le = omega (arith, mod-lt (R - 1) pos)
 
@@ -198,11 +200,11 @@ module _ (w R : ℕ) where
     words-cut (x ∷ y ∷ []) h = ap₂ (λ (k l : ℕ). k ∷ l ∷ []) (word-kind w x) (word-cut y h)
     words-cut (x ∷ y ∷ z ∷ zs) h = ap₂ (λ (k : ℕ) (l : List ℕ). k ∷ l) (word-kind w x) (words-cut (y ∷ z ∷ zs) h)
 
--- the canonical form of segments
+-- the canonical form of segments, in EWAH
 unfoldable pub encoded : ℕ → List ℕ → List ℕ
-encoded R xs = canonicalOf (kinds 32 R xs)
+encoded R xs = ewahOf (kinds 32 R xs)
 
-pub canonical-is : (R : ℕ) (p : ℕ → Bool) → canonical R p ≡ encoded R (fromRows 32 R p)
+pub canonical-is : (R : ℕ) (p : ℕ → Bool) → canonical Ewah R p ≡ encoded R (fromRows 32 R p)
 unfolding canonical encoded
 canonical-is R p = refl
 

@@ -1,7 +1,7 @@
 -- A body is walked from marker to marker: what a marker's run and dirty words stand for, and the faults that can lie there.
 -- Assumes nothing.
 use Prim.Native.Nat.{ℕ, zero, suc, _+_, _-_, _≤_, _<_}
-use mathlib.Core.Bool.{Bool, false}
+use mathlib.Core.Bool.{Bool, false, and-false}
 use mathlib.Core.Path.{_≡_, refl, sym, ap, ap₂, _∙_}
 use mathlib.Core.List.{List, [], _∷_, _++_, append-assoc}
 use lib.Dec.{leb, ltb, eqb·suc-suc}
@@ -13,7 +13,7 @@ use borrow.Author.Tests.{lt-ltb, le-ltb, ne-eqb, eq-eqb}
 use Rattle.meaning.specs.Segment.{fill, lastLimit, overPad}
 use Rattle.meaning.specs.Refusal.{refuseIf}
 use Rattle.meaning.specs.Ewah.{valueOf, cleanOf, dirtyOf, decode, segments, dueAfter, faultFrom}
-use Rattle.meaning.proofs.Decoded.{due-le, and-false}
+use Rattle.meaning.proofs.Decoded.{due-le}
 
 -- ---- dirty words
 

@@ -8,7 +8,7 @@ use native.Mathlib.Omega.{arith}
 use Rattle.meaning.specs.Segment.{wordOf}
 use Rattle.meaning.proofs.RowWords.{word-ext, word-lt}
 
-word-join : (a b : ℕ) (q : ℕ → Bool) → wordOf (a + b) q ≡ wordOf a q + wordOf b (λ j. q (a + j)) * 2 ^ a
+pub word-join : (a b : ℕ) (q : ℕ → Bool) → wordOf (a + b) q ≡ wordOf a q + wordOf b (λ j. q (a + j)) * 2 ^ a
 unfolding wordOf
 word-join zero b q =
     let e : 0 + b ≡ b = omega arith in

@@ -3,19 +3,22 @@
 use Prim.Native.Nat.{ℕ, _+_, _-_, _*_, _≤_, _<_}
 use mathlib.Core.Bool.{Bool}
 use mathlib.Core.Path.{_≡_}
-use mathlib.Core.List.{List, [], _∷_, _++_, map}
-use lib.ListN.{drop, replicate}
+use mathlib.Core.List.{List, [], _∷_, map}
+use lib.ListN.{drop}
 use Rattle.meaning.specs.Rows.{countBelow}
-use Rattle.meaning.specs.Segment.{Segment, kinds, fill, fromRows, segmentCount}
-use Rattle.meaning.specs.Ewah.{Piece, cleanRun, dirtyWord, runThen, pieces, pieceSize, segments, rowsOf}
+use Rattle.meaning.specs.Segment.{Segment, kinds, fromRows, segmentCount}
+use Rattle.meaning.specs.Piece.{Piece, cleanRun, dirtyWord, runThen, pieceSize, flat}
+use Rattle.meaning.specs.Ewah.{pieces}
+use Rattle.meaning.specs.Wah.{wahPieces}
+use Rattle.meaning.specs.Format.{width, piecesOf, segmentsOf, rowsOf}
+use Rattle.meaning.specs.declared.Format.{Format}
+use Rattle.meaning.specs.declared.Format.the-variants.{Ewah, Wah}
 use Rattle.meaning.specs.Question.{held, isIn, endsFrom, endsAt}
 
--- the segments of a list of pieces
-unfoldable pub flat : List Piece → List ℕ
-unfolding fill
-flat [] = []
-flat (cleanRun v n ∷ ps) = replicate n (fill 32 v) ++ flat ps
-flat (dirtyWord x ∷ ps) = x ∷ flat ps
+-- the pieces of the rest of a body, of whose last marker `due` dirty words are still to come; WAH has no such number
+abbrev pub restOf : Format → (due : ℕ) → List ℕ → List Piece
+restOf Ewah due ws = pieces due ws
+restOf Wah due ws = wahPieces ws
 
 -- the pieces without the first n segments of the first one
 unfoldable pub advanced : ℕ → List Piece → List Piece
@@ -35,33 +38,34 @@ abbrev pub NoneEmpty : List Piece → Type 0
 NoneEmpty [] = Unit {0}
 NoneEmpty (p ∷ ps) = (1 ≤ pieceSize p) × NoneEmpty ps
 
--- ps are the pieces of the body b from segment o on, of the first perhaps only the end
-pub record Ahead (b : List ℕ) (o : ℕ) (ps : List Piece) : Type 0 where
-  pub some : NoneEmpty ps
-  pub rest : flat ps ≡ drop o (segments b)
-  pub ends : (e : ℕ) → o < e → isIn (endsFrom 0 (pieces 0 b)) e ≡ isIn (endsFrom o ps) e
+module _ (F : Format) where
+  -- ps are the pieces of the body b from segment o on, of the first perhaps only the end
+  pub record Ahead (b : List ℕ) (o : ℕ) (ps : List Piece) : Type 0 where
+    pub some : NoneEmpty ps
+    pub rest : flat (width F) ps ≡ drop o (segmentsOf F b)
+    pub ends : (e : ℕ) → o < e → isIn (endsFrom 0 (piecesOf F b)) e ≡ isIn (endsFrom o ps) e
 
--- how many of the bodies have row j of segment i
-unfoldable pub heldAt : List (List ℕ) → (i j : ℕ) → ℕ
-unfolding held rowsOf
-heldAt bodies i j = held (map rowsOf bodies) (i * 32 + j)
+  -- how many of the bodies have row j of segment i
+  unfoldable pub heldAt : List (List ℕ) → (i j : ℕ) → ℕ
+  unfolding held rowsOf
+  heldAt bodies i j = held (map (rowsOf F) bodies) (i * width F + j)
 
--- the rows of an answer: a row that c of the bodies have is in it as `f c` says
-unfoldable pub answerRows : (ℕ → Bool) → List (List ℕ) → ℕ → Bool
-unfolding held rowsOf
-answerRows f bodies r = f (held (map rowsOf bodies) r)
+  -- the rows of an answer: a row that c of the bodies have is in it as `f c` says
+  unfoldable pub answerRows : (ℕ → Bool) → List (List ℕ) → ℕ → Bool
+  unfolding held rowsOf
+  answerRows f bodies r = f (held (map (rowsOf F) bodies) r)
 
--- and its segments, over R rows
-unfoldable pub answerSegments : (R : ℕ) → (ℕ → Bool) → List (List ℕ) → List Segment
-unfolding kinds fromRows answerRows
-answerSegments R f bodies = kinds 32 R (fromRows 32 R (answerRows f bodies))
+  -- and its segments, over R rows
+  unfoldable pub answerSegments : (R : ℕ) → (ℕ → Bool) → List (List ℕ) → List Segment
+  unfolding kinds fromRows answerRows
+  answerSegments R f bodies = kinds (width F) R (fromRows (width F) R (answerRows f bodies))
 
--- one stretch of n segments from segment o on, over bodies of R rows: `ones` of them are in a run of ones there and `dirty` on a
--- dirty word, and `extra j` of these words have bit j set. It ends at the first segment at which some piece ends
-pub record StretchAt (R : ℕ) (bodies : List (List ℕ)) (o n ones dirty : ℕ) (extra : ℕ → ℕ) : Type 0 where
-  pub some : 1 ≤ n
-  pub within : o + n ≤ segmentCount 32 R
-  pub clean : dirty ≡ 0 → (i : ℕ) → o ≤ i → i < o + n → (j : ℕ) → j < 32 → heldAt bodies i j ≡ ones
-  pub single : (dirty ≡ 0 → ⊥) → n ≡ 1
-  pub mixed : (dirty ≡ 0 → ⊥) → (j : ℕ) → j < 32 → heldAt bodies o j ≡ ones + extra j
-  pub next : countBelow (o + n) (endsAt bodies) ≡ countBelow o (endsAt bodies) + 1
+  -- one stretch of n segments from segment o on, over bodies of R rows: `ones` of them are in a run of ones there and `dirty` on a
+  -- dirty word, and `extra j` of these words have bit j set. It ends at the first segment at which some piece ends
+  pub record StretchAt (R : ℕ) (bodies : List (List ℕ)) (o n ones dirty : ℕ) (extra : ℕ → ℕ) : Type 0 where
+    pub some : 1 ≤ n
+    pub within : o + n ≤ segmentCount (width F) R
+    pub clean : dirty ≡ 0 → (i : ℕ) → o ≤ i → i < o + n → (j : ℕ) → j < width F → heldAt bodies i j ≡ ones
+    pub single : (dirty ≡ 0 → ⊥) → n ≡ 1
+    pub mixed : (dirty ≡ 0 → ⊥) → (j : ℕ) → j < width F → heldAt bodies o j ≡ ones + extra j
+    pub next : countBelow (o + n) (endsAt F bodies) ≡ countBelow o (endsAt F bodies) + 1

@@ -11,9 +11,9 @@ use Rattle.meaning.specs.Limits.{mostRows, mostNamed, histogramCounts}
 use Rattle.meaning.specs.Rows.{countBelow, nthBelow}
 use Rattle.meaning.specs.Segment.{segmentCount, lastLimit, lastOf, hasRow, fromRows}
 use Rattle.meaning.specs.Refusal.{Outcome, refused, answer, Verdict, sound, refuseIf, _then_}
-use Rattle.meaning.specs.Ewah.{bodyFault, rowsOf}
-use Rattle.meaning.specs.Canonical.{canonical}
-use Rattle.meaning.specs.Index.{rowCount, bitmapCount, bodyAt, rowsAt, indexFault}
+use Rattle.meaning.specs.Format.{rowsOf, bodyFault, canonical}
+use Rattle.meaning.specs.declared.Format.{Format}
+use Rattle.meaning.specs.Index.{formatOf, rowCount, bitmapCount, bodyAt, rowsAt, indexFault}
 use Rattle.meaning.specs.Question.{intersection, union, symmetricDifference, difference, complement, atLeast, byTable, histogramOf, stretches}
 
 -- ---- what a call that writes leaves and reports
@@ -66,9 +66,9 @@ unfolding fits fromRows
 askPlain R p room = fits room (fromRows 32 R p)
 
 -- the canonical body: every call that writes a body ends in this
-unfoldable pub write : (R : ℕ) → (ℕ → Bool) → (room : ℕ) → Outcome (List ℕ)
+unfoldable pub write : Format → (R : ℕ) → (ℕ → Bool) → (room : ℕ) → Outcome (List ℕ)
 unfolding fits canonical
-write R p room = fits room (canonical R p)
+write F R p room = fits room (canonical F R p)
 
 -- ---- a body alone: its rows are tested first; it is bitmap 0, and places are counted in it
 
@@ -77,33 +77,33 @@ unfoldable pub rowsFault : (R : ℕ) → Verdict
 unfolding refuseIf
 rowsFault R = refuseIf (ltb mostRows R) 3 0 1 sound
 
-module _ (R : ℕ) (body : List ℕ) where
+module _ (F : Format) (R : ℕ) (body : List ℕ) where
   -- `check_body`
   unfoldable pub checkBody : Verdict
-  unfolding rowsFault _then_ bodyFault
-  checkBody = rowsFault R then bodyFault 0 0 R body
+  unfolding rowsFault _then_
+  checkBody = rowsFault R then bodyFault F 0 0 R body
 
   -- `body_row`
   unfoldable pub bodyRow : (r : ℕ) → Outcome Bool
   unfolding checkBody _then_ askRow rowsOf
-  bodyRow r = checkBody then askRow R (rowsOf body) r
+  bodyRow r = checkBody then askRow R (rowsOf F body) r
 
   -- `body_count`
   unfoldable pub bodyCount : Outcome ℕ
   unfolding checkBody _then_ askCount rowsOf
-  bodyCount = checkBody then askCount R (rowsOf body)
+  bodyCount = checkBody then askCount R (rowsOf F body)
 
   -- `body_nth`
   unfoldable pub bodyNth : (n : ℕ) → Outcome ℕ
   unfolding checkBody _then_ askNth rowsOf
-  bodyNth n = checkBody then askNth R (rowsOf body) n
+  bodyNth n = checkBody then askNth R (rowsOf F body) n
 
   -- `expand`
   unfoldable pub expand : (room : ℕ) → Outcome (List ℕ)
   unfolding checkBody _then_ askPlain rowsOf
-  expand room = checkBody then askPlain R (rowsOf body) room
+  expand room = checkBody then askPlain R (rowsOf F body) room
 
--- the faults of plain words: 3 for the rows, 8 unless they are as many as the rows have segments, 7 at the last one, the only
+-- the faults of plain words: 3 for the rows, 8 unless they are as many as the rows take, 32 in each, 7 at the last one, the only
 -- one with pad bits, if one of these is set
 unfoldable pub plainFault : (R : ℕ) → List ℕ → Verdict
 unfolding rowsFault _then_ refuseIf segmentCount lastLimit lastOf
@@ -114,9 +114,9 @@ plainFault R plain =
     sound)
 
 -- `compress`
-unfoldable pub compress : (R : ℕ) → (plain : List ℕ) → (room : ℕ) → Outcome (List ℕ)
+unfoldable pub compress : Format → (R : ℕ) → (plain : List ℕ) → (room : ℕ) → Outcome (List ℕ)
 unfolding plainFault _then_ hasRow write
-compress R plain room = plainFault R plain then write R (hasRow 32 plain) room
+compress F R plain room = plainFault R plain then write F R (hasRow 32 plain) room
 
 -- ---- an index: the whole of it is checked first, whatever is asked
 
@@ -173,7 +173,7 @@ module _ (index : List ℕ) where
   unfolding badBitmap refuseIf write rowCount rowsAt
   askLogical op j k room =
       refuseIf (badBitmap j || badBitmap k) 8 0 0
-      (write (rowCount index) (op (rowsAt index j) (rowsAt index k)) room)
+      (write (formatOf index) (rowCount index) (op (rowsAt index j) (rowsAt index k)) room)
 
   unfoldable pub logical : ((ℕ → Bool) → (ℕ → Bool) → ℕ → Bool) → (j k room : ℕ) → Outcome (List ℕ)
   unfolding check _then_ askLogical
@@ -202,7 +202,7 @@ module _ (index : List ℕ) where
   -- of one bitmap; 8 if it is not there
   unfoldable pub askNot : (k room : ℕ) → Outcome (List ℕ)
   unfolding badBitmap refuseIf write rowCount rowsAt complement
-  askNot k room = refuseIf (badBitmap k) 8 0 0 (write (rowCount index) (complement (rowsAt index k)) room)
+  askNot k room = refuseIf (badBitmap k) 8 0 0 (write (formatOf index) (rowCount index) (complement (rowsAt index k)) room)
 
   -- `not`
   unfoldable pub notOf : (k room : ℕ) → Outcome (List ℕ)
@@ -244,7 +244,7 @@ module _ (index : List ℕ) where
 
   unfoldable pub askThreshold : (list : List ℕ) (T room : ℕ) → Outcome (List ℕ)
   unfolding badThreshold refuseIf write rowCount rightRows
-  askThreshold list T room = refuseIf (badThreshold list T) 8 0 0 (write (rowCount index) (rightRows list T) room)
+  askThreshold list T room = refuseIf (badThreshold list T) 8 0 0 (write (formatOf index) (rowCount index) (rightRows list T) room)
 
   -- `threshold`
   unfoldable pub threshold : (list : List ℕ) (T room : ℕ) → Outcome (List ℕ)
@@ -259,7 +259,7 @@ module _ (index : List ℕ) where
   unfoldable pub askSymmetric : (list table : List ℕ) (room : ℕ) → Outcome (List ℕ)
   unfolding badSymmetric refuseIf write rowCount byTable named
   askSymmetric list table room =
-      refuseIf (badSymmetric list table) 8 0 0 (write (rowCount index) (byTable table (named list)) room)
+      refuseIf (badSymmetric list table) 8 0 0 (write (formatOf index) (rowCount index) (byTable table (named list)) room)
 
   -- `symmetric`
   unfoldable pub symmetric : (list table : List ℕ) (room : ℕ) → Outcome (List ℕ)
@@ -279,4 +279,4 @@ module _ (index : List ℕ) where
   unfoldable pub stretchesReported : (list : List ℕ) → Outcome (List ℕ) → ℕ
   unfolding stretches rowCount namedBodies
   stretchesReported list (refused number bitmap word) = 0
-  stretchesReported list (answer words) = stretches (rowCount index) (namedBodies list)
+  stretchesReported list (answer words) = stretches (formatOf index) (rowCount index) (namedBodies list)

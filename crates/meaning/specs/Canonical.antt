@@ -2,14 +2,13 @@
 -- It is made segment by segment; `Paragraph` has the section's own account, by longest runs, and a law says that both agree.
 -- Assumes nothing.
 use Prim.Native.Nat.{ℕ, suc}
-use mathlib.Core.Bool.{Bool, cond, _&&_}
-use mathlib.Core.Path.{_≡_}
+use mathlib.Core.Bool.{cond, _&&_}
 use mathlib.Core.List.{List, [], _∷_, _++_, foldl}
 use lib.Dec.{eqb, ltb}
 use lib.ListN.{length}
 use Rattle.meaning.specs.Limits.{mostClean, mostDirty}
-use Rattle.meaning.specs.Segment.{Segment, clean, mixed, kinds, fromRows}
-use Rattle.meaning.specs.Ewah.{marker, rowsOf}
+use Rattle.meaning.specs.Segment.{Segment, clean, mixed}
+use Rattle.meaning.specs.Ewah.{marker}
 
 -- a body as it grows: nothing yet, or the words before the last marker, that marker's value and clean count, and its dirty words
 pub data Draft : Type 0 where
@@ -38,15 +37,6 @@ put (draft done v c ds) (mixed x) =
     cond (ltb (length ds) mostDirty) (draft done v c (ds ++ x ∷ [])) (opened (body (draft done v c ds)) (mixed x))
 
 -- the words of these segments; no segments give no words
-unfoldable pub canonicalOf : List Segment → List ℕ
+unfoldable pub ewahOf : List Segment → List ℕ
 unfolding body put
-canonicalOf ss = body (foldl put blank ss)
-
--- the canonical body of the R rows p: what every call that writes a body writes
-unfoldable pub canonical : (R : ℕ) → (ℕ → Bool) → List ℕ
-unfolding canonicalOf kinds fromRows
-canonical R p = canonicalOf (kinds 32 R (fromRows 32 R p))
-
--- a body of R rows is in canonical form
-abbrev pub Canonical : (R : ℕ) → List ℕ → Type 0
-Canonical R b = b ≡ canonical R (rowsOf b)
+ewahOf ss = body (foldl put blank ss)

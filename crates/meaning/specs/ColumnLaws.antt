@@ -8,11 +8,12 @@ use mathlib.Core.Logic.{_↔_}
 use mathlib.Core.List.{List}
 use lib.Dec.{leb}
 use lib.ListN.{length, getD}
-use Rattle.meaning.specs.Limits.{mostRows, mostColumn, mostValueColumn}
+use Rattle.meaning.specs.Limits.{mostRows, mostBitmaps, mostColumn, mostValueColumn}
 use Rattle.meaning.specs.Segment.{tabulate}
 use Rattle.meaning.specs.Refusal.{refused, answer, sound, refuseIf}
-use Rattle.meaning.specs.Canonical.{canonical, Canonical}
-use Rattle.meaning.specs.Index.{rowCount, bitmapCount, bodyAt, rowsAt, SoundIndex}
+use Rattle.meaning.specs.Format.{canonical, Canonical}
+use Rattle.meaning.specs.Index.{formatOf, rowCount, bitmapCount, bodyAt, rowsAt, SoundIndex}
+use Rattle.meaning.specs.declared.Format.{Format}
 use Rattle.meaning.specs.Answer.{check}
 use Rattle.meaning.specs.NewIndex.{indexOf}
 use Rattle.meaning.specs.Column.{valueOf, slice, slicesFrom, sumValue}
@@ -24,17 +25,20 @@ none r = false
 
 -- ---- a new index
 
--- it is sound and has R rows; its bitmaps are these sets, in this order, and each body is the canonical one of its set
-pub record NewIndex (R : ℕ) (ps : List (ℕ → Bool)) (index : List ℕ) : Type 0 where
+-- it is sound, has bodies of the format F and R rows; its bitmaps are these sets, in this order, and each body is the canonical one
+-- of its set
+pub record NewIndex (F : Format) (R : ℕ) (ps : List (ℕ → Bool)) (index : List ℕ) : Type 0 where
   pub is-sound : SoundIndex index
+  pub format : formatOf index ≡ F
   pub rows : rowCount index ≡ R
   pub count : bitmapCount index ≡ length ps
-  pub bodies : (k : ℕ) → k < length ps → bodyAt index k ≡ canonical R (getD ps k none)
+  pub bodies : (k : ℕ) → k < length ps → bodyAt index k ≡ canonical F R (getD ps k none)
   pub sets : (k r : ℕ) → k < length ps → r < R → rowsAt index k r ≡ getD ps k none r
 
--- which holds of what is written, for as many rows as an index may have and as many sets as a sum can have bitmaps
+-- which holds of what is written, for as many rows and as many bitmaps as an index may have
 abbrev pub NewIndexHolds : Type 0
-NewIndexHolds = (R : ℕ) (ps : List (ℕ → Bool)) → R ≤ mostRows → length ps ≤ mostValueColumn → NewIndex R ps (indexOf R ps)
+NewIndexHolds =
+    (F : Format) (R : ℕ) (ps : List (ℕ → Bool)) → R ≤ mostRows → length ps ≤ mostBitmaps → NewIndex F R ps (indexOf F R ps)
 
 -- ---- digits
 
@@ -115,7 +119,7 @@ pub record ValueOrder (index list : List ℕ) (r : ℕ) : Type 0 where
 
 -- the index that is the sum of two columns
 abbrev pub sumIndex : (index first second : List ℕ) → List ℕ
-sumIndex index first second = indexOf (rowCount index) (pairColumn index sumValue (suc (wider first second)) first second)
+sumIndex index first second = indexOf (formatOf index) (rowCount index) (pairColumn index sumValue (suc (wider first second)) first second)
 
 -- of a sum: the index's own faults; on a sound index a bad list, whatever strays; a stray, in the first column before the
 -- second, and whatever the room; 9 with the words needed, if there is less room; and else the answer
@@ -151,13 +155,14 @@ module _ (index first second : List ℕ) where
   abbrev pub inBoth : ℕ → Bool
   inBoth r = existing index first r && existing index second r
 
-  -- it is sound, has as many rows, and n + 1 bitmaps in canonical form; a row exists in it if it does in both; no slice has any other
+  -- it is sound, has the same format and as many rows, and n + 1 bitmaps in canonical form; a row exists in it if it does in both; no slice has any other
   -- row, so 11 is never given; and its value at a row is v, or 8 where there is no such row or it does not exist
   pub record ColumnOf (n : ℕ) (v : ℕ → ℕ) (out : List ℕ) : Type 0 where
     pub is-sound : SoundIndex out
+    pub format : formatOf out ≡ formatOf index
     pub rows : rowCount out ≡ rowCount index
     pub count : bitmapCount out ≡ suc n
-    pub forms : (k : ℕ) → k ≤ n → Canonical (rowCount index) (bodyAt out k)
+    pub forms : (k : ℕ) → k ≤ n → Canonical (formatOf index) (rowCount index) (bodyAt out k)
     pub exists : (r : ℕ) → r < rowCount index → rowsAt out 0 r ≡ inBoth r
     pub slices : (i r : ℕ) → i < n → r < rowCount index → rowsAt out (suc i) r ≡ slice inBoth v i r
     pub no-strays : strays out (whole n) ≡ sound

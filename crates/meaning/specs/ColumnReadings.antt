@@ -9,6 +9,7 @@ use lib.ListN.{length, replicate}
 use Rattle.meaning.specs.Question.{isIn}
 use Rattle.meaning.specs.Answer.{bufferAfter, wordsReported, partOf, check}
 use Rattle.meaning.specs.NewIndex.{indexOf}
+use Rattle.meaning.specs.declared.Format.the-variants.{Ewah}
 use Rattle.meaning.specs.Columns.{value, sum}
 use Rattle.meaning.specs.ColumnLaws.{none, whole}
 use Rattle.meaning.specs.Readings.{same, isSound, isRefused, isAnswer, isNumber}
@@ -33,7 +34,7 @@ pub data ColumnReading : Type 0 where
 -- the reading holds of the definitions
 unfoldable pub columnPasses : ColumnReading → Bool
 unfolding same isSound isRefused isAnswer isNumber partOf check indexOf value sum bufferAfter wordsReported
-columnPasses (makes R sets words) = same (indexOf R sets) words && isSound (check words)
+columnPasses (makes R sets words) = same (indexOf Ewah R sets) words && isSound (check words)
 columnPasses (gives index list r v) = isNumber (value index list r) v
 columnPasses (denies index list r number bitmap word) = isRefused (value index list r) number bitmap word
 columnPasses (adds index first second words) =
@@ -69,6 +70,13 @@ abbrev pub threeSum : List ℕ
 threeSum =
     1 ∷ 3 ∷ 4 ∷ 11 ∷ 2 ∷ 13 ∷ 1 ∷ 14 ∷ 2 ∷ 16 ∷ 2
     ∷ 0x00020000 ∷ 0x5 ∷ 0x00000002 ∷ 0x00020000 ∷ 0x1 ∷ 0x00020000 ∷ 0x4 ∷ []
+
+-- both with WAH bodies
+abbrev pub threeWah : List ℕ
+threeWah = 2 ∷ 3 ∷ 6 ∷ 15 ∷ 1 ∷ 16 ∷ 1 ∷ 17 ∷ 1 ∷ 18 ∷ 1 ∷ 19 ∷ 1 ∷ 20 ∷ 1 ∷ 0x7 ∷ 0x5 ∷ 0x6 ∷ 0x5 ∷ 0x5 ∷ 0 ∷ []
+
+abbrev pub threeWahSum : List ℕ
+threeWahSum = 2 ∷ 3 ∷ 4 ∷ 11 ∷ 1 ∷ 12 ∷ 1 ∷ 13 ∷ 1 ∷ 14 ∷ 1 ∷ 0x5 ∷ 0 ∷ 0x1 ∷ 0x4 ∷ []
 
 -- 40 rows. Bitmap 0 has all of them, 1 rows 0 and 39, 2 rows 0 to 31, 3 none
 abbrev pub fortyRows : List ℕ
@@ -115,6 +123,8 @@ valueReadings =
     -- each row's value; the lowest slice comes first; a number named twice, and the whole of 33 slices
     gives threeRows (triple 0 1 2) 0 1
     ∷ gives threeRows (triple 0 1 2) 1 2
+    ∷ gives threeWah (triple 0 1 2) 2 3
+    ∷ denies threeWah (two 3 2) 0 11 2 1
     ∷ gives threeRows (triple 0 1 2) 2 3
     ∷ gives threeRows (triple 0 2 1) 0 2
     ∷ gives threeRows (triple 0 0 0) 1 3
@@ -157,7 +167,7 @@ valueReadings =
     ∷ denies threeRows (two 5 1) 0 8 0 0
     ∷ denies threeRows (triple 3 2 6) 0 8 0 0
     -- the index's own faults before 8
-    ∷ denies (2 ∷ 3 ∷ 0 ∷ []) [] 9 2 0 0
+    ∷ denies (3 ∷ 3 ∷ 0 ∷ []) [] 9 2 0 0
     ∷ []
 
 -- sums
@@ -165,6 +175,7 @@ unfoldable pub sumReadings : List ColumnReading
 sumReadings =
     -- of 2 slices and of 1, and of 1 and of 2
     adds threeRows (triple 0 1 2) (two 3 4) threeSum
+    ∷ adds threeWah (triple 0 1 2) (two 3 4) threeWahSum
     ∷ adds threeRows (two 3 4) (triple 0 1 2) threeSum
     -- 7 and 1: a carry out of every slice
     ∷ adds threeRows (0 ∷ triple 0 0 0) (two 0 0)
@@ -226,7 +237,7 @@ sumReadings =
     ∷ declines threeRows (two 0 1) (two 3 2) 0 11 2 1
     ∷ declines threeRows (triple 0 1 2) (two 3 4) 0 9 0 18
     -- the index's own faults before 8
-    ∷ declines (2 ∷ 3 ∷ 0 ∷ []) [] [] 0 2 0 0
+    ∷ declines (3 ∷ 3 ∷ 0 ∷ []) [] [] 0 2 0 0
     ∷ []
 
 -- all of them

@@ -9,7 +9,7 @@ use lib.ListN.{length}
 use Rattle.meaning.specs.Limits.{leastColumn, mostColumn, mostValueColumn}
 use Rattle.meaning.specs.Rows.{countBelow, nthBelow}
 use Rattle.meaning.specs.Refusal.{Outcome, answer, Verdict, sound, refuseIf, _then_}
-use Rattle.meaning.specs.Index.{rowCount, rowsAt}
+use Rattle.meaning.specs.Index.{formatOf, rowCount, rowsAt}
 use Rattle.meaning.specs.Question.{intersection, difference}
 use Rattle.meaning.specs.Answer.{check, anyBad, named}
 use Rattle.meaning.specs.NewIndex.{writeIndex}
@@ -103,7 +103,7 @@ module _ (index : List ℕ) where
   unfolding _then_ refuseIf badColumn strays writeIndex rowCount pairColumn
   askPair op n first second room =
       refuseIf (badColumn mostColumn first || badColumn mostColumn second) 8 0 0
-      (strays first then strays second then writeIndex (rowCount index) (pairColumn op n first second) room)
+      (strays first then strays second then writeIndex (formatOf index) (rowCount index) (pairColumn op n first second) room)
 
   -- the sum has one slice more than the wider column
   unfoldable pub askSum : (first second : List ℕ) (room : ℕ) → Outcome (List ℕ)

@@ -12,9 +12,9 @@ use Rattle.meaning.specs.Limits.{mostRows, mostNamed, wordBits}
 use Rattle.meaning.specs.Rows.{countBelow, nthBelow}
 use Rattle.meaning.specs.Segment.{hasRow, segmentCount, lastLimit, lastOf}
 use Rattle.meaning.specs.Refusal.{Outcome, refused, answer, sound}
-use Rattle.meaning.specs.Ewah.{Sound, rowsOf}
-use Rattle.meaning.specs.Canonical.{Canonical, canonical}
-use Rattle.meaning.specs.Index.{SoundIndex, rowCount, bitmapCount}
+use Rattle.meaning.specs.Format.{Sound, rowsOf, Canonical, canonical}
+use Rattle.meaning.specs.declared.Format.{Format}
+use Rattle.meaning.specs.Index.{SoundIndex, formatOf, rowCount, bitmapCount}
 use Rattle.meaning.specs.Question.{held, histogramOf, sumOf, totalWords}
 use Rattle.meaning.specs.Answer.{bufferAfter, check, badThreshold, named, namedBodies, rightRows, threshold, symmetric, expand, compress, wordsReported, stretchesReported}
 
@@ -23,21 +23,21 @@ abbrev pub Words : List ℕ → Type 0
 Words ws = (i : ℕ) → getD ws i 0 < 2 ^ wordBits
 
 -- of R rows the body has exactly those of p
-abbrev pub Exactly : (R : ℕ) → (ℕ → Bool) → List ℕ → Type 0
-Exactly R p b = (r : ℕ) → r < R → rowsOf b r ≡ p r
+abbrev pub Exactly : Format → (R : ℕ) → (ℕ → Bool) → List ℕ → Type 0
+Exactly F R p b = (r : ℕ) → r < R → rowsOf F b r ≡ p r
 
 -- a sound body of R rows, of 32-bit words, with exactly the rows p
-pub record BodyOf (R : ℕ) (p : ℕ → Bool) (b : List ℕ) : Type 0 where
+pub record BodyOf (F : Format) (R : ℕ) (p : ℕ → Bool) (b : List ℕ) : Type 0 where
   pub words : Words b
-  pub isSound : Sound R b
-  pub rows : Exactly R p b
+  pub isSound : Sound F R b
+  pub rows : Exactly F R p b
 
--- n is the number of words of some such body, and no such body has fewer
-pub record Fewest (R : ℕ) (p : ℕ → Bool) (n : ℕ) : Type 0 where
-  pub reached : (b : List ℕ) × BodyOf R p b × (length b ≡ n)
-  pub least : (b : List ℕ) → BodyOf R p b → n ≤ length b
+-- n is the number of words of some such body, and no such body has fewer: among the bodies of one format
+pub record Fewest (F : Format) (R : ℕ) (p : ℕ → Bool) (n : ℕ) : Type 0 where
+  pub reached : (b : List ℕ) × BodyOf F R p b × (length b ≡ n)
+  pub least : (b : List ℕ) → BodyOf F R p b → n ≤ length b
 
--- ---- demand 3, of any question on R rows whose right rows are p: of its outcome and of the buffer left behind
+-- ---- demand 3, of any question on R rows whose answer has the format F and whose right rows are p: of its outcome and of the buffer left behind
 
 -- refused with 9 and n; the buffer is as it was
 pub record NoRoom (n : ℕ) (buffer : List ℕ) (o : Outcome (List ℕ)) (buffer′ : List ℕ) : Type 0 where
@@ -45,23 +45,23 @@ pub record NoRoom (n : ℕ) (buffer : List ℕ) (o : Outcome (List ℕ)) (buffer
   pub kept : buffer′ ≡ buffer
 
 -- answered: the buffer begins with a body in canonical form that has exactly the rows p and n words, and goes on as before
-pub record Written (R : ℕ) (p : ℕ → Bool) (n : ℕ) (buffer : List ℕ) (o : Outcome (List ℕ)) (buffer′ : List ℕ) : Type 0 where
+pub record Written (F : Format) (R : ℕ) (p : ℕ → Bool) (n : ℕ) (buffer : List ℕ) (o : Outcome (List ℕ)) (buffer′ : List ℕ) : Type 0 where
   pub body : List ℕ
   pub answered : o ≡ answer body
   pub buffer-is : buffer′ ≡ body ++ drop (length body) buffer
-  pub form : Canonical R body
-  pub right : BodyOf R p body
+  pub form : Canonical F R body
+  pub right : BodyOf F R p body
   pub fewest : length body ≡ n
 
 -- `bodies` are those that the question names
-pub record Demand3 (R : ℕ) (p : ℕ → Bool) (bodies : List (List ℕ)) (buffer : List ℕ) (o : Outcome (List ℕ)) (buffer′ : List ℕ) : Type 0 where
+pub record Demand3 (F : Format) (R : ℕ) (p : ℕ → Bool) (bodies : List (List ℕ)) (buffer : List ℕ) (o : Outcome (List ℕ)) (buffer′ : List ℕ) : Type 0 where
   -- the words needed are the fewest of any body with the right rows
   pub least : ℕ
-  pub least-is : Fewest R p least
+  pub least-is : Fewest F R p least
   -- where the buffer is shorter, 9 with that number
   pub no-room : length buffer < least → NoRoom least buffer o buffer′
   -- where it is not, the body
-  pub room : least ≤ length buffer → Written R p least buffer o buffer′
+  pub room : least ≤ length buffer → Written F R p least buffer o buffer′
   -- twice the words of the named bodies is always enough
   pub enough : least ≤ 2 * totalWords bodies
 
@@ -83,7 +83,7 @@ AskedMeans = (index list : List ℕ) (T : ℕ) → Asked index list T ↔ ((chec
 pub record ThresholdDemand (index list : List ℕ) (T : ℕ) (buffer : List ℕ) (o : Outcome (List ℕ)) (buffer′ : List ℕ) : Type 0 where
   -- the right rows are those that at least T of the list have, and no others
   pub right : (r : ℕ) → (rightRows index list T r ≡ true) ↔ (T ≤ held (named index list) r)
-  pub demand : Demand3 (rowCount index) (rightRows index list T) (namedBodies index list) buffer o buffer′
+  pub demand : Demand3 (formatOf index) (rowCount index) (rightRows index list T) (namedBodies index list) buffer o buffer′
 
 -- it holds, for every buffer
 abbrev pub ThresholdHolds : Type 0
@@ -103,16 +103,17 @@ pub record PlainRows (R : ℕ) (plain : List ℕ) : Type 0 where
 pub record Demand2 : Type 0 where
   -- a row is in a threshold answer exactly if at least T of the named bitmaps have it
   pub in-answer : (index list : List ℕ) (T room : ℕ) (b : List ℕ) → threshold index list T room ≡ answer b
-      → (r : ℕ) → r < rowCount index → (rowsOf b r ≡ true) ↔ (T ≤ held (named index list) r)
+      → (r : ℕ) → r < rowCount index → (rowsOf (formatOf index) b r ≡ true) ↔ (T ≤ held (named index list) r)
   -- plain rows that were written read back as they were
-  pub write-read : (R : ℕ) (plain : List ℕ) (room room′ : ℕ) → PlainRows R plain → segmentCount 32 R ≤ room′
-      → (b : List ℕ) → compress R plain room ≡ answer b → expand R b room′ ≡ answer plain
+  pub write-read : (F : Format) (R : ℕ) (plain : List ℕ) (room room′ : ℕ) → PlainRows R plain → segmentCount 32 R ≤ room′
+      → (b : List ℕ) → compress F R plain room ≡ answer b → expand F R b room′ ≡ answer plain
   -- and they are written, given room for their canonical body
-  pub write-fits : (R : ℕ) (plain : List ℕ) (room : ℕ) → PlainRows R plain → length (canonical R (hasRow 32 plain)) ≤ room
-      → compress R plain room ≡ answer (canonical R (hasRow 32 plain))
+  pub write-fits : (F : Format) (R : ℕ) (plain : List ℕ) (room : ℕ) → PlainRows R plain → length (canonical F R (hasRow 32 plain)) ≤ room
+      → compress F R plain room ≡ answer (canonical F R (hasRow 32 plain))
   -- a sound body that is read and written again becomes its canonical form
-  pub read-write : (R : ℕ) (b : List ℕ) (room room′ : ℕ) → R ≤ mostRows → Sound R b → segmentCount 32 R ≤ room → length (canonical R (rowsOf b)) ≤ room′
-      → (plain : List ℕ) × (expand R b room ≡ answer plain) × (compress R plain room′ ≡ answer (canonical R (rowsOf b)))
+  pub read-write : (F : Format) (R : ℕ) (b : List ℕ) (room room′ : ℕ) → R ≤ mostRows → Sound F R b
+      → segmentCount 32 R ≤ room → length (canonical F R (rowsOf F b)) ≤ room′
+      → (plain : List ℕ) × (expand F R b room ≡ answer plain) × (compress F R plain room′ ≡ answer (canonical F R (rowsOf F b)))
 
 -- ---- what the other questions mean, as facts
 

@@ -3,11 +3,11 @@
 -- Assumes nothing.
 use Prim.Native.Nat.{ℕ, zero, suc, _+_, _-_, _*_, _/_, _%_}
 use mathlib.Core.Bool.{Bool}
-use mathlib.Core.Path.{_≡_}
 use mathlib.Core.List.{List, [], _∷_, _++_}
 use lib.Dec.{ltb}
 use lib.ListN.{length, replicate}
 use Rattle.meaning.specs.Segment.{fill, segmentCount, overPad, hasRow}
+use Rattle.meaning.specs.Piece.{Piece, dirtyWord, runThen}
 use Rattle.meaning.specs.Refusal.{Verdict, sound, refuseIf}
 
 -- ---- a marker
@@ -30,16 +30,6 @@ marker v c d = v + 2 * c + 131072 * d
 
 -- ---- pieces. A body is read word by word; `due` is how many dirty words of the last marker are still to come
 
--- what a body is made of: the clean run of one marker, or one dirty word
-pub data Piece : Type 0 where
-  cleanRun : (v n : ℕ) → Piece
-  dirtyWord : (x : ℕ) → Piece
-
--- a marker whose clean count is zero has no clean run
-unfoldable pub runThen : (v n : ℕ) → List Piece → List Piece
-runThen v zero ps = ps
-runThen v (suc n) ps = cleanRun v (suc n) ∷ ps
-
 -- the pieces of a body: of each marker its clean run, and then its dirty words
 unfoldable pub pieces : (due : ℕ) → List ℕ → List Piece
 unfolding runThen valueOf cleanOf dirtyOf
@@ -47,19 +37,7 @@ pieces due [] = []
 pieces zero (m ∷ ws) = runThen (valueOf m) (cleanOf m) (pieces (dirtyOf m) ws)
 pieces (suc due) (w ∷ ws) = dirtyWord w ∷ pieces due ws
 
--- how many segments a piece covers
-unfoldable pub pieceSize : Piece → ℕ
-pieceSize (cleanRun v n) = n
-pieceSize (dirtyWord x) = 1
-
--- the word of the last piece if that is a dirty word, and else 0
-unfoldable pub lastDirty : List Piece → ℕ
-lastDirty [] = 0
-lastDirty (cleanRun v n ∷ []) = 0
-lastDirty (dirtyWord x ∷ []) = x
-lastDirty (p ∷ q ∷ ps) = lastDirty (q ∷ ps)
-
--- the segments that a body's pieces stand for, in order (paper 01: the pieces spell them)
+-- the segments that a body's pieces stand for, in order
 unfoldable pub decode : (due : ℕ) → List ℕ → List ℕ
 unfolding valueOf cleanOf dirtyOf fill
 decode due [] = []
@@ -71,9 +49,9 @@ abbrev pub segments : List ℕ → List ℕ
 segments body = decode 0 body
 
 -- the rows of a body; only those below R are asked for, so a run of ones over the last segment means its real rows
-unfoldable pub rowsOf : List ℕ → ℕ → Bool
+unfoldable pub ewahRows : List ℕ → ℕ → Bool
 unfolding hasRow decode
-rowsOf body r = hasRow 32 (segments body) r
+ewahRows body r = hasRow 32 (segments body) r
 
 -- how many dirty words are still due after these words
 unfoldable pub dueAfter : (due : ℕ) → List ℕ → ℕ
@@ -101,10 +79,6 @@ module _ (bitmap R : ℕ) where
       (faultFrom (suc place) due (left - 1) ws)
 
 -- the first fault of bitmap number `bitmap`, a body of R rows whose first word has the place `place`
-unfoldable pub bodyFault : (bitmap place R : ℕ) → List ℕ → Verdict
+unfoldable pub ewahFault : (bitmap place R : ℕ) → List ℕ → Verdict
 unfolding faultFrom segmentCount
-bodyFault bitmap place R body = faultFrom bitmap R place 0 (segmentCount 32 R) body
-
--- a body of R rows has no fault
-abbrev pub Sound : (R : ℕ) → List ℕ → Type 0
-Sound R body = bodyFault 0 0 R body ≡ sound
+ewahFault bitmap place R body = faultFrom bitmap R place 0 (segmentCount 32 R) body

@@ -1,14 +1,24 @@
 -- An index: its contents, the bodies that they name, and its first fault. Section "The index" and the order of "Numbers of refusal".
 -- Assumes nothing.
 use Prim.Native.Nat.{ℕ, zero, suc, _+_, _*_}
-use mathlib.Core.Bool.{Bool, not}
+use mathlib.Core.Bool.{Bool, cond, not, _||_}
 use mathlib.Core.Path.{_≡_}
 use mathlib.Core.List.{List}
 use lib.Dec.{eqb, ltb}
 use lib.ListN.{length, getD, take, drop}
-use Rattle.meaning.specs.Limits.{mostRows, mostBitmaps, mostIndexWords, indexKind, headWords, entryWords}
+use Rattle.meaning.specs.Limits.{mostRows, mostBitmaps, mostIndexWords, ewahKind, wahKind, headWords, entryWords}
 use Rattle.meaning.specs.Refusal.{Verdict, sound, refuseIf, _then_}
-use Rattle.meaning.specs.Ewah.{bodyFault, rowsOf}
+use Rattle.meaning.specs.Format.{rowsOf, bodyFault}
+use Rattle.meaning.specs.declared.Format.{Format}
+use Rattle.meaning.specs.declared.Format.the-variants.{Ewah, Wah}
+
+-- word 0 states one of the two kinds
+unfoldable pub isKind : ℕ → Bool
+isKind x = eqb x ewahKind || eqb x wahKind
+
+-- and with it the format of the bodies
+unfoldable pub formatOf : List ℕ → Format
+formatOf index = cond (eqb (getD index 0 0) wahKind) Wah Ewah
 
 -- word 1: the rows, paper 01's R
 unfoldable pub rowCount : List ℕ → ℕ
@@ -45,8 +55,8 @@ bodyAt index k = take (lengthOf index k) (drop (startOf index k) index)
 
 -- the rows of bitmap k
 unfoldable pub rowsAt : List ℕ → ℕ → ℕ → Bool
-unfolding rowsOf bodyAt
-rowsAt index k r = rowsOf (bodyAt index k) r
+unfolding formatOf rowsOf bodyAt
+rowsAt index k r = rowsOf (formatOf index) (bodyAt index k) r
 
 -- ---- faults: the first one
 
@@ -65,17 +75,17 @@ module _ (index : List ℕ) where
 
   -- of the bodies k, k + 1, .. , `more` in all, with places counted from word 0 of the index
   unfoldable pub bodiesFault : (k more : ℕ) → Verdict
-  unfolding _then_ bodyFault startOf rowCount bodyAt
+  unfolding _then_ formatOf startOf rowCount bodyAt
   bodiesFault k zero = sound
-  bodiesFault k (suc more) = bodyFault k (startOf index k) (rowCount index) (bodyAt index k) then bodiesFault (suc k) more
+  bodiesFault k (suc more) = bodyFault (formatOf index) k (startOf index k) (rowCount index) (bodyAt index k) then bodiesFault (suc k) more
 
-  -- of the head: 3 for the index's length, 1 below three words, 2, 3 for rows, 3 for N, 1 below the end of the contents
+  -- of the head: 3 for the index's length, 1 below three words, 2 for the kind, 3 for rows, 3 for N, 1 below the end of the contents
   unfoldable pub headFault : Verdict
-  unfolding refuseIf rowCount bitmapCount entryPlace
+  unfolding refuseIf isKind rowCount bitmapCount entryPlace
   headFault =
       refuseIf (ltb mostIndexWords (length index)) 3 0 0
       (refuseIf (ltb (length index) headWords) 1 0 (length index)
-      (refuseIf (not (eqb (getD index 0 0) indexKind)) 2 0 0
+      (refuseIf (not (isKind (getD index 0 0))) 2 0 0
       (refuseIf (ltb mostRows (rowCount index)) 3 0 1
       (refuseIf (ltb mostBitmaps (bitmapCount index)) 3 0 2
       (refuseIf (ltb (length index) (entryPlace index (bitmapCount index))) 1 0 (length index)

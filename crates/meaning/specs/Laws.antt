@@ -1,46 +1,72 @@
--- What holds of the definitions, for a reader to find in one place. `BodyLaws` is proved in `proofs/Lawful`, `IndexMeans` in
+-- What holds of the definitions, for a reader to find in one place. `BodyLaws` and `EwahLaws` are proved in `proofs/Lawful`, `IndexMeans` in
 -- `IndexSound`, `PartLaws` in `BitmapPart`, `AnswerLaws` in `Answering`.
 -- Assumes nothing.
-use Prim.Native.Nat.{ℕ, suc, _+_, _≤_, _<_}
+use Prim.Native.Nat.{ℕ, _+_, _≤_, _<_}
 use mathlib.Core.Bool.{Bool}
 use mathlib.Core.Path.{_≡_}
 use mathlib.Core.Logic.{_↔_}
 use mathlib.Core.List.{List, [], foldl}
 use lib.ListN.{length, getD, replicate}
-use Rattle.meaning.specs.Limits.{mostClean, mostRows, mostBitmaps, mostIndexWords, indexKind, headWords, histogramCounts}
+use Rattle.meaning.specs.Limits.{mostClean, mostRows, mostBitmaps, mostIndexWords, headWords, histogramCounts}
 use Rattle.meaning.specs.Segment.{Segment, clean, segmentCount, lastLimit}
 use Rattle.meaning.specs.Refusal.{refused, answer, sound}
-use Rattle.meaning.specs.Ewah.{Sound, segments, rowsOf, dueAfter, pieces, lastDirty}
-use Rattle.meaning.specs.Canonical.{Draft, body, put, canonicalOf, canonical, Canonical}
-use Rattle.meaning.specs.Index.{rowCount, bitmapCount, entryPlace, startOf, bodyPlace, bodyAt, rowsAt, SoundIndex}
+use Rattle.meaning.specs.Piece.{lastDirty, flat}
+use Rattle.meaning.specs.Ewah.{segments, dueAfter, pieces}
+use Rattle.meaning.specs.Canonical.{Draft, body, put, ewahOf}
+use Rattle.meaning.specs.Wah.{wahSegments, wahPieces}
+use Rattle.meaning.specs.Format.{kindOf, width, piecesOf, segmentsOf, rowsOf, Sound, canonical, Canonical}
+use Rattle.meaning.specs.declared.Format.{Format}
+use Rattle.meaning.specs.declared.Format.the-variants.{Ewah, Wah}
+use Rattle.meaning.specs.Index.{formatOf, rowCount, bitmapCount, entryPlace, startOf, bodyPlace, bodyAt, rowsAt, SoundIndex}
 use Rattle.meaning.specs.Question.{complement, byTable, sumOf}
 use Rattle.meaning.specs.Answer.{bitmap, bitmapRefusal, partOf, logical, notOf, named, rightRows, threshold, symmetric, histogram}
 use Rattle.meaning.specs.Demands.{BodyOf, Fewest}
 use Rattle.meaning.specs.Paragraph.{groups, groupsWords}
+use Rattle.meaning.specs.Ahead.{NoneEmpty}
 
--- the plain facts of a sound body of R rows: its last marker has all its dirty words, it stands for as many segments as
+-- the plain facts of a sound EWAH body of R rows: its last marker has all its dirty words, it stands for as many segments as
 -- R rows have, and a dirty word that is the last of them sets no pad bit
-pub record SoundFacts (R : ℕ) (b : List ℕ) : Type 0 where
+pub record EwahFacts (R : ℕ) (b : List ℕ) : Type 0 where
   pub ended : dueAfter 0 b ≡ 0
   pub count : length (segments b) ≡ segmentCount 32 R
   pub pads : lastDirty (pieces 0 b) < lastLimit 32 R
 
-pub record BodyLaws : Type 0 where
+-- of a sound WAH body: no fill has no segments, it stands for as many as R rows have, and a literal that is the last of them sets
+-- no pad bit
+pub record WahFacts (R : ℕ) (b : List ℕ) : Type 0 where
+  pub some : NoneEmpty (wahPieces b)
+  pub count : length (wahSegments b) ≡ segmentCount 31 R
+  pub pads : lastDirty (wahPieces b) < lastLimit 31 R
+
+abbrev pub SoundFacts : Format → (R : ℕ) → List ℕ → Type 0
+SoundFacts Ewah R b = EwahFacts R b
+SoundFacts Wah R b = WahFacts R b
+
+-- of both formats
+pub record BodyLaws (F : Format) : Type 0 where
+  -- the pieces of a body spell its segments
+  pub spells : (b : List ℕ) → flat (width F) (piecesOf F b) ≡ segmentsOf F b
   -- a body is sound exactly if these facts hold
-  pub sound-means : (R : ℕ) (b : List ℕ) → Sound R b ↔ SoundFacts R b
+  pub sound-means : (R : ℕ) (b : List ℕ) → Sound F R b ↔ SoundFacts F R b
   -- the canonical body of a set of rows is a sound body of 32-bit words with exactly these rows
-  pub is-body : (R : ℕ) (p : ℕ → Bool) → BodyOf R p (canonical R p)
+  pub is-body : (R : ℕ) (p : ℕ → Bool) → BodyOf F R p (canonical F R p)
   -- it is in canonical form
-  pub is-canonical : (R : ℕ) (p : ℕ → Bool) → Canonical R (canonical R p)
-  -- no sound body of 32-bit words with exactly these rows has fewer words
-  pub least : (R : ℕ) (p : ℕ → Bool) → Fewest R p (length (canonical R p))
+  pub is-canonical : (R : ℕ) (p : ℕ → Bool) → Canonical F R (canonical F R p)
+  -- no sound body of this format, of 32-bit words, with exactly these rows has fewer words
+  pub least : (R : ℕ) (p : ℕ → Bool) → Fewest F R p (length (canonical F R p))
   -- equal rows give equal words
-  pub same-rows : (R : ℕ) (p q : ℕ → Bool) → ((r : ℕ) → r < R → p r ≡ q r) → canonical R p ≡ canonical R q
+  pub same-rows : (R : ℕ) (p q : ℕ → Bool) → ((r : ℕ) → r < R → p r ≡ q r) → canonical F R p ≡ canonical F R q
+  pub no-rows : (p : ℕ → Bool) → canonical F 0 p ≡ []
+  -- written anew in any format, a body keeps its rows; and back again it is in canonical form
+  pub rewrite-keeps : (G : Format) (R : ℕ) (b : List ℕ) → BodyOf G R (rowsOf F b) (canonical G R (rowsOf F b))
+  pub rewrite-back : (G : Format) (R : ℕ) (b : List ℕ) → canonical F R (rowsOf G (canonical G R (rowsOf F b))) ≡ canonical F R (rowsOf F b)
+
+-- of EWAH
+pub record EwahLaws : Type 0 where
   -- the canonical form is the one that paper 01 tells by longest runs; of no segments it has no words
-  pub by-runs : (ss : List Segment) → canonicalOf ss ≡ groupsWords (groups ss)
-  pub no-rows : (p : ℕ → Bool) → canonical 0 p ≡ []
+  pub by-runs : (ss : List Segment) → ewahOf ss ≡ groupsWords (groups ss)
   -- more rows never need fewer words: k rows more behind the same R rows
-  pub never-shorter : (R k : ℕ) (p q : ℕ → Bool) → ((r : ℕ) → r < R → p r ≡ q r) → length (canonical R p) ≤ length (canonical (R + k) q)
+  pub never-shorter : (R k : ℕ) (p q : ℕ → Bool) → ((r : ℕ) → r < R → p r ≡ q r) → length (canonical Ewah R p) ≤ length (canonical Ewah (R + k) q)
   -- a clean run that one marker can hold adds at most one word, and one segment at most two
   pub run-adds : (d : Draft) (v n : ℕ) → n ≤ mostClean → length (body (foldl put d (replicate n (clean v)))) ≤ length (body d) + 1
   pub segment-adds : (d : Draft) (s : Segment) → length (body (put d s)) ≤ length (body d) + 2
@@ -51,7 +77,7 @@ pub record BodyLaws : Type 0 where
 pub record HeadFacts (index : List ℕ) : Type 0 where
   pub few-words : length index ≤ mostIndexWords
   pub head : headWords ≤ length index
-  pub kind : getD index 0 0 ≡ indexKind
+  pub kind : getD index 0 0 ≡ kindOf (formatOf index)
   pub few-rows : rowCount index ≤ mostRows
   pub few-bitmaps : bitmapCount index ≤ mostBitmaps
   pub contents : entryPlace index (bitmapCount index) ≤ length index
@@ -66,7 +92,7 @@ pub record EntryFacts (index : List ℕ) : Type 0 where
 pub record IndexFacts (index : List ℕ) : Type 0 where
   pub head : HeadFacts index
   pub entries : EntryFacts index
-  pub bodies : (k : ℕ) → k < bitmapCount index → SoundFacts (rowCount index) (bodyAt index k)
+  pub bodies : (k : ℕ) → k < bitmapCount index → SoundFacts (formatOf index) (rowCount index) (bodyAt index k)
 
 -- an index is sound exactly if these facts hold
 abbrev pub IndexMeans : Type 0
@@ -77,8 +103,8 @@ pub record Known (index : List ℕ) (k : ℕ) : Type 0 where
   pub facts : IndexFacts index
   pub below : k < bitmapCount index
   pub part : partOf (bitmap index k) ≡ bodyAt index k
-  pub is-sound : SoundFacts (rowCount index) (partOf (bitmap index k))
-  pub rows : (r : ℕ) → rowsAt index k r ≡ rowsOf (partOf (bitmap index k)) r
+  pub is-sound : SoundFacts (formatOf index) (rowCount index) (partOf (bitmap index k))
+  pub rows : (r : ℕ) → rowsAt index k r ≡ rowsOf (formatOf index) (partOf (bitmap index k)) r
 
 pub record PartLaws : Type 0 where
   pub known : (index : List ℕ) (k : ℕ) → bitmapRefusal index k ≡ sound → Known index k
@@ -88,17 +114,17 @@ pub record PartLaws : Type 0 where
 -- ---- what is written
 
 -- a sound body in canonical form with exactly the rows p
-pub record Answers (R : ℕ) (p : ℕ → Bool) (b : List ℕ) : Type 0 where
-  pub right : BodyOf R p b
-  pub form : Canonical R b
+pub record Answers (F : Format) (R : ℕ) (p : ℕ → Bool) (b : List ℕ) : Type 0 where
+  pub right : BodyOf F R p b
+  pub form : Canonical F R b
 
 -- each question over bitmaps agrees with the rows, NOT and tables that say yes at 0 included
 pub record AnswerLaws : Type 0 where
   pub of-pair : (index : List ℕ) (op : (ℕ → Bool) → (ℕ → Bool) → ℕ → Bool) (j k room : ℕ) (b : List ℕ) → logical index op j k room ≡ answer b
-      → Answers (rowCount index) (op (rowsAt index j) (rowsAt index k)) b
-  pub of-not : (index : List ℕ) (k room : ℕ) (b : List ℕ) → notOf index k room ≡ answer b → Answers (rowCount index) (complement (rowsAt index k)) b
-  pub of-threshold : (index list : List ℕ) (T room : ℕ) (b : List ℕ) → threshold index list T room ≡ answer b → Answers (rowCount index) (rightRows index list T) b
+      → Answers (formatOf index) (rowCount index) (op (rowsAt index j) (rowsAt index k)) b
+  pub of-not : (index : List ℕ) (k room : ℕ) (b : List ℕ) → notOf index k room ≡ answer b → Answers (formatOf index) (rowCount index) (complement (rowsAt index k)) b
+  pub of-threshold : (index list : List ℕ) (T room : ℕ) (b : List ℕ) → threshold index list T room ≡ answer b → Answers (formatOf index) (rowCount index) (rightRows index list T) b
   pub of-symmetric : (index list table : List ℕ) (room : ℕ) (b : List ℕ) → symmetric index list table room ≡ answer b
-      → Answers (rowCount index) (byTable table (named index list)) b
+      → Answers (formatOf index) (rowCount index) (byTable table (named index list)) b
   -- a histogram has an entry for each number of holders, and they add up to the rows
   pub of-histogram : (index list entries : List ℕ) → histogram index list ≡ answer entries → (length entries ≡ histogramCounts) × (sumOf entries ≡ rowCount index)

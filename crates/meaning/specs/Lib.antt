@@ -3,8 +3,11 @@ pub mod Limits
 pub mod Rows
 pub mod Segment
 pub mod Refusal
+pub mod Piece
 pub mod Ewah
 pub mod Canonical
+pub mod Wah
+pub mod Format
 pub mod Index
 pub mod Question
 pub mod Answer
@@ -14,6 +17,7 @@ pub mod Columns
 pub mod Demands
 pub mod Paragraph
 pub mod Laws
+pub mod Rewriting
 pub mod ColumnLaws
 pub mod Readings
 pub mod ColumnReadings

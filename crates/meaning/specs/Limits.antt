@@ -19,9 +19,9 @@ mostNumber = 11
 abbrev pub mostRows : ℕ
 mostRows = 16777216
 
--- the segments of the most rows
+-- the most segments that a body has, in either format: those of the most rows, 31 in each
 abbrev pub mostSegments : ℕ
-mostSegments = mostRows / wordBits
+mostSegments = (mostRows + 30) / 31
 
 -- The index: the greatest number N of bitmaps
 abbrev pub mostBitmaps : ℕ
@@ -85,9 +85,12 @@ mostNamedWords = mostNamed * 2 ^ wordBits
 abbrev pub mostIndexWords : ℕ
 mostIndexWords = 67108864
 
--- The index: the kind that word 0 states
-abbrev pub indexKind : ℕ
-indexKind = 1
+-- The index: the kinds that word 0 can state, for EWAH bodies and, request 4, for WAH bodies
+abbrev pub ewahKind : ℕ
+ewahKind = 1
+
+abbrev pub wahKind : ℕ
+wahKind = 2
 
 -- The index: words before the first entry of the contents (kind, rows, N)
 abbrev pub headWords : ℕ
@@ -104,6 +107,10 @@ mostClean = 65535
 -- A body: the greatest dirty count of a marker, all that 15 bits hold
 abbrev pub mostDirty : ℕ
 mostDirty = 32767
+
+-- Request 4: the most segments of a WAH fill, all that 30 bits hold
+abbrev pub mostFill : ℕ
+mostFill = 1073741823
 
 -- the index: the most words of its head and contents
 abbrev pub mostContents : ℕ

@@ -5,9 +5,10 @@ use Prim.Native.Nat.{ℕ, _+_, _*_}
 use mathlib.Core.Bool.{Bool}
 use mathlib.Core.List.{List, [], _∷_, _++_, map}
 use lib.ListN.{length}
-use Rattle.meaning.specs.Limits.{indexKind, headWords, entryWords}
+use Rattle.meaning.specs.Limits.{headWords, entryWords}
 use Rattle.meaning.specs.Refusal.{Outcome}
-use Rattle.meaning.specs.Canonical.{canonical}
+use Rattle.meaning.specs.Format.{kindOf, canonical}
+use Rattle.meaning.specs.declared.Format.{Format}
 use Rattle.meaning.specs.Answer.{fits}
 
 -- the entries of the contents: of each body its start and its length, where the first one starts at `start`
@@ -25,16 +26,16 @@ unfoldable pub contentsEnd : (n : ℕ) → ℕ
 contentsEnd n = headWords + entryWords * n
 
 -- the index of R rows with these bodies: its head, its contents, and they
-unfoldable pub assembled : (R : ℕ) → List (List ℕ) → List ℕ
+unfoldable pub assembled : Format → (R : ℕ) → List (List ℕ) → List ℕ
 unfolding contentsEnd entriesOf joined
-assembled R bodies = indexKind ∷ R ∷ length bodies ∷ (entriesOf (contentsEnd (length bodies)) bodies ++ joined bodies)
+assembled F R bodies = kindOf F ∷ R ∷ length bodies ∷ (entriesOf (contentsEnd (length bodies)) bodies ++ joined bodies)
 
 -- the index of R rows whose bitmaps are these sets, in this order: what every call that writes an index writes
-unfoldable pub indexOf : (R : ℕ) → List (ℕ → Bool) → List ℕ
+unfoldable pub indexOf : Format → (R : ℕ) → List (ℕ → Bool) → List ℕ
 unfolding assembled canonical
-indexOf R ps = assembled R (map (canonical R) ps)
+indexOf F R ps = assembled F R (map (canonical F R) ps)
 
 -- it, or 9 with its words if the buffer is shorter
-unfoldable pub writeIndex : (R : ℕ) → List (ℕ → Bool) → (room : ℕ) → Outcome (List ℕ)
+unfoldable pub writeIndex : Format → (R : ℕ) → List (ℕ → Bool) → (room : ℕ) → Outcome (List ℕ)
 unfolding fits indexOf
-writeIndex R ps room = fits room (indexOf R ps)
+writeIndex F R ps room = fits room (indexOf F R ps)

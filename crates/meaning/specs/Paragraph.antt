@@ -1,5 +1,5 @@
 -- Section "Settled form" of paper 01 as it is told there: longest runs, and the dirty words that follow each.
--- The law `by-runs` of `BodyLaws` says that this is the canonical form.
+-- The law `by-runs` of `EwahLaws` says that this is the canonical form.
 -- Assumes nothing.
 use Prim.Native.Nat.{ℕ, zero, suc, _-_, _/_, _*_}
 use mathlib.Core.Bool.{cond}

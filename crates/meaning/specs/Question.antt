@@ -9,7 +9,9 @@ use lib.ListN.{length, getD}
 use Rattle.meaning.specs.Limits.{histogramCounts}
 use Rattle.meaning.specs.Rows.{bit, countBelow}
 use Rattle.meaning.specs.Segment.{tabulate, segmentCount}
-use Rattle.meaning.specs.Ewah.{Piece, pieces, pieceSize}
+use Rattle.meaning.specs.Piece.{Piece, pieceSize}
+use Rattle.meaning.specs.Format.{width, piecesOf}
+use Rattle.meaning.specs.declared.Format.{Format}
 
 -- ---- two sets, or one
 
@@ -76,15 +78,15 @@ endsFrom before [] = []
 endsFrom before (p ∷ ps) = (before + pieceSize p) ∷ endsFrom (before + pieceSize p) ps
 
 -- segment i is the last of some piece of some body
-unfoldable pub endsAt : List (List ℕ) → (i : ℕ) → Bool
-unfolding isIn endsFrom pieces
-endsAt [] i = false
-endsAt (b ∷ bs) i = isIn (endsFrom 0 (pieces 0 b)) (suc i) || endsAt bs i
+unfoldable pub endsAt : Format → List (List ℕ) → (i : ℕ) → Bool
+unfolding isIn endsFrom
+endsAt F [] i = false
+endsAt F (b ∷ bs) i = isIn (endsFrom 0 (piecesOf F b)) (suc i) || endsAt F bs i
 
 -- how many segments of R rows are the last of some piece
-unfoldable pub stretches : (R : ℕ) → List (List ℕ) → ℕ
+unfoldable pub stretches : Format → (R : ℕ) → List (List ℕ) → ℕ
 unfolding countBelow segmentCount endsAt
-stretches R bodies = countBelow (segmentCount 32 R) (endsAt bodies)
+stretches F R bodies = countBelow (segmentCount (width F) R) (endsAt F bodies)
 
 -- the words of the bodies, each as often as it stands in the list
 unfoldable pub totalWords : List (List ℕ) → ℕ

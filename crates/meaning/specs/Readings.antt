@@ -1,4 +1,4 @@
--- The starred readings of paper 01 ("Readings to test by") as one table over the definitions; `proofs/AllReadings` has the one claim.
+-- The starred readings of paper 01 ("Readings to test by"), and those of request 4, as one table over the definitions; `proofs/AllReadings` has the one claim.
 -- Assumes nothing.
 use Prim.Native.Nat.{ℕ}
 use mathlib.Core.Bool.{Bool, true, false, _&&_}
@@ -7,8 +7,9 @@ use lib.Dec.{eqb}
 use lib.ListN.{length, replicate}
 use Rattle.meaning.specs.Segment.{fromRows}
 use Rattle.meaning.specs.Refusal.{Outcome, refused, answer, Verdict}
-use Rattle.meaning.specs.Ewah.{rowsOf}
-use Rattle.meaning.specs.Canonical.{canonical}
+use Rattle.meaning.specs.Format.{rowsOf, canonical}
+use Rattle.meaning.specs.declared.Format.{Format}
+use Rattle.meaning.specs.declared.Format.the-variants.{Ewah, Wah}
 use Rattle.meaning.specs.Question.{isIn, stretches}
 use Rattle.meaning.specs.Answer.{bufferAfter, wordsReported, histogramReported, stretchesReported, checkBody, compress, check, and, or, xor, andNot, notOf, threshold, histogram}
 
@@ -41,13 +42,13 @@ isNumber (answer x) number = eqb x number
 
 pub data Reading : Type 0 where
   -- the canonical body of these rows; it is sound and has them, and their plain words give it
-  encodes : (R : ℕ) (p : ℕ → Bool) (body : List ℕ) → Reading
+  encodes : (F : Format) (R : ℕ) (p : ℕ → Bool) (body : List ℕ) → Reading
   -- a sound body with these rows
-  holds : (R : ℕ) (p : ℕ → Bool) (body : List ℕ) → Reading
+  holds : (F : Format) (R : ℕ) (p : ℕ → Bool) (body : List ℕ) → Reading
   -- a body that is refused
-  faulty : (R : ℕ) (body : List ℕ) (number word : ℕ) → Reading
+  faulty : (F : Format) (R : ℕ) (body : List ℕ) (number word : ℕ) → Reading
   -- so many stretches of these bodies
-  meets : (R : ℕ) (bodies : List (List ℕ)) (n : ℕ) → Reading
+  meets : (F : Format) (R : ℕ) (bodies : List (List ℕ)) (n : ℕ) → Reading
   -- a sound index
   whole : (index : List ℕ) → Reading
   -- a threshold question: the buffer before and after, and the words and stretches reported
@@ -61,11 +62,12 @@ pub data Reading : Type 0 where
 
 unfoldable pub passes : Reading → Bool
 unfolding same isSound isRefused isAnswer fromRows rowsOf canonical stretches checkBody compress check threshold histogram bufferAfter wordsReported histogramReported stretchesReported
-passes (encodes R p b) =
-    same (canonical R p) b && isSound (checkBody R b) && same (fromRows 32 R (rowsOf b)) (fromRows 32 R p) && isAnswer (compress R (fromRows 32 R p) (length b)) b
-passes (holds R p b) = isSound (checkBody R b) && same (fromRows 32 R (rowsOf b)) (fromRows 32 R p)
-passes (faulty R b number word) = isRefused (checkBody R b) number 0 word
-passes (meets R bodies n) = eqb (stretches R bodies) n
+passes (encodes F R p b) =
+    same (canonical F R p) b && isSound (checkBody F R b) && same (fromRows 32 R (rowsOf F b)) (fromRows 32 R p)
+    && isAnswer (compress F R (fromRows 32 R p) (length b)) b
+passes (holds F R p b) = isSound (checkBody F R b) && same (fromRows 32 R (rowsOf F b)) (fromRows 32 R p)
+passes (faulty F R b number word) = isRefused (checkBody F R b) number 0 word
+passes (meets F R bodies n) = eqb (stretches F R bodies) n
 passes (whole index) = isSound (check index)
 passes (asks index list T buffer buffer′ words n) =
     let o = threshold index list T (length buffer) in
@@ -89,6 +91,10 @@ looped =
     1 ∷ 4 ∷ 3 ∷ 9 ∷ 2 ∷ 11 ∷ 2 ∷ 13 ∷ 2
     ∷ 0x00020000 ∷ 0x3 ∷ 0x00020000 ∷ 0xE ∷ 0x00020000 ∷ 0x8 ∷ []
 
+-- the same index with WAH bodies
+abbrev pub loopedWah : List ℕ
+loopedWah = 2 ∷ 4 ∷ 3 ∷ 9 ∷ 1 ∷ 10 ∷ 1 ∷ 11 ∷ 1 ∷ 0x3 ∷ 0xE ∷ 0x8 ∷ []
+
 abbrev pub three : List ℕ
 three = 0 ∷ 1 ∷ 2 ∷ []
 
@@ -107,20 +113,20 @@ unfoldable pub readings : List Reading
 unfolding isIn and or xor andNot notOf
 readings =
     -- 0 rows
-    encodes 0 (λ r. true) []
+    encodes Ewah 0 (λ r. true) []
     -- 64 rows: none set, all set
-    ∷ encodes 64 (λ r. false) (0x00000004 ∷ [])
-    ∷ encodes 64 (λ r. true) (0x00000005 ∷ [])
+    ∷ encodes Ewah 64 (λ r. false) (0x00000004 ∷ [])
+    ∷ encodes Ewah 64 (λ r. true) (0x00000005 ∷ [])
     -- 40 rows: all set, rows 0 and 39
-    ∷ encodes 40 (λ r. true) (0x00000005 ∷ [])
-    ∷ encodes 40 (isIn (0 ∷ 39 ∷ [])) (0x00040000 ∷ 0x00000001 ∷ 0x00000080 ∷ [])
+    ∷ encodes Ewah 40 (λ r. true) (0x00000005 ∷ [])
+    ∷ encodes Ewah 40 (isIn (0 ∷ 39 ∷ [])) (0x00040000 ∷ 0x00000001 ∷ 0x00000080 ∷ [])
     -- 40 rows, body 00000005: all of them (request 3). The last segment as a dirty word; the same with a pad bit
-    ∷ holds 40 (λ r. true) (0x00000005 ∷ [])
-    ∷ holds 40 (λ r. true) (0x00020003 ∷ 0x000000FF ∷ [])
-    ∷ faulty 40 (0x00020003 ∷ 0x000001FF ∷ []) 7 1
+    ∷ holds Ewah 40 (λ r. true) (0x00000005 ∷ [])
+    ∷ holds Ewah 40 (λ r. true) (0x00020003 ∷ 0x000000FF ∷ [])
+    ∷ faulty Ewah 40 (0x00020003 ∷ 0x000001FF ∷ []) 7 1
     -- 96 rows: rows 5 and 64, and the same wastefully
-    ∷ encodes 96 (isIn (5 ∷ 64 ∷ [])) ninetySix
-    ∷ holds 96 (isIn (5 ∷ 64 ∷ [])) wasteful
+    ∷ encodes Ewah 96 (isIn (5 ∷ 64 ∷ [])) ninetySix
+    ∷ holds Ewah 96 (isIn (5 ∷ 64 ∷ [])) wasteful
     -- LOOPED: T = 2, the histogram, T = 4, a buffer of one word
     ∷ whole looped
     ∷ asks looped three 2 (7 ∷ 7 ∷ 7 ∷ []) (0x00020000 ∷ 0xA ∷ 7 ∷ []) 2 1
@@ -134,6 +140,33 @@ readings =
     ∷ writes (andNot eight 0 1 2) (0x00020000 ∷ 0x02 ∷ [])
     ∷ writes (notOf eight 0 2) (0x00020000 ∷ 0xCD ∷ [])
     -- stretches over 96 rows
-    ∷ meets 96 ((0x00000006 ∷ []) ∷ ninetySix ∷ []) 3
-    ∷ meets 96 ((0x00000006 ∷ []) ∷ wasteful ∷ []) 3
+    ∷ meets Ewah 96 ((0x00000006 ∷ []) ∷ ninetySix ∷ []) 3
+    ∷ meets Ewah 96 ((0x00000006 ∷ []) ∷ wasteful ∷ []) 3
+    -- WAH (request 4): no rows; 62 rows, none set; a single clean segment is a literal, of a full last segment of 9 rows too
+    ∷ encodes Wah 0 (λ r. true) []
+    ∷ encodes Wah 62 (λ r. false) (0x80000002 ∷ [])
+    ∷ encodes Wah 93 (λ r. false) (0x80000003 ∷ [])
+    ∷ encodes Wah 31 (λ r. false) (0 ∷ [])
+    ∷ encodes Wah 31 (λ r. true) (0x7FFFFFFF ∷ [])
+    ∷ encodes Wah 40 (λ r. true) (0xC0000002 ∷ [])
+    ∷ encodes Wah 40 (isIn (0 ∷ 39 ∷ [])) (0x00000001 ∷ 0x00000100 ∷ [])
+    ∷ encodes Wah 9 (λ r. true) (0x000001FF ∷ [])
+    -- a fill of one segment is read; a full last segment as a literal, and with a pad bit
+    ∷ holds Wah 31 (λ r. false) (0x80000001 ∷ [])
+    ∷ holds Wah 40 (λ r. true) (0x7FFFFFFF ∷ 0x000001FF ∷ [])
+    ∷ faulty Wah 40 (0x7FFFFFFF ∷ 0x7FFFFFFF ∷ []) 7 1
+    ∷ holds Wah 62 (λ r. true) (0x7FFFFFFF ∷ 0x7FFFFFFF ∷ [])
+    -- a fill of no segments, with segments left and with none; a literal and a fill past the end; an early end
+    ∷ faulty Wah 62 (0x80000000 ∷ 0x80000002 ∷ []) 10 0
+    ∷ faulty Wah 62 (0x80000002 ∷ 0x80000000 ∷ []) 10 1
+    ∷ faulty Wah 62 (0x80000002 ∷ 0 ∷ []) 6 1
+    ∷ faulty Wah 62 (0x80000003 ∷ []) 6 0
+    ∷ faulty Wah 62 (0x80000001 ∷ []) 6 1
+    -- the LOOPED example in WAH; stretches over fills and literals: each word is a piece, equal fills side by side too
+    ∷ whole loopedWah
+    ∷ asks loopedWah three 2 (7 ∷ 7 ∷ []) (0xA ∷ 7 ∷ []) 1 1
+    ∷ counts loopedWah three (0 ∷ 2 ∷ 2 ∷ 0 ∷ replicate 61 0)
+    ∷ refuses loopedWah three 2 [] 9 0 1
+    ∷ meets Wah 93 ((0x80000003 ∷ []) ∷ (0x80000002 ∷ 0x20 ∷ []) ∷ []) 2
+    ∷ meets Wah 124 ((0x80000002 ∷ 0x80000002 ∷ []) ∷ []) 2
     ∷ []
