@@ -3,3 +3,4 @@ pub mod Tests
 pub mod CounterLaws
 pub mod Entries
 pub mod Adders
+pub mod Segmented

@@ -10,7 +10,7 @@ use borrow.Author.Tests.{ne-eqb}
 use lib.Bits.{bitAnd}
 use lib.Dec.{eqb}
 use lib.ListN.{getD}
-use Rattle.meaning.specs.Limits.{mostRows}
+use Rattle.meaning.specs.Limits.{mostSegments}
 use Rattle.meaning.specs.Rows.{countBelow}
 use Rattle.meaning.specs.Segment.{isSet}
 use Rattle.meaning.proofs.Counting.{count-ext, count-le}
@@ -87,8 +87,8 @@ array-read-r c = search needs
 count-requires : tie.Need-count-requires Inv-loop μ-loop
 count-requires c κs = search needs
 
--- what is added is no more than all the rows that there can be
-added-most : (c : tie.After-count Inv-loop μ-loop) → c .before .before .before .before .args .times * c .count .result ≤ mostRows
+-- what is added is no more than all the bits that there can be
+added-most : (c : tie.After-count Inv-loop μ-loop) → c .before .before .before .before .args .times * c .count .result ≤ mostSegments * 32
 added-most c =
     let s = c .before .before .before .before in
     let rows = bitAnd (s .args .mask) (c .before .equals .result) in

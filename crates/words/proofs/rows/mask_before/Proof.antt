@@ -1,32 +1,24 @@
--- `words::rows::mask_before` meets its contract: a segment before the last has 32 rows. Assumes nothing.
-use Prim.Native.Nat.{ℕ, _-_, _^_}
+-- `words::rows::mask_before` meets its contract: a segment before the last has as many rows as the format's width.
+-- Assumes nothing.
+use Prim.Native.Nat.{_-_}
 use mathlib.Core.Path.{sym, ap, _∙_}
 use native.Mathlib.Omega.{arith}
-use borrow.Author.Needs.{needs}
-use Rattle.meaning.specs.Segment.{segmentCount, allSet}
+use Rattle.meaning.specs.Segment.{allSet}
+use Rattle.meaning.specs.Format.{width}
 use Rattle.meaning.proofs.Cut.{rows-inside, rows-end}
+use Rattle.meaning.proofs.Formats.{width-pos}
+use Rattle.words.proofs.Segmented.{some-rows}
 use Rattle.words.proofs.rows.mask_before.Statement.{statement}
 use Rattle.words.proofs.rows.mask_before.Tie as tie
 
 returns : tie.Need-returns
-unfolding allSet
-returns c =
-    let s = c .before in
-    ap allSet (sym (rows-inside 32 (omega arith) (s .args .rows) (s .args .end - 1) (omega (arith, s .pre .0))))
-
-last-rows-requires : tie.Need-last-rows-requires
-unfolding segmentCount
-last-rows-requires c κs = omega arith
-
-low-ones-requires : tie.Need-low-ones-requires
-low-ones-requires c κs = search needs
+returns c = λ F R full last count some within.
+    full ∙ ap allSet (sym (rows-inside (width F) (width-pos F) R (c .before .args .end - 1) (omega (arith, c .if1 .taken))))
 
 returns-2 : tie.Need-returns-2
-unfolding allSet
-returns-2 c =
-    let s = c .before .before .before in
-    let last = rows-end 32 (omega arith) (s .args .rows) (s .args .end - 1) (omega (arith, s .pre .0)) in
-    c .low-ones .ensures ∙ ap (λ (k : ℕ). 2 ^ k - 1) (c .before .last-rows .ensures .0 ∙ sym last)
+returns-2 c = λ F R full last count some within.
+    last (some-rows (width F) R (width-pos F) (omega arith))
+    ∙ ap allSet (sym (rows-end (width F) (width-pos F) R (c .before .args .end - 1) (omega (arith, c .if1 .left))))
 
 pub mask-before-spec : {M : Type 1} → statement M
-mask-before-spec = tie.close (tie.spec returns last-rows-requires low-ones-requires returns-2)
+mask-before-spec = tie.close (tie.spec returns returns-2)

@@ -1,0 +1,4 @@
+pub mod Joining
+pub mod PlainSegments
+pub mod RowsPut
+pub mod RowsWritten
