@@ -4,7 +4,7 @@ ghost use Prim.Native.Nat.{_+_, _-_, _*_, _≤_, _<_, _^_};
 ghost use lib.ListN.{length, getD};
 ghost use Rattle.meaning.specs.Limits.{mostRows};
 ghost use Rattle.meaning.specs.Segment.{segmentCount, overPad};
-ghost use Rattle.meaning.specs.Ewah.{bodyFault};
+ghost use Rattle.meaning.specs.Ewah.{ewahFault};
 ghost use Rattle.answers.specs.Told.{verdictOf};
 ghost use Rattle.ewah.specs.Checking.{Stepped};
 use crate::marker;
@@ -60,7 +60,7 @@ fn marker_step(body: &[u32], at: usize, rows: u32, left: u32) -> Step
 pub fn check(body: &[u32], rows: u32, bitmap: u32, start: u64) -> Checked
     requires { ⌜ rows ≤ mostRows ⌝ }
     requires { ⌜ start + length (now body) < 2 ^ 64 ⌝ }
-    ensures { λ r. ⌜ verdictOf r ≡ bodyFault bitmap start rows (now (body .entry)) ⌝ }
+    ensures { λ r. ⌜ verdictOf r ≡ ewahFault bitmap start rows (now (body .entry)) ⌝ }
 {
     let mut left = rows::segment_count(rows);
     let mut at: usize = 0;

@@ -1,11 +1,10 @@
-// A cursor over the pieces of a body, one after the other; a clean run may be taken in parts.
-ghost use mathlib.Core.Path.{_≡_};
-ghost use Prim.Native.Nat.{_+_, _≤_, _<_};
+// Where a walk over the pieces of a body stands, and the next piece of an EWAH body. The walk itself is in `bodies`.
+ghost use Prim.Native.Nat.{_≤_};
 ghost use lib.ListN.{length, drop};
 ghost use Rattle.meaning.specs.Limits.{mostDirty};
 ghost use Rattle.meaning.specs.Ewah.{pieces};
-ghost use Rattle.ewah.specs.Cursors.{Stands, InOrder, ValueLow, leftOf, wordOf, piecesFrom, spanOf, behind, Passes};
-ghost use Rattle.meaning.specs.Ahead.{advanced};
+ghost use Rattle.meaning.specs.declared.Format.the-variants.{Ewah};
+ghost use Rattle.ewah.specs.Cursors.{Stands};
 use crate::marker;
 
 // What is left of a clean run, with its value, 0 or 1; or a dirty word. A clean run of no segments is the end.
@@ -21,121 +20,51 @@ pub struct Cursor {
     pub dirty: u32,
 }
 
-// The first piece from word `next` on, where so many dirty words are due. A marker that has no clean run is passed.
-fn load(body: &[u32], next: usize, dirty: u32) -> Cursor
+// The first of the dirty words that are due from word `next` on, or the end if the body has no more words.
+pub fn load_dirty(body: &[u32], next: usize, dirty: u32) -> Cursor
+    requires { ⌜ (next ≤ length (now body)) × (1 ≤ dirty) × (dirty ≤ mostDirty) ⌝ }
+    ensures { λ r. ⌜ Stands Ewah (now (body .entry)) r (pieces dirty (drop next (now (body .entry)))) ⌝ }
+{
+    if next < body.len() {
+        return Cursor {
+            piece: Piece::Dirty(body[next]),
+            next: next + 1,
+            dirty: dirty - 1,
+        };
+    }
+    Cursor {
+        piece: Piece::Clean(0, 0),
+        next,
+        dirty: 0,
+    }
+}
+
+// The first piece from the marker at word `next` on; idle markers are passed.
+pub fn load(body: &[u32], next: usize) -> Cursor
     requires { ⌜ next ≤ length (now body) ⌝ }
-    requires { ⌜ dirty ≤ mostDirty ⌝ }
-    ensures { λ r. ⌜ Stands (now (body .entry)) r (pieces dirty (drop next (now (body .entry)))) ⌝ }
+    ensures { λ r. ⌜ Stands Ewah (now (body .entry)) r (pieces 0 (drop next (now (body .entry)))) ⌝ }
 {
     let mut at = next;
-    let mut due = dirty;
     while at < body.len() {
-        let x = body[at];
-        at += 1;
-        if due != 0 {
-            return Cursor {
-                piece: Piece::Dirty(x),
-                next: at,
-                dirty: due - 1,
-            };
-        }
-        let m = marker::read(x);
-        let clean = m.clean;
+        let m = marker::read(body[at]);
         let value = m.value;
-        due = m.dirty;
+        let clean = m.clean;
+        let dirty = m.dirty;
+        at += 1;
         if clean != 0 {
             return Cursor {
                 piece: Piece::Clean(value, clean),
                 next: at,
-                dirty: due,
+                dirty,
             };
+        }
+        if dirty != 0 {
+            return load_dirty(body, at, dirty);
         }
     }
     Cursor {
         piece: Piece::Clean(0, 0),
         next: at,
         dirty: 0,
-    }
-}
-
-// On the first piece of a body.
-pub fn open(body: &[u32]) -> Cursor
-    ensures { λ r. ⌜ Stands (now (body .entry)) r (pieces 0 (now (body .entry))) ⌝ }
-{
-    load(body, 0, 0)
-}
-
-// How many segments the piece has left: 0 only at the end.
-pub fn left(c: Cursor) -> u32
-    ensures { λ r. ⌜ r ≡ leftOf (c .piece) ⌝ }
-{
-    let piece = c.piece;
-    match piece {
-        Piece::Clean(_, n) => n,
-        Piece::Dirty(_) => 1,
-    }
-}
-
-// The word of a piece's segments.
-pub fn word(piece: Piece) -> u32
-    requires { ⌜ ValueLow piece ⌝ }
-    ensures { λ r. ⌜ r ≡ wordOf piece ⌝ }
-{
-    match piece {
-        Piece::Clean(value, _) => marker::segment(value),
-        Piece::Dirty(x) => x,
-    }
-}
-
-// n segments on, at most to the piece's end.
-pub fn advance(body: &[u32], c: Cursor, n: u32) -> Cursor
-    requires { ⌜ InOrder (now body) c ⌝ }
-    requires { ⌜ 1 ≤ n ⌝ }
-    requires { ⌜ n ≤ leftOf (c .piece) ⌝ }
-    ensures { λ r. ⌜ Stands (now (body .entry)) r (advanced n (piecesFrom (now (body .entry)) c)) ⌝ }
-{
-    let piece = c.piece;
-    let next = c.next;
-    let dirty = c.dirty;
-    match piece {
-        Piece::Clean(value, k) => {
-            if n < k {
-                return Cursor {
-                    piece: Piece::Clean(value, k - n),
-                    next,
-                    dirty,
-                };
-            }
-            load(body, next, dirty)
-        }
-        Piece::Dirty(_) => load(body, next, dirty),
-    }
-}
-
-// How many segments there are up to the next marker: what is left of a run, or the dirty words from the cursor's on.
-pub fn span(c: Cursor) -> u32
-    requires { ⌜ c .dirty ≤ mostDirty ⌝ }
-    ensures { λ r. ⌜ r ≡ spanOf c ⌝ }
-{
-    let piece = c.piece;
-    let dirty = c.dirty;
-    match piece {
-        Piece::Clean(_, n) => n,
-        Piece::Dirty(_) => dirty + 1,
-    }
-}
-
-// n segments on, at most to the next marker.
-pub fn pass(body: &[u32], c: Cursor, n: u32) -> Cursor
-    requires { ⌜ InOrder (now body) c ⌝ }
-    requires { ⌜ (1 ≤ n) × (n ≤ spanOf c) × (c .next + behind (c .piece) n ≤ length (now body)) ⌝ }
-    ensures { λ r. ⌜ Passes (now (body .entry)) c n r ⌝ }
-{
-    let piece = c.piece;
-    let next = c.next;
-    let dirty = c.dirty;
-    match piece {
-        Piece::Clean(_, _) => advance(body, c, n),
-        Piece::Dirty(_) => load(body, next + (n - 1) as usize, dirty - (n - 1)),
     }
 }

@@ -14,8 +14,11 @@ use native.Mathlib.Omega.{arith}
 use Rattle.meaning.specs.Limits.{mostRows, mostSegments}
 use Rattle.meaning.specs.Rows.{countBelow}
 use Rattle.meaning.specs.Segment.{ones, fill, segmentCount, lastRows, lastLimit}
-use Rattle.meaning.specs.Ewah.{pieces, lastDirty, segments, rowsOf}
-use Rattle.meaning.specs.Laws.{SoundFacts}
+use Rattle.meaning.specs.Piece.{lastDirty}
+use Rattle.meaning.specs.Format.{rowsOf}
+use Rattle.meaning.specs.declared.Format.the-variants.{Ewah}
+use Rattle.meaning.specs.Ewah.{pieces, segments, ewahRows}
+use Rattle.meaning.specs.Laws.{EwahFacts}
 use Rattle.meaning.proofs.Walk.{At, Step, at-start, at-end}
 use Rattle.meaning.proofs.Asked.{rows-count, ones-step}
 use Rattle.meaning.proofs.Counting.{ones-append, ones-take-le}
@@ -26,8 +29,8 @@ use Rattle.ewah.specs.Markers.{FieldsOf}
 use Rattle.ewah.specs.declared.marker.Marker.{Marker}
 use Rattle.ewah.proofs.MarkerStep.{read-step}
 use Rattle.ewah_read.specs.Pads.{padsSet}
-use Rattle.ewah_read.proofs.LastSegment.{behind-words, last-word, behind-run, pads-none, pads-all}
-use Rattle.ewah_read.proofs.LastSegment.{pads, pads-clean, pads-dirty}
+use Rattle.meaning.proofs.Pads.{pads, pads-none, pads-all}
+use Rattle.ewah_read.proofs.LastSegment.{behind-words, last-word, behind-run, pads-clean, pads-dirty}
 
 -- where there are no dirty words, none of their bits are set
 pub none-set : (b : List ℕ) (from to : ℕ) → to ≡ from → ones 32 (take (to - from) (drop from b)) ≡ 0
@@ -39,7 +42,7 @@ none-set b from to e = let z : to - from ≡ 0 = omega (arith, e) in rw z refl
 -- at the marker at word i, or at the end, with so many of the segments left: n bits of those behind are set. Where none
 -- is left, m is the marker of the last
 pub record Passed (R : ℕ) (b : List ℕ) (i left n m : ℕ) : Type 0 where
-  pub sound : SoundFacts R b
+  pub sound : EwahFacts R b
   pub few : segmentCount 32 R ≤ mostSegments
   pub behind : ℕ
   pub all : behind + left ≡ segmentCount 32 R
@@ -47,9 +50,9 @@ pub record Passed (R : ℕ) (b : List ℕ) (i left n m : ℕ) : Type 0 where
   pub counted : n ≡ ones 32 (take behind (segments b))
   -- a dirty word that is last sets no pad bit
   pub clear : lastDirty (pieces 0 (drop i b)) < lastLimit 32 R
-  pub padded : left ≡ 0 → pads R b ≡ padsSet R m
+  pub padded : left ≡ 0 → pads 32 R (segments b) ≡ padsSet R m
 
-pub none-passed : (R : ℕ) (b : List ℕ) (left : ℕ) → R ≤ mostRows → SoundFacts R b → left ≡ segmentCount 32 R
+pub none-passed : (R : ℕ) (b : List ℕ) (left : ℕ) → R ≤ mostRows → EwahFacts R b → left ≡ segmentCount 32 R
     → Passed R b 0 left 0 0
 unfolding ones
 none-passed R b left h s e = record {
@@ -63,7 +66,7 @@ none-passed R b left h s e = record {
   padded = λ z. none (omega (arith, s .count));
 }
   where
-    none : length (segments b) * 32 - R ≡ 0 → pads R b ≡ padsSet R 0
+    none : length (segments b) * 32 - R ≡ 0 → pads 32 R (segments b) ≡ padsSet R 0
     none z = unfold padsSet countBelow in rw z (omega arith)
 
 module _ {R : ℕ} {b : List ℕ} {i left n m : ℕ} (p : Passed R b i left n m) where
@@ -75,14 +78,15 @@ module _ {R : ℕ} {b : List ℕ} {i left n m : ℕ} (p : Passed R b i left n m)
   ]
 
   -- at the end all rows are counted, and the pad bits of a run of ones
-  pub all-passed : left ≡ 0 → n ≡ countBelow R (rowsOf b) + padsSet R m
+  pub all-passed : left ≡ 0 → n ≡ countBelow R (ewahRows b) + padsSet R m
+  unfolding rowsOf ewahRows
   all-passed z =
       let e : p .behind ≡ length (segments b) = omega (arith, p .all, p .sound .count) in
       p .counted
       ∙ ap (λ (o : ℕ). ones 32 (take o (segments b))) e
       ∙ ap (ones 32) (take-length (segments b))
-      ∙ rows-count R b (p .sound .count)
-      ∙ ap (λ (k : ℕ). countBelow R (rowsOf b) + k) (p .padded z)
+      ∙ rows-count Ewah R b (p .sound .count)
+      ∙ ap (λ (k : ℕ). countBelow R (ewahRows b) + k) (p .padded z)
 
 -- ---- one marker on
 
@@ -135,7 +139,7 @@ module _ {R : ℕ} {b : List ℕ} {i left n last : ℕ} {m : Marker} (g : Read R
 
   module _ (end : m .clean + m .dirty ≡ left) where
     -- in its run
-    run-pads : m .dirty ≡ 0 → pads R b ≡ m .value * (length (segments b) * 32 - R)
+    run-pads : m .dirty ≡ 0 → pads 32 R (segments b) ≡ m .value * (length (segments b) * 32 - R)
     run-pads z =
         go (m .value) (g .fields .in-range .value-low) (g .over .run-at (m .clean - 1) (omega (arith, g .some)))
       where
@@ -145,9 +149,9 @@ module _ {R : ℕ} {b : List ℕ} {i left n last : ℕ} {m : Marker} (g : Read R
         ends : length (segments b) ≡ suc k
         ends = omega (arith, g .passed .all, g .passed .sound .count, g .some)
 
-        go : (v : ℕ) → v < 2 → getD (segments b) k 0 ≡ fill 32 v → pads R b ≡ v * (length (segments b) * 32 - R)
-        go zero h f = pads-none R b k (g .passed .sound .count) ends (rw f (unfold fill in limit-pos)) ∙ omega arith
-        go (suc zero) h f = pads-all R b k (g .passed .sound .count) ends f ∙ omega arith
+        go : (v : ℕ) → v < 2 → getD (segments b) k 0 ≡ fill 32 v → pads 32 R (segments b) ≡ v * (length (segments b) * 32 - R)
+        go zero h f = pads-none 32 (omega arith) R (segments b) k (g .passed .sound .count) ends (rw f (unfold fill in limit-pos)) ∙ omega arith
+        go (suc zero) h f = pads-all 32 (omega arith) R (segments b) k (g .passed .sound .count) ends f ∙ omega arith
         go (suc (suc v)) h f = absurd (omega arith)
 
     -- no piece is behind it
@@ -160,20 +164,20 @@ module _ {R : ℕ} {b : List ℕ} {i left n last : ℕ} {m : Marker} (g : Read R
         ∙ omega (arith, g .passed .all, g .passed .sound .count)))
 
     -- in its dirty words
-    words-pads : (d : ℕ) → m .dirty ≡ suc d → pads R b ≡ 0
+    words-pads : (d : ℕ) → m .dirty ≡ suc d → pads 32 R (segments b) ≡ 0
     words-pads d e =
         let k = g .passed .behind + m .clean + d in
         let ends : length (segments b) ≡ suc k = omega (arith, g .passed .all, g .passed .sound .count) in
         let low : getD rest d 0 < lastLimit 32 R =
         last-word (lastLimit 32 R) limit-pos d rest (omega (arith, length-drop (i + 1) b, dirty-fit))
         (rw e at none-behind) (rw e at words-clear) in
-        pads-none R b k (g .passed .sound .count) ends
+        pads-none 32 (omega arith) R (segments b) k (g .passed .sound .count) ends
         (rw (g .over .dirty-at d (omega arith)) (rw (getD-drop (i + 1) b d 0) at low))
 
-    its-pads : pads R b ≡ padsSet R (getD b i 0)
+    its-pads : pads 32 R (segments b) ≡ padsSet R (getD b i 0)
     its-pads = go (m .dirty) refl
       where
-        go : (d : ℕ) → m .dirty ≡ d → pads R b ≡ padsSet R (getD b i 0)
+        go : (d : ℕ) → m .dirty ≡ d → pads 32 R (segments b) ≡ padsSet R (getD b i 0)
         go zero e =
             run-pads e
             ∙ ap₂ (λ (v k : ℕ). v * (k * 32 - R)) (g .fields .value-is) (g .passed .sound .count)

@@ -5,8 +5,8 @@ ghost use lib.ListN.{length, take, drop, replicate};
 ghost use Rattle.meaning.specs.Limits.{mostRows, mostSegments, mostClean};
 ghost use Rattle.meaning.specs.Rows.{countBelow};
 ghost use Rattle.meaning.specs.Segment.{ones, fill};
-ghost use Rattle.meaning.specs.Ewah.{rowsOf};
-ghost use Rattle.meaning.specs.Laws.{SoundFacts};
+ghost use Rattle.meaning.specs.Ewah.{ewahRows};
+ghost use Rattle.meaning.specs.Laws.{EwahFacts};
 ghost use Rattle.ewah_read.specs.Pads.{padsSet};
 use ewah::marker;
 use popcount::BLOCK;
@@ -58,8 +58,8 @@ pub fn pads_set(last: u32, rows: u32) -> u32
 
 // How many rows are set. The walk ends with the marker of the last segment.
 pub fn count(body: &[u32], rows: u32) -> u32
-    requires { ⌜ (rows ≤ mostRows) × SoundFacts rows (now body) ⌝ }
-    ensures { λ r. ⌜ r ≡ countBelow rows (rowsOf (now (body .entry))) ⌝ }
+    requires { ⌜ (rows ≤ mostRows) × EwahFacts rows (now body) ⌝ }
+    ensures { λ r. ⌜ r ≡ countBelow rows (ewahRows (now (body .entry))) ⌝ }
 {
     let mut n = 0;
     let mut at = 0;

@@ -5,8 +5,8 @@ ghost use Prim.Native.Nat.{_+_, _≤_, _<_};
 ghost use lib.ListN.{length, drop, replicate};
 ghost use Rattle.meaning.specs.Limits.{mostRows};
 ghost use Rattle.meaning.specs.Segment.{fill, segmentCount, fromRows};
-ghost use Rattle.meaning.specs.Ewah.{segments, rowsOf, dueAfter};
-ghost use Rattle.meaning.specs.Laws.{SoundFacts};
+ghost use Rattle.meaning.specs.Ewah.{segments, ewahRows, dueAfter};
+ghost use Rattle.meaning.specs.Laws.{EwahFacts};
 use ewah::marker;
 use words::bits;
 use words::rows;
@@ -65,9 +65,9 @@ fn spread(body: &[u32], out: &mut [u32])
 
 // The first words are those of the body's rows, with no pad bit set; those behind stay.
 pub fn expand(body: &[u32], rows: u32, out: &mut [u32])
-    requires { ⌜ (rows ≤ mostRows) × SoundFacts rows (now body) × (segmentCount 32 rows ≤ length (now out)) ⌝ }
+    requires { ⌜ (rows ≤ mostRows) × EwahFacts rows (now body) × (segmentCount 32 rows ≤ length (now out)) ⌝ }
     ensures { λ _. ⌜ now (out .exit)
-        ≡ fromRows 32 rows (rowsOf (now (body .entry))) ++ drop (segmentCount 32 rows) (now (out .entry)) ⌝ }
+        ≡ fromRows 32 rows (ewahRows (now (body .entry))) ++ drop (segmentCount 32 rows) (now (out .entry)) ⌝ }
 {
     spread(body, out);
     if rows == 0 {

@@ -5,8 +5,8 @@ ghost use Prim.Native.Nat.{_+_, _-_, _*_, _≤_, _<_};
 ghost use lib.ListN.{length, take, drop, replicate};
 ghost use Rattle.meaning.specs.Limits.{mostRows, mostSegments, mostClean, mostDirty};
 ghost use Rattle.meaning.specs.Segment.{hasRow, ones, fill};
-ghost use Rattle.meaning.specs.Ewah.{rowsOf};
-ghost use Rattle.meaning.specs.Laws.{SoundFacts};
+ghost use Rattle.meaning.specs.Ewah.{ewahRows};
+ghost use Rattle.meaning.specs.Laws.{EwahFacts};
 ghost use Rattle.meaning.specs.Answer.{askNth};
 ghost use Rattle.meaning.specs.Demands.{IsNth};
 ghost use Rattle.ewah_read.specs.Found.{foundOf, SoughtIn};
@@ -114,8 +114,8 @@ pub enum Found {
 // The nth set row, from 0. Where the bit that is found lies past the last row it is a pad bit, and not so many rows are
 // set.
 pub fn nth(body: &[u32], rows: u32, n: u32) -> Found
-    requires { ⌜ (rows ≤ mostRows) × SoundFacts rows (now body) ⌝ }
-    ensures { λ r. ⌜ foundOf r ≡ askNth rows (rowsOf (now (body .entry))) n ⌝ }
+    requires { ⌜ (rows ≤ mostRows) × EwahFacts rows (now body) ⌝ }
+    ensures { λ r. ⌜ foundOf r ≡ askNth rows (ewahRows (now (body .entry))) n ⌝ }
 {
     let mut at = 0;
     let mut behind = 0;

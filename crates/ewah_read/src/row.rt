@@ -2,7 +2,7 @@
 ghost use mathlib.Core.Path.{_≡_};
 ghost use Prim.Native.Nat.{_*_, _<_};
 ghost use lib.ListN.{length, getD};
-ghost use Rattle.meaning.specs.Ewah.{segments, rowsOf, dueAfter};
+ghost use Rattle.meaning.specs.Ewah.{segments, ewahRows, dueAfter};
 use ewah::marker;
 use words::bits;
 
@@ -33,7 +33,7 @@ pub fn segment(body: &[u32], s: u32) -> u32
 // Whether row r is set.
 pub fn row(body: &[u32], r: u32) -> bool
     requires { ⌜ (dueAfter 0 (now body) ≡ 0) × (r < length (segments (now body)) * 32) ⌝ }
-    ensures { λ x. ⌜ x ≡ rowsOf (now (body .entry)) r ⌝ }
+    ensures { λ x. ⌜ x ≡ ewahRows (now (body .entry)) r ⌝ }
 {
     bits::has(segment(body, r >> 5), r & 31)
 }

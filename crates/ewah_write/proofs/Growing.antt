@@ -1,17 +1,18 @@
 -- The writer's state grows as the draft that it stands for.
 -- Assumes nothing.
-use Prim.Native.Nat.{ℕ, _+_, _-_, _≤_, _<_}
+use Prim.Native.Nat.{ℕ, _+_, _-_, _%_, _≤_, _<_}
 use mathlib.Core.Bool.{Bool, true, false, cond, _&&_}
-use mathlib.Core.Path.{_≡_, refl, sym, _∙_}
+use mathlib.Core.Path.{_≡_, refl, sym, ap, _∙_}
 use mathlib.Core.List.{[], _∷_}
 use native.Mathlib.Omega.{arith}
 use borrow.Author.Tests.{eqb-true}
+use lib.Bits.{bitAnd, and-mask}
 use lib.Dec.{eqb}
 use lib.ListN.{length, replicate, length-append}
 use Rattle.meaning.specs.Limits.{mostClean, mostDirty}
-use Rattle.meaning.specs.Segment.{clean, mixed, kind, allSet}
+use Rattle.meaning.specs.Segment.{clean, mixed, kind}
 use Rattle.meaning.specs.Canonical.{Draft, blank, draft, body}
-use Rattle.meaning.proofs.Segments.{both, kind-mixed}
+use Rattle.meaning.proofs.Segments.{both}
 use Rattle.meaning.proofs.Least.{size, size-draft, taken}
 use Rattle.meaning.proofs.Runs.{room, longer, longer-length, run-within, run-over, mixed-in, mixed-new}
 use Rattle.ewah_write.specs.declared.writer.Writer.{Writer}
@@ -116,16 +117,11 @@ grown-opened w h x d t =
       in-range = record { value-low = omega arith; clean-low = omega arith; dirty-low = omega arith };
     })
 
--- ---- the kind of a segment, by its word
+-- ---- the kind of a segment of w rows, where `words::rows::is_clean` told t of its word x
 
-pub kind-zeros : {x : ℕ} → x ≡ 0 → kind 32 x ≡ clean 0
-unfolding kind
-kind-zeros e = rw e
+module _ (w x : ℕ) (t : Bool) (h : kind w x ≡ cond t (clean (x % 2)) (mixed x)) where
+  pub kind-clean : t ≡ true → kind w x ≡ clean (bitAnd x 1)
+  kind-clean e = h ∙ ap (λ (q : Bool). cond q (clean (x % 2)) (mixed x)) e ∙ ap clean (sym (and-mask x 1))
 
-pub kind-ones : {x : ℕ} → x ≡ 4294967295 → kind 32 x ≡ clean 1
-unfolding kind allSet
-kind-ones e = rw e
-
-pub kind-other : {x : ℕ} → (x ≡ 0 → ⊥) → (x ≡ 4294967295 → ⊥) → kind 32 x ≡ mixed x
-unfolding allSet
-kind-other {x} h g = kind-mixed 32 x h g
+  pub kind-other : t ≡ false → kind w x ≡ mixed x
+  kind-other e = h ∙ ap (λ (q : Bool). cond q (clean (x % 2)) (mixed x)) e

@@ -6,14 +6,14 @@ use mathlib.Core.List.{List, [], _∷_}
 use native.Mathlib.Omega.{arith}
 use lib.ListN.{length, getD}
 use Rattle.meaning.specs.Segment.{kind, kinds, lastRows}
-use Rattle.meaning.specs.Canonical.{body, put, canonicalOf}
+use Rattle.meaning.specs.Canonical.{body, put, ewahOf}
 use Rattle.meaning.specs.Demands.{PlainRows}
 use Rattle.meaning.proofs.Segments.{kinds-length}
 use Rattle.meaning.proofs.Cut.{rows-inside, rows-end}
 use Rattle.meaning.proofs.Prefixes.{upTo, upTo-word, upTo-all}
 
-pub no-words : (R : ℕ) (xs : List ℕ) → length xs ≡ 0 → [] ≡ canonicalOf (kinds 32 R xs)
-unfolding kinds canonicalOf body
+pub no-words : (R : ℕ) (xs : List ℕ) → length xs ≡ 0 → [] ≡ ewahOf (kinds 32 R xs)
+unfolding kinds ewahOf body
 no-words R [] e = refl
 no-words R (x ∷ xs) e = absurd (omega arith)
 
@@ -26,7 +26,7 @@ module _ {R : ℕ} {xs : List ℕ} (g : PlainRows R xs) (i : ℕ) where
   -- x is the last word as the writer takes it
   pub word-last : (length xs ≡ 0 → ⊥) → i ≤ length xs - 1 → length xs - 1 ≤ i → (x : ℕ)
       → kind 32 x ≡ kind (lastRows 32 R) (getD xs (length xs - 1) 0)
-      → body (put (upTo (kinds 32 R xs) i) (kind 32 x)) ≡ canonicalOf (kinds 32 R xs)
+      → body (put (upTo (kinds 32 R xs) i) (kind 32 x)) ≡ ewahOf (kinds 32 R xs)
   word-last some low high x e =
       let last : i ≡ length xs - 1 = omega arith in
       let rows = rows-end 32 (omega arith) R i (omega (arith, g .count)) in

@@ -4,7 +4,7 @@ ghost use mathlib.Core.List.{_++_};
 ghost use Prim.Native.Nat.{_-_, _≤_};
 ghost use lib.ListN.{length, drop, getD};
 ghost use Rattle.meaning.specs.Segment.{kind, kinds, lastRows};
-ghost use Rattle.meaning.specs.Canonical.{canonicalOf};
+ghost use Rattle.meaning.specs.Canonical.{ewahOf};
 ghost use Rattle.meaning.specs.Demands.{PlainRows};
 use crate::writer;
 use words::bits;
@@ -19,13 +19,13 @@ fn last_word(plain: &[u32], rows: u32) -> u32
         ≡ kind (lastRows 32 rows) (getD (now (plain .entry)) (length (now (plain .entry)) - 1) 0) ⌝ }
 {
     let mask = bits::low_ones(rows::last_rows(rows));
-    rows::spelled(plain[plain.len() - 1], mask)
+    rows::spelled(plain[plain.len() - 1], mask, 0xFFFF_FFFF)
 }
 
 // How many words `write` takes: the same steps with no buffer.
 pub fn measure(plain: &[u32], rows: u32) -> usize
     requires { ⌜ PlainRows rows (now plain) ⌝ }
-    ensures { λ r. ⌜ r ≡ length (canonicalOf (kinds 32 rows (now (plain .entry)))) ⌝ }
+    ensures { λ r. ⌜ r ≡ length (ewahOf (kinds 32 rows (now (plain .entry)))) ⌝ }
 {
     if plain.len() == 0 {
         return 0;
@@ -46,10 +46,10 @@ pub fn measure(plain: &[u32], rows: u32) -> usize
 // The body from the front of `out`, in exactly the words that `measure` counts; words behind it keep their values.
 pub fn write(plain: &[u32], rows: u32, out: &mut [u32]) -> usize
     requires { ⌜ PlainRows rows (now plain) ⌝ }
-    requires { ⌜ length (canonicalOf (kinds 32 rows (now plain))) ≤ length (now out) ⌝ }
-    ensures { λ r. ⌜ r ≡ length (canonicalOf (kinds 32 rows (now (plain .entry)))) ⌝ }
+    requires { ⌜ length (ewahOf (kinds 32 rows (now plain))) ≤ length (now out) ⌝ }
+    ensures { λ r. ⌜ r ≡ length (ewahOf (kinds 32 rows (now (plain .entry)))) ⌝ }
     ensures { λ r. ⌜ now (out .exit)
-        ≡ canonicalOf (kinds 32 rows (now (plain .entry))) ++ drop r (now (out .entry)) ⌝ }
+        ≡ ewahOf (kinds 32 rows (now (plain .entry))) ++ drop r (now (out .entry)) ⌝ }
 {
     if plain.len() == 0 {
         return 0;

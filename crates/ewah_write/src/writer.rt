@@ -11,6 +11,7 @@ use ewah::marker;
 use ewah::marker::Marker;
 use meaning::MOST_CLEAN;
 use meaning::MOST_DIRTY;
+use words::rows;
 
 // The marker being filled, at word `at`, and how many words are in use.
 pub struct Writer {
@@ -114,11 +115,8 @@ pub fn grow_segment(w: Writer, x: u32) -> Writer
     requires { ⌜ w .used < 2 ^ 62 ⌝ }
     ensures { λ r. ⌜ Grown w (kind 32 x ∷ []) r ⌝ }
 {
-    if x == 0 {
-        return grow_run(w, 0, 1);
-    }
-    if x == 0xFFFF_FFFF {
-        return grow_run(w, 1, 1);
+    if rows::is_clean(x, 0xFFFF_FFFF) {
+        return grow_run(w, x & 1, 1);
     }
     grow_mixed(w)
 }
@@ -172,11 +170,8 @@ pub fn push_segment(out: &mut [u32], w: Writer, x: u32) -> Writer
     requires { ⌜ RoomFor (kind 32 x ∷ []) w (length (now out)) ⌝ }
     ensures { λ r. ⌜ Pushed (now (out .entry)) (now (out .exit)) w (kind 32 x ∷ []) r ⌝ }
 {
-    if x == 0 {
-        return push_run(out, w, 0, 1);
-    }
-    if x == 0xFFFF_FFFF {
-        return push_run(out, w, 1, 1);
+    if rows::is_clean(x, 0xFFFF_FFFF) {
+        return push_run(out, w, x & 1, 1);
     }
     push_mixed(out, w, x)
 }

@@ -8,7 +8,7 @@ use denote.Ref.{now}
 use lib.ListN.{length, drop}
 use Rattle.meaning.specs.Segment.{segmentCount}
 use Rattle.meaning.specs.Refusal.{refuseIf}
-use Rattle.meaning.specs.Ewah.{faultFrom, bodyFault}
+use Rattle.meaning.specs.Ewah.{faultFrom, ewahFault}
 use Rattle.answers.specs.Told.{verdictOf}
 use Rattle.ewah.proofs.Steps.{passed-of, faulty-of, end-fault}
 use Rattle.ewah.proofs.check.check.Statement.{statement}
@@ -16,7 +16,7 @@ use Rattle.ewah.proofs.check.check.Tie as tie
 
 abbrev Inv-loop : tie.InvT-loop
 Inv-loop body rows bitmap start left₀ at₀ left at =
-    (at ≤ length body) × (left ≤ segmentCount 32 rows) × (faultFrom bitmap rows (start + at) 0 left (drop at body) ≡ bodyFault bitmap start rows body)
+    (at ≤ length body) × (left ≤ segmentCount 32 rows) × (faultFrom bitmap rows (start + at) 0 left (drop at body) ≡ ewahFault bitmap start rows body)
 
 abbrev μ-loop : tie.MeasureT-loop
 μ-loop body rows bitmap start left₀ at₀ left at = length body - at
@@ -25,7 +25,7 @@ segment-count-requires : tie.Need-segment-count-requires Inv-loop μ-loop
 segment-count-requires c κs = search needs
 
 loop-holds : tie.Need-loop-holds Inv-loop μ-loop
-unfolding bodyFault
+unfolding ewahFault
 loop-holds c =
     let a = c .before .before .args in
     let z : a .start + 0 ≡ a .start = omega arith in

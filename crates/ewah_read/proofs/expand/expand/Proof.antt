@@ -10,24 +10,24 @@ use denote.Ref.{now}
 use lib.Bits.{bitAnd, and-mask}
 use lib.ListN.{length, getD, set, drop, List·getD-append}
 use Rattle.meaning.specs.Segment.{fromRows, segmentCount, lastLimit, lastRows}
-use Rattle.meaning.specs.Ewah.{segments, rowsOf}
-use Rattle.meaning.specs.Laws.{SoundFacts}
+use Rattle.meaning.specs.Ewah.{segments, ewahRows}
+use Rattle.meaning.specs.Laws.{EwahFacts}
 use Rattle.meaning.specs.Demands.{Words}
 use Rattle.meaning.proofs.Segments.{cut}
 use Rattle.meaning.proofs.Cut.{cut-part, cut-none, cut-decide}
-use Rattle.meaning.proofs.CanonicalBody.{decoded-words}
+use Rattle.meaning.proofs.Decoded.{decoded-words}
 use Rattle.ewah_read.proofs.expand.expand.Statement.{statement}
 use Rattle.ewah_read.proofs.expand.expand.Tie as tie
 
 -- a sound body's segments, cut, are the words of its rows
-module _ (R : ℕ) (b : List ℕ) (s : SoundFacts R b) (words : Words b) where
-  cut-rows : cut 32 R (segments b) ≡ fromRows 32 R (rowsOf b)
-  unfolding rowsOf
-  cut-rows = cut-decide 32 (omega arith) R (rowsOf b) (segments b) (s .count) (decoded-words b words) (λ r h. refl)
+module _ (R : ℕ) (b : List ℕ) (s : EwahFacts R b) (words : Words b) where
+  cut-rows : cut 32 R (segments b) ≡ fromRows 32 R (ewahRows b)
+  unfolding ewahRows
+  cut-rows = cut-decide 32 (omega arith) R (ewahRows b) (segments b) (s .count) (decoded-words b words) (λ r h. refl)
 
   module _ (l out : List ℕ) (spread : l ≡ segments b ++ drop (length (segments b)) out) where
     -- where there are none
-    none : R ≡ 0 → l ≡ fromRows 32 R (rowsOf b) ++ drop (segmentCount 32 R) out
+    none : R ≡ 0 → l ≡ fromRows 32 R (ewahRows b) ++ drop (segmentCount 32 R) out
     none z =
         let e : length (segments b) ≡ 0 = s .count ∙ (unfold segmentCount in omega arith) in
         let same = sym (cut-none 32 R (segments b) e) ∙ cut-rows in
@@ -35,7 +35,7 @@ module _ (R : ℕ) (b : List ℕ) (s : SoundFacts R b) (words : Words b) where
 
     -- where the last of them is masked
     masked : (n m : ℕ) → suc n ≡ segmentCount 32 R → m ≡ 2 ^ lastRows 32 R - 1
-        → set l n (bitAnd (getD l n 0) m) ≡ fromRows 32 R (rowsOf b) ++ drop (segmentCount 32 R) out
+        → set l n (bitAnd (getD l n 0) m) ≡ fromRows 32 R (ewahRows b) ++ drop (segmentCount 32 R) out
     unfolding lastLimit
     masked n m e g =
         let xs = segments b in

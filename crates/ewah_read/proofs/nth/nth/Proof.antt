@@ -9,10 +9,12 @@ use mathlib.Core.List.{_++_}
 use denote.Ref.{now}
 use lib.ListN.{length, take, drop, replicate}
 use lib.Seq.{take-length}
+use Rattle.meaning.specs.Format.{rowsOf}
+use Rattle.meaning.specs.declared.Format.the-variants.{Ewah}
 use Rattle.meaning.specs.Limits.{mostSegments}
 use Rattle.meaning.specs.Segment.{ones, fill, hasRow}
 use Rattle.meaning.specs.Demands.{IsNth}
-use Rattle.meaning.specs.Ewah.{segments}
+use Rattle.meaning.specs.Ewah.{segments, ewahRows}
 use Rattle.meaning.proofs.Walk.{At, Step, at-start, at-end}
 use Rattle.meaning.proofs.Asked.{ones-step, nth-step, nth-found, nth-pad, nth-past}
 use Rattle.ewah_read.specs.declared.nth.Sought.the-variants.{Here, Ahead}
@@ -112,18 +114,18 @@ add-row c =
     omega (arith, here (c .before) .below, few (c .before .before .before .before .before .before .before .before))
 
 returns : tie.Need-returns Inv-loop μ-loop
-unfolding foundOf
+unfolding foundOf rowsOf ewahRows
 returns c =
     let r = c .before .before in
     let s = asked r in
-    sym (nth-found (s .args .rows) (now (s .args .body)) (s .pre .1 .count) (s .args .n) _ (here r) (c .if1 .taken))
+    sym (nth-found Ewah (s .args .rows) (now (s .args .body)) (s .pre .1 .count) (s .args .n) _ (here r) (c .if1 .taken))
 
 returns-2 : tie.Need-returns-2 Inv-loop μ-loop
-unfolding foundOf
+unfolding foundOf rowsOf ewahRows
 returns-2 c =
     let r = c .before .before in
     let s = asked r in
-    sym (nth-pad (s .args .rows) (now (s .args .body)) (s .pre .1 .count) (s .args .n) _ (here r) (c .if1 .left))
+    sym (nth-pad Ewah (s .args .rows) (now (s .args .body)) (s .pre .1 .count) (s .args .n) _ (here r) (c .if1 .left))
 
 enum-known-k : tie.Need-enum-known-k Inv-loop μ-loop
 enum-known-k c = search needs
@@ -157,7 +159,7 @@ loop-again c =
     (over r .next, omega (arith, h .loop .inv .1, more))
 
 returns-3 : tie.Need-returns-3 Inv-loop μ-loop
-unfolding foundOf
+unfolding foundOf rowsOf ewahRows
 returns-3 c =
     let s = c .before .before .before in
     let b = now (s .args .body) in
@@ -165,7 +167,7 @@ returns-3 c =
     let e : ones 32 (take (h .behind) (segments b)) ≡ ones 32 (segments b) =
     ap (λ (o : ℕ). ones 32 (take o (segments b))) (at-end b (h .at) (h .behind) (h .inv .0) (c .loop-test .left))
     ∙ ap (ones 32) (take-length (segments b)) in
-    sym (nth-past (s .args .rows) b (s .pre .1 .count) (s .args .n) (omega (arith, h .inv .1)))
+    sym (nth-past Ewah (s .args .rows) b (s .pre .1 .count) (s .args .n) (omega (arith, h .inv .1)))
 
 pub nth-spec : {M : Type 1} → statement M
 nth-spec =

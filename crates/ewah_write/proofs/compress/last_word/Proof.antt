@@ -1,6 +1,6 @@
 -- `ewah_write::compress::last_word` meets its contract: the mask keeps a word that sets no pad bit. Assumes nothing.
 use Prim.Native.Nat.{ℕ, _-_, _^_, _<_}
-use mathlib.Core.Path.{ap, _∙_}
+use mathlib.Core.Path.{refl, ap, _∙_}
 use native.Mathlib.Nat.{mod-eq-of-lt}
 use native.Mathlib.Omega.{arith}
 use borrow.Author.Needs.{needs}
@@ -40,7 +40,7 @@ returns c =
     let mask = c .before .before .low-ones .ensures ∙ ap (λ (k : ℕ). 2 ^ k - 1) (last .0) in
     let is-last = last-getD plain (length plain - 1) (omega arith) in
     let low : getD plain (length plain - 1) 0 < 2 ^ real = rw is-last at (s .pre .0 .pads) in
-    c .spelled .ensures real (omega (arith, last)) (omega (arith, last)) mask ∙ ap (kind real) (mod-eq-of-lt low)
+    c .spelled .ensures 32 real (omega (arith, last)) (omega (arith, last)) refl mask .0 ∙ ap (kind real) (mod-eq-of-lt low)
 
 pub last-word-spec : {M : Type 1} → statement M
 last-word-spec =

@@ -7,7 +7,7 @@ use lib.ListN.{length, getD}
 use borrow.Author.Needs.{needs}
 use denote.Ref.{now}
 use Rattle.meaning.specs.Segment.{Segment, kind, kinds}
-use Rattle.meaning.specs.Canonical.{Draft, body, put, canonicalOf}
+use Rattle.meaning.specs.Canonical.{Draft, body, put, ewahOf}
 use Rattle.meaning.proofs.Prefixes.{upTo, upTo-within}
 use Rattle.ewah_write.specs.declared.writer.Writer.{Writer}
 use Rattle.ewah_write.specs.Drafts.{Pushed}
@@ -96,7 +96,7 @@ module _ (c : tie.After-loop Inv-loop μ-loop) where
   abbrev end : ℕ
   end = c .before .before .before .last-word .result
 
-  done : body (put (so-far (c .before)) (kind 32 end)) ≡ canonicalOf (all (c .before))
+  done : body (put (so-far (c .before)) (kind 32 end)) ≡ ewahOf (all (c .before))
   done =
       let t = c .before in
       let h = t .loop in

@@ -1,34 +1,38 @@
--- `ewah_write::writer::grow_segment` meets its contract: `kind-zeros`, `kind-ones` and `kind-other` say which kind the word has in each way. Assumes nothing.
+-- `ewah_write::writer::grow_segment` meets its contract: `kind-clean` and `kind-other` say which kind the word has in each
+-- way. Assumes nothing.
+use native.Mathlib.Omega.{arith}
+use mathlib.Core.Path.{refl}
 use borrow.Author.Needs.{needs}
-use Rattle.ewah_write.proofs.Growing.{kind-zeros, kind-ones, kind-other}
+use lib.Bits.{and-mask}
+use Rattle.meaning.specs.Segment.{allSet}
+use Rattle.ewah_write.proofs.Growing.{kind-clean, kind-other}
 use Rattle.ewah_write.proofs.writer.grow_segment.Statement.{statement}
 use Rattle.ewah_write.proofs.writer.grow_segment.Tie as tie
 
+is-clean-requires : tie.Need-is-clean-requires
+is-clean-requires c κs = search needs
+
 grow-run-requires : tie.Need-grow-run-requires
-grow-run-requires c κs = search needs
+grow-run-requires c κs =
+    let s = c .before .before in
+    (s .pre .0, (s .pre .1, omega (arith, and-mask (s .args .x) 1), omega arith))
 
 returns : tie.Need-returns
-returns c = rw (kind-zeros (c .before .if1 .taken)) (c .grow-run .ensures)
-
-grow-run-requires-2 : tie.Need-grow-run-requires-2
-grow-run-requires-2 c κs = search needs
-
-returns-2 : tie.Need-returns-2
-returns-2 c = rw (kind-ones (c .before .if2 .taken)) (c .grow-run2 .ensures)
+unfolding allSet
+returns c =
+    let s = c .before .before .before in
+    let k = c .before .before .is-clean in
+    rw (kind-clean 32 (s .args .x) _ (k .ensures 32 (omega arith) refl) (c .before .if1 .taken)) (c .grow-run .ensures)
 
 grow-mixed-requires : tie.Need-grow-mixed-requires
 grow-mixed-requires c κs = search needs
 
-returns-3 : tie.Need-returns-3
-returns-3 c = rw (kind-other (c .before .before .if1 .left) (c .before .if2 .left)) (c .grow-mixed .ensures (c .before .before .before .args .x))
+returns-2 : tie.Need-returns-2
+unfolding allSet
+returns-2 c =
+    let s = c .before .before .before in
+    let k = c .before .before .is-clean in
+    rw (kind-other 32 (s .args .x) _ (k .ensures 32 (omega arith) refl) (c .before .if1 .left)) (c .grow-mixed .ensures (s .args .x))
 
 pub grow-segment-spec : {M : Type 1} → statement M
-grow-segment-spec =
-    tie.close
-    (tie.spec
-    grow-run-requires
-    returns
-    grow-run-requires-2
-    returns-2
-    grow-mixed-requires
-    returns-3)
+grow-segment-spec = tie.close (tie.spec is-clean-requires grow-run-requires returns grow-mixed-requires returns-2)

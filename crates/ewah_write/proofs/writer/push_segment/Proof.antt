@@ -1,46 +1,61 @@
--- `ewah_write::writer::push_segment` meets its contract: `kind-zeros`, `kind-ones` and `kind-other` carry the room and the push between the word and its kind. Assumes nothing.
+-- `ewah_write::writer::push_segment` meets its contract: `kind-clean` and `kind-other` carry the room and the push between
+-- the word and its kind. Assumes nothing.
+use native.Mathlib.Omega.{arith}
+use mathlib.Core.Path.{refl}
 use borrow.Author.Needs.{needs}
-use Rattle.ewah_write.proofs.Growing.{kind-zeros, kind-ones, kind-other}
+use lib.Bits.{and-mask}
+use Rattle.meaning.specs.Segment.{allSet}
+use Rattle.ewah_write.proofs.Growing.{kind-clean, kind-other}
 use Rattle.ewah_write.proofs.writer.push_segment.Statement.{statement}
 use Rattle.ewah_write.proofs.writer.push_segment.Tie as tie
 
+is-clean-requires : tie.Need-is-clean-requires
+is-clean-requires c κs = search needs
+
 push-run-requires : tie.Need-push-run-requires
-push-run-requires c κs = (rw (kind-zeros (c .before .if1 .taken)) at (c .before .before .before .pre), search needs)
+unfolding allSet
+push-run-requires c κs =
+    let k = c .before .before .is-clean in
+    let s = c .before .before .before .before in (
+      rw (kind-clean 32 (s .args .x) _ (k .ensures 32 (omega arith) refl) (c .before .if1 .taken)) at (s .pre),
+      (omega (arith, and-mask (s .args .x) 1), omega arith),
+    )
 
 same-length : tie.Need-same-length
 same-length c = search needs
 
 returns : tie.Need-returns
-returns c = rw (kind-zeros (c .before .before .before .before .if1 .taken)) (c .before .before .push-run .ensures)
+unfolding allSet
+returns c =
+    let t = c .before .before .before .before in
+    let x = t .before .before .before .args .x in
+    rw (kind-clean 32 x _ (t .before .is-clean .ensures 32 (omega arith) refl) (t .if1 .taken)) (c .before .before .push-run .ensures)
 
-push-run-requires-2 : tie.Need-push-run-requires-2
-push-run-requires-2 c κs = (rw (kind-ones (c .before .if2 .taken)) at (c .before .before .before .before .pre), search needs)
+push-mixed-requires : tie.Need-push-mixed-requires
+unfolding allSet
+push-mixed-requires c κs =
+    let k = c .before .before .is-clean in
+    let s = c .before .before .before .before in
+    rw (kind-other 32 (s .args .x) _ (k .ensures 32 (omega arith) refl) (c .before .if1 .left)) at (s .pre)
 
 same-length-2 : tie.Need-same-length-2
 same-length-2 c = search needs
 
 returns-2 : tie.Need-returns-2
-returns-2 c = rw (kind-ones (c .before .before .before .before .if2 .taken)) (c .before .before .push-run2 .ensures)
-
-push-mixed-requires : tie.Need-push-mixed-requires
-push-mixed-requires c κs = rw (kind-other (c .before .before .if1 .left) (c .before .if2 .left)) at (c .before .before .before .before .pre)
-
-same-length-3 : tie.Need-same-length-3
-same-length-3 c = search needs
-
-returns-3 : tie.Need-returns-3
-returns-3 c = rw (kind-other (c .before .before .before .before .before .if1 .left) (c .before .before .before .before .if2 .left)) (c .before .before .push-mixed .ensures)
+unfolding allSet
+returns-2 c =
+    let t = c .before .before .before .before in
+    let x = t .before .before .before .args .x in
+    rw (kind-other 32 x _ (t .before .is-clean .ensures 32 (omega arith) refl) (t .if1 .left)) (c .before .before .push-mixed .ensures)
 
 pub push-segment-spec : {M : Type 1} → statement M
 push-segment-spec =
     tie.close
     (tie.spec
+    is-clean-requires
     push-run-requires
     same-length
     returns
-    push-run-requires-2
-    same-length-2
-    returns-2
     push-mixed-requires
-    same-length-3
-    returns-3)
+    same-length-2
+    returns-2)

@@ -1,0 +1,3 @@
+pub mod Runs
+pub mod Growing
+pub mod Pushing
