@@ -10,18 +10,21 @@ use lib.ListN.{length, getD, set, length-set}
 use lib.Seq.{getD-set-same, getD-set-other}
 use Rattle.meaning.specs.Limits.{blockSegments}
 use Rattle.meaning.specs.Segment.{fill}
-use Rattle.meaning.specs.Ewah.{segments}
+use Rattle.meaning.specs.Format.{width, segmentsOf}
+use Rattle.meaning.specs.declared.Format.{Format}
 use Rattle.meaning.specs.Ahead.{Ahead}
 use Rattle.ewah.specs.declared.cursor.Cursor.{Cursor}
 use Rattle.ewah.specs.declared.cursor.Piece.the-variants.{Clean, Dirty}
-use Rattle.ewah.specs.Cursors.{InOrder, leftOf, wordOf, piecesFrom, Passes}
+use Rattle.ewah.specs.Cursors.{InOrder, leftOf, piecesFrom}
+use Rattle.bodies.specs.Walks.{wordOf, Passes}
 use Rattle.block_read.specs.Taken.{wordAt, Replaced, SpanTaken, RowTaken}
-use Rattle.ewah.proofs.Spans.{run-word, dirty-segment, piece-word}
+use Rattle.bodies.proofs.Spans.{run-word, dirty-segment, piece-word}
 
-module _ (b : List ℕ) (c : Cursor) (n : ℕ) (x : List ℕ) (at : ℕ) (x′ : List ℕ) (r : Cursor) where
+module _ (F : Format) (b : List ℕ) (c : Cursor) (n : ℕ) (x : List ℕ) (at : ℕ) (x′ : List ℕ) (r : Cursor) where
   -- the words that were replaced are the segments
-  spanned : (f : ℕ → ℕ) → Replaced x x′ at n f → Passes b c n r
-      → ((o : ℕ) → Ahead b o (piecesFrom b c) → (i : ℕ) → i < n → getD (segments b) (o + i) 0 ≡ f i) → SpanTaken b c n x at x′ r
+  spanned : (f : ℕ → ℕ) → Replaced x x′ at n f → Passes F b c n r
+      → ((o : ℕ) → Ahead F b o (piecesFrom F b c) → (i : ℕ) → i < n → getD (segmentsOf F b) (o + i) 0 ≡ f i)
+      → SpanTaken F b c n x at x′ r
   spanned f p go is = record {
     goes = go;
     words = λ o a i l. p .inside i l ∙ sym (is o a i l);
@@ -31,17 +34,17 @@ module _ (b : List ℕ) (c : Cursor) (n : ℕ) (x : List ℕ) (at : ℕ) (x′ :
   }
 
   -- those of a clean run
-  pub run-taken : (v left : ℕ) → c .piece ≡ Clean v left → n ≤ left → Replaced x x′ at n (λ i. fill 32 v) → Passes b c n r
-      → SpanTaken b c n x at x′ r
-  run-taken v left e h p go = spanned _ p go (λ o a i l. run-word b o c a v left e i (omega arith))
+  pub run-taken : (v left : ℕ) → c .piece ≡ Clean v left → n ≤ left → Replaced x x′ at n (λ i. fill (width F) v) → Passes F b c n r
+      → SpanTaken F b c n x at x′ r
+  run-taken v left e h p go = spanned _ p go (λ o a i l. run-word F b o c a v left e i (omega arith))
 
   -- dirty words
-  pub dirty-taken : (w : ℕ) → c .piece ≡ Dirty w → InOrder b c → n ≤ c .dirty + 1 → c .next + (n - 1) ≤ length b
-      → Replaced x x′ at n (λ i. getD b (c .next - 1 + i) 0) → Passes b c n r → SpanTaken b c n x at x′ r
-  dirty-taken w e k h l p go = spanned _ p go (λ o a i q. dirty-segment b o c a w e k i (omega arith) (omega arith))
+  pub dirty-taken : (w : ℕ) → c .piece ≡ Dirty w → InOrder F b c → n ≤ c .dirty + 1 → c .next + (n - 1) ≤ length b
+      → Replaced x x′ at n (λ i. getD b (c .next - 1 + i) 0) → Passes F b c n r → SpanTaken F b c n x at x′ r
+  dirty-taken w e k h l p go = spanned _ p go (λ o a i q. dirty-segment F b o c a w e k i (omega arith) (omega arith))
 
   -- a span is a row of segments that may differ
-  pub row-taken : n ≤ blockSegments → SpanTaken b c n x at x′ r → RowTaken b c n false x at x′ r
+  pub row-taken : n ≤ blockSegments → SpanTaken F b c n x at x′ r → RowTaken F b c n false x at x′ r
   unfolding wordAt
   row-taken h s = record {
     goes = s .goes;
@@ -52,12 +55,12 @@ module _ (b : List ℕ) (c : Cursor) (n : ℕ) (x : List ℕ) (at : ℕ) (x′ :
   }
 
 -- one piece's word, stored, is a row of segments alike
-pub even-taken : (b : List ℕ) (c : Cursor) (n : ℕ) (x : List ℕ) (at v : ℕ) (r : Cursor) → at < length x → v ≡ wordOf (c .piece)
-    → n ≤ leftOf (c .piece) → Passes b c n r → RowTaken b c n true x at (set x at v) r
+pub even-taken : (F : Format) (b : List ℕ) (c : Cursor) (n : ℕ) (x : List ℕ) (at v : ℕ) (r : Cursor) → at < length x
+    → v ≡ wordOf F (c .piece) → n ≤ leftOf (c .piece) → Passes F b c n r → RowTaken F b c n true x at (set x at v) r
 unfolding wordAt
-even-taken b c n x at v r h e l go = record {
+even-taken F b c n x at v r h e l go = record {
   goes = go;
-  words = λ o a i q. let z : at + 0 ≡ at = omega arith in rw z (getD-set-same x at v 0 h) ∙ e ∙ sym (piece-word b o c a i (omega arith));
+  words = λ o a i q. let z : at + 0 ≡ at = omega arith in rw z (getD-set-same x at v 0 h) ∙ e ∙ sym (piece-word F b o c a i (omega arith));
   long = length-set x at v;
   before = λ i q. getD-set-other x at i v 0 (omega arith);
   behind = λ i q. getD-set-other x at i v 0 (omega arith);
@@ -65,8 +68,8 @@ even-taken b c n x at v r h e l go = record {
 
 -- ---- span after span
 
-module _ (b : List ℕ) (c₀ : Cursor) (x₀ : List ℕ) (at : ℕ) where
-  pub taken-none : InOrder b c₀ → (leftOf (c₀ .piece) ≡ 0 → piecesFrom b c₀ ≡ []) → SpanTaken b c₀ 0 x₀ at x₀ c₀
+module _ (F : Format) (b : List ℕ) (c₀ : Cursor) (x₀ : List ℕ) (at : ℕ) where
+  pub taken-none : InOrder F b c₀ → (leftOf (c₀ .piece) ≡ 0 → piecesFrom F b c₀ ≡ []) → SpanTaken F b c₀ 0 x₀ at x₀ c₀
   taken-none k z = record {
     goes = record { in-order = k; on = λ o a. let e : o + 0 ≡ o = omega arith in rw e a; at-end = z };
     words = λ o a i l. absurd (omega arith);
@@ -76,7 +79,7 @@ module _ (b : List ℕ) (c₀ : Cursor) (x₀ : List ℕ) (at : ℕ) where
   }
 
   pub taken-more : (done : ℕ) (x : List ℕ) (c : Cursor) (m : ℕ) (x′ : List ℕ) (r : Cursor)
-      → SpanTaken b c₀ done x₀ at x c → SpanTaken b c m x (at + done) x′ r → SpanTaken b c₀ (done + m) x₀ at x′ r
+      → SpanTaken F b c₀ done x₀ at x c → SpanTaken F b c m x (at + done) x′ r → SpanTaken F b c₀ (done + m) x₀ at x′ r
   taken-more done x c m x′ r p d = record {
     goes = record {
       in-order = d .goes .in-order;
@@ -89,7 +92,7 @@ module _ (b : List ℕ) (c₀ : Cursor) (x₀ : List ℕ) (at : ℕ) where
     behind = λ i l. d .behind i (omega arith) ∙ p .behind i (omega arith);
   }
     where
-      words : (o : ℕ) → Ahead b o (piecesFrom b c₀) → (i : ℕ) → i < done + m → getD x′ (at + i) 0 ≡ getD (segments b) (o + i) 0
+      words : (o : ℕ) → Ahead F b o (piecesFrom F b c₀) → (i : ℕ) → i < done + m → getD x′ (at + i) 0 ≡ getD (segmentsOf F b) (o + i) 0
       words o a i l = elim (decLe done i) [
         | yes h ↦
             let e : at + done + (i - done) ≡ at + i = omega arith in

@@ -18,7 +18,8 @@ take-even-requires c κs =
 returns : tie.Need-returns
 returns c =
     let a = c .before .before .before .before .args in
-    subst (λ (t : Bool). RowTaken (now (a .body)) (a .c) (a .n) t (now (a .x)) (a .at) (c .take-even .last .1 .1 .0) (c .take-even .result))
+    let r = c .take-even in
+    subst (λ (t : Bool). RowTaken (a .format) (now (a .body)) (a .c) (a .n) t (now (a .x)) (a .at) (r .last .1 .1 .1 .0) (r .result))
     (sym (c .before .before .if1 .taken)) (c .take-even .ensures)
 
 take-spans-requires : tie.Need-take-spans-requires
@@ -31,10 +32,11 @@ returns-2 : tie.Need-returns-2
 returns-2 c =
     let s = c .before .before .before .before in
     let a = s .args in
+    let r = c .take-spans in
     let few = s .pre .1 .1 .1 .4 (c .before .before .if1 .left) in
-    subst (λ (t : Bool). RowTaken (now (a .body)) (a .c) (a .n) t (now (a .x)) (a .at) (c .take-spans .last .1 .1 .0) (c .take-spans .result))
+    subst (λ (t : Bool). RowTaken (a .format) (now (a .body)) (a .c) (a .n) t (now (a .x)) (a .at) (r .last .1 .1 .1 .0) (r .result))
     (sym (c .before .before .if1 .left))
-    (row-taken (now (a .body)) (a .c) (a .n) (now (a .x)) (a .at) _ (c .take-spans .result) few (c .take-spans .ensures))
+    (row-taken (a .format) (now (a .body)) (a .c) (a .n) (now (a .x)) (a .at) _ (r .result) few (r .ensures))
 
 pub take-spec : {M : Type 1} → statement M
 take-spec = tie.close (tie.spec take-even-requires returns take-spans-requires returns-2)

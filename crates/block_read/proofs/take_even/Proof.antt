@@ -1,7 +1,7 @@
 -- `block_read::take_even` meets its contract: `even-taken`.
 -- Assumes nothing.
 use denote.Ref.{now}
-use Rattle.ewah.proofs.Pieces.{passes-one}
+use Rattle.bodies.proofs.Advancing.{passes-one}
 use Rattle.block_read.proofs.Joining.{even-taken}
 use native.Mathlib.Omega.{arith}
 use borrow.Author.Needs.{needs}
@@ -25,8 +25,9 @@ returns c =
     let s = c .before .before .before in
     let a = s .args in
     let p = s .pre .1 in
-    let go = passes-one (now (a .body)) (a .c) (a .n) (p .2) (p .3) (c .advance .result) (c .advance .ensures) in
-    even-taken (now (a .body)) (a .c) (a .n) (now (a .x)) (a .at) _ (c .advance .result) (omega arith) (c .before .word .ensures) (p .3) go
+    let go = passes-one (a .format) (now (a .body)) (a .c) (a .n) (p .2) (p .3) (c .advance .result) (c .advance .ensures) in
+    even-taken (a .format) (now (a .body)) (a .c) (a .n) (now (a .x)) (a .at) _ (c .advance .result) (omega arith)
+    (c .before .word .ensures) (p .3) go
 
 pub take-even-spec : {M : Type 1} → statement M
 take-even-spec = tie.close (tie.spec word-requires mul-x element-write-x advance-requires returns)

@@ -4,7 +4,8 @@ use Prim.Native.Nat.{ℕ}
 use mathlib.Core.Path.{ap, subst}
 use denote.Ref.{now}
 use Rattle.ewah.specs.declared.cursor.Piece as code
-use Rattle.ewah.specs.Cursors.{ValueLow, spanBy, behind}
+use Rattle.ewah.specs.Cursors.{ValueLow}
+use Rattle.bodies.specs.Walks.{spanBy, behind}
 use Rattle.block_read.specs.Taken.{Replaced}
 use Rattle.block_read.proofs.Joining.{run-taken}
 use native.Mathlib.Omega.{arith}
@@ -34,7 +35,8 @@ returns c =
     let filled =
     subst (λ (w : ℕ). Replaced (now (a .x)) (c .before .fill .last .0) (a .at) (a .n) (λ i. w))
     (c .before .before .segment .ensures) (c .before .fill .ensures) in
-    run-taken (now (a .body)) (a .c) (a .n) (now (a .x)) (a .at) _ (c .pass .result) (a .value) (a .left) (p .0) (p .2) filled (c .pass .ensures)
+    run-taken (a .format) (now (a .body)) (a .c) (a .n) (now (a .x)) (a .at) _ (c .pass .result)
+    (a .value) (a .left) (p .0) (p .2) filled (c .pass .ensures)
 
 pub take-run-spec : {M : Type 1} → statement M
 take-run-spec = tie.close (tie.spec segment-requires fill-requires pass-requires returns)

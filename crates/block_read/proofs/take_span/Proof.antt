@@ -2,7 +2,7 @@
 -- Assumes nothing.
 use mathlib.Core.Path.{ap}
 use Rattle.ewah.specs.declared.cursor.Piece as code
-use Rattle.ewah.specs.Cursors.{spanBy}
+use Rattle.bodies.specs.Walks.{spanBy}
 use native.Mathlib.Omega.{arith}
 use borrow.Author.Needs.{needs}
 use Rattle.block_read.proofs.take_span.Statement.{statement}

@@ -4,7 +4,8 @@ use Prim.Native.Nat.{_+_, _-_, _≤_}
 use mathlib.Core.Path.{_≡_, _∙_}
 use denote.Ref.{now}
 use Rattle.block_read.specs.Taken.{SpanTaken}
-use Rattle.ewah.proofs.Spans.{span-some}
+use Rattle.bodies.proofs.Loading.{due-low}
+use Rattle.bodies.proofs.Spans.{span-some}
 use Rattle.block_read.proofs.Joining.{taken-none, taken-more}
 use borrow.Author.Needs.{needs}
 use native.Mathlib.Omega.{arith}
@@ -12,19 +13,21 @@ use Rattle.block_read.proofs.take_spans.Statement.{statement}
 use Rattle.block_read.proofs.take_spans.Tie as tie
 
 abbrev Inv-loop : tie.InvT-loop
-Inv-loop body x₀ at n c₀ done₀ x c done = (done ≤ n) × SpanTaken body c₀ done x₀ at x c
+Inv-loop format body x₀ at n c₀ done₀ x c done = (done ≤ n) × SpanTaken format body c₀ done x₀ at x c
 
 abbrev μ-loop : tie.MeasureT-loop
-μ-loop body x₀ at n c₀ done₀ x c done = n - done
+μ-loop format body x₀ at n c₀ done₀ x c done = n - done
 
 loop-holds : tie.Need-loop-holds Inv-loop μ-loop
 loop-holds c =
     let s = c .before in
     let a = s .args in
-    (omega arith, taken-none (now (a .body)) (a .from) (now (a .x)) (a .at) (s .pre .0) (s .pre .1 .1 .0))
+    (omega arith, taken-none (a .format) (now (a .body)) (a .from) (now (a .x)) (a .at) (s .pre .0) (s .pre .1 .1 .0))
 
 span-requires : tie.Need-span-requires Inv-loop μ-loop
-span-requires c κs = c .before .loop .inv .1 .goes .in-order .dirty-low
+span-requires c κs =
+    let f = c .before .before .before .args .format in
+    omega (arith, c .before .loop .inv .1 .goes .in-order .dirty-low, due-low f)
 
 sub-smaller : tie.Need-sub-smaller Inv-loop μ-loop
 sub-smaller c = search needs
@@ -36,7 +39,8 @@ smaller-requires c κs =
     let h = s .pre .1 .0 in
     let t = c .before .loop-test .taken in
     let g = l .inv .1 .goes in
-    let some = span-some (now (s .args .body)) (h .0 + l .done) (l .c) (g .on (h .0) (h .1)) (g .at-end) (omega (arith, h .2, t)) in
+    let b = now (s .args .body) in
+    let some = span-some (s .args .format) b (h .0 + l .done) (l .c) (g .on (h .0) (h .1)) (g .at-end) (omega (arith, h .2, t)) in
     (omega (arith, c .span .ensures, some), omega (arith, t))
 
 cast-take-span : tie.Need-cast-take-span Inv-loop μ-loop
@@ -75,8 +79,8 @@ loop-again c =
     let d = c .take-span in
     let t = c .before .before .before .before .loop-test .taken in (
       omega (arith, m .ensures .2, t),
-      taken-more (now (a .body)) (a .from) (now (a .x)) (a .at) (l .done) (l .x) (l .c) (m .result) (d .last .1 .1 .0) (d .result)
-          (l .inv .1) (d .ensures),
+      taken-more (a .format) (now (a .body)) (a .from) (now (a .x)) (a .at) (l .done) (l .x) (l .c) (m .result)
+          (d .last .1 .1 .1 .0) (d .result) (l .inv .1) (d .ensures),
     )
 
 returns : tie.Need-returns Inv-loop μ-loop

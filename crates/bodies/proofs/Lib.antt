@@ -1,0 +1,3 @@
+pub mod Loading
+pub mod Advancing
+pub mod Spans

@@ -1,0 +1,5 @@
+pub mod OfEwah
+pub mod OfWah
+pub mod Bodies
+pub mod Joined
+pub mod UpTo

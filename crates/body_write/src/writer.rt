@@ -1,0 +1,69 @@
+// The writer of canonical form for either format, as a state by value. Growing it needs no buffer; pushing grows it too,
+// and stores the words.
+ghost use mathlib.Core.Path.{_≡_};
+ghost use mathlib.Core.List.{[], _∷_};
+ghost use Prim.Native.Nat.{ℕ, _-_, _<_, _≤_, _^_};
+ghost use lib.ListN.{length, replicate};
+ghost use Rattle.meaning.specs.Segment.{clean, kind};
+ghost use Rattle.meaning.specs.Format.{width, mostRun};
+ghost use Rattle.body_write.specs.Bodies.{Stands, Growing, Grown, RoomFor, Pushed};
+use ewah_write::writer::Writer;
+use meaning::Format;
+
+// No segment yet.
+pub fn start(format: Format) -> Writer
+    ensures { λ r. ⌜ Stands format r [] ⌝ }
+{
+    match format {
+        Format::Ewah => ewah_write::writer::start(),
+        Format::Wah => wah_write::writer::start(),
+    }
+}
+
+// A clean run.
+pub fn grow_run(format: Format, w: Writer, value: u32, n: u32) -> Writer
+    requires { ⌜ Growing format w n ⌝ }
+    requires { ⌜ (value < 2) × (1 ≤ n) × (n ≤ mostRun format) ⌝ }
+    ensures { λ r. ⌜ Grown format w (replicate n (clean value)) r ⌝ }
+{
+    match format {
+        Format::Ewah => ewah_write::writer::grow_run(w, value, n),
+        Format::Wah => wah_write::writer::grow_run(w, value, n),
+    }
+}
+
+// One segment, of the kind that its word has: the word of a whole segment of ones stands for a clean one, however many rows it has.
+pub fn grow_segment(format: Format, w: Writer, x: u32) -> Writer
+    requires { ⌜ Growing format w 1 ⌝ }
+    ensures { λ r. ⌜ Grown format w (kind (width format) x ∷ []) r ⌝ }
+{
+    match format {
+        Format::Ewah => ewah_write::writer::grow_segment(w, x),
+        Format::Wah => wah_write::writer::grow_segment(w, x),
+    }
+}
+
+// `grow_run`, with its words. The word of all rows of its last segment is `full`; EWAH has no use for it.
+pub fn push_run(format: Format, out: &mut [u32], w: Writer, value: u32, n: u32, full: u32) -> Writer
+    requires { ⌜ RoomFor format (replicate n (clean value)) w (length (now out)) ⌝ }
+    requires { ⌜ (value < 2) × (1 ≤ n) × (n ≤ mostRun format) ⌝ }
+    ensures { λ r. ⌜ ((real : ℕ) → full ≡ 2 ^ real - 1
+        → Pushed format real (now (out .entry)) (now (out .exit)) w (replicate n (clean value)) r) ⌝ }
+{
+    match format {
+        Format::Ewah => ewah_write::writer::push_run(out, w, value, n),
+        Format::Wah => wah_write::writer::push_run(out, w, value, n, full),
+    }
+}
+
+// `grow_segment`, with its words.
+pub fn push_segment(format: Format, out: &mut [u32], w: Writer, x: u32, full: u32) -> Writer
+    requires { ⌜ RoomFor format (kind (width format) x ∷ []) w (length (now out)) ⌝ }
+    ensures { λ r. ⌜ ((real : ℕ) → full ≡ 2 ^ real - 1
+        → Pushed format real (now (out .entry)) (now (out .exit)) w (kind (width format) x ∷ []) r) ⌝ }
+{
+    match format {
+        Format::Ewah => ewah_write::writer::push_segment(out, w, x),
+        Format::Wah => wah_write::writer::push_segment(out, w, x, full),
+    }
+}

@@ -1,0 +1,4 @@
+pub mod Sending
+pub mod Walking
+pub mod Emitting
+pub mod Packing
