@@ -1,22 +1,22 @@
 -- The words of a row one after the other: the segments of the first i of them, and what room they take.
 -- Assumes nothing.
-use Prim.Native.Nat.{ℕ, _+_, _*_, _≤_, _<_}
+use Prim.Native.Nat.{ℕ, _+_, _-_, _^_, _≤_, _<_}
 use mathlib.Core.Bool.{Bool, true, false, true≢false}
 use mathlib.Core.Path.{_≡_, refl, sym, ap, _∙_, subst}
-use mathlib.Core.List.{List, [], _∷_, _++_, map, foldl}
+use mathlib.Core.List.{List, [], _∷_, _++_, map, append-nil}
+use native.Mathlib.Decide.{ℕ-discrete}
 use native.Mathlib.Omega.{arith}
 use native.Mathlib.Numerals.{add-one}
-use lib.ListN.{length, take, drop, getD, replicate, take-append-drop, length-map}
+use lib.ListN.{length, take, drop, getD, replicate, take-append-drop, length-append, length-map}
 use lib.Seq.{take-suc, take-all, length-take-le}
-use Rattle.meaning.specs.Segment.{Segment, kind}
-use Rattle.meaning.specs.Canonical.{put}
+use Rattle.meaning.specs.Segment.{Segment, mixed, kind, allSet}
+use Rattle.meaning.specs.Format.{width}
+use Rattle.meaning.specs.declared.Format.{Format}
+use Rattle.meaning.specs.declared.Format.the-variants.{Ewah}
 use Rattle.meaning.proofs.Segments.{map-append}
-use Rattle.meaning.proofs.Least.{puts-add}
 use Rattle.ewah_write.specs.declared.writer.Writer.{Writer}
-use Rattle.ewah_write.specs.Drafts.{Writing, RoomFor, Grown, Pushed}
-use Rattle.ewah_write.proofs.Growing.{used-is}
-use Rattle.merge.specs.Emitted.{Emitted}
-use Rattle.merge.proofs.Emitting.{grown-more, pushed-more, room-first, room-rest}
+use Rattle.body_write.specs.Bodies.{Growing, RoomFor, Grown, Pushed, Emitted}
+use Rattle.body_write.proofs.Joined.{still-growing, grown-more, pushed-more, room-first, room-rest}
 use Rattle.block_write.specs.Rowed.{rowSegments}
 
 -- ---- the first i words
@@ -36,60 +36,116 @@ pub agree-more : (f g : ℕ → Segment) (xs : List ℕ) (i : ℕ) → i < lengt
     → map f (take i xs) ≡ map g (take i xs) → map f (take (i + 1) xs) ≡ map g (take (i + 1) xs)
 agree-more f g xs i h e p = rw (first-more f xs i h, first-more g xs i h, e, p)
 
-module _ (xs : List ℕ) (i : ℕ) (h : i < length xs) where
-  -- the next one is put
-  pub grown-next : {w v r : Writer} → Grown w (map (kind 32) (take i xs)) v → Grown v (kind 32 (getD xs i 0) ∷ []) r
-      → Grown w (map (kind 32) (take (i + 1) xs)) r
-  grown-next f g =
-      rw (first-more (kind 32) xs i h) (grown-more (map (kind 32) (take i xs)) (kind 32 (getD xs i 0) ∷ []) f g)
+module _ (F : Format) (xs : List ℕ) (i : ℕ) (h : i < length xs) where
+  -- how a word is read, the segments of the first words, and the next one
+  abbrev read : ℕ → Segment
+  read x = kind (width F) x
 
-  pub pushed-next : {out mid out′ : List ℕ} {w v r : Writer} → Writing w → Pushed out mid w (map (kind 32) (take i xs)) v
-      → Pushed mid out′ v (kind 32 (getD xs i 0) ∷ []) r → Pushed out out′ w (map (kind 32) (take (i + 1) xs)) r
-  pushed-next p f g =
-      rw (first-more (kind 32) xs i h) (pushed-more (map (kind 32) (take i xs)) (kind 32 (getD xs i 0) ∷ []) p f g)
+  abbrev first : List Segment
+  first = map (kind (width F)) (take i xs)
+
+  abbrev next : List Segment
+  next = kind (width F) (getD xs i 0) ∷ []
+
+  first-length : length first ≡ i
+  first-length = length-map (take i xs) (kind (width F)) ∙ length-take-le i xs (omega arith)
+
+  -- the next one is put
+  pub grown-next : {w v r : Writer} → Grown F w (map (kind (width F)) (take i xs)) v
+      → Grown F v (kind (width F) (getD xs i 0) ∷ []) r → Grown F w (map (kind (width F)) (take (i + 1) xs)) r
+  grown-next f g = rw (first-more read xs i h) (grown-more first next f g)
 
   -- a row is its first words, the next one and the rest
-  row-split : map (kind 32) xs ≡ (map (kind 32) (take i xs) ++ kind 32 (getD xs i 0) ∷ []) ++ map (kind 32) (drop (i + 1) xs)
+  row-split : map (kind (width F)) xs ≡ (first ++ next) ++ map (kind (width F)) (drop (i + 1) xs)
   row-split =
-      ap (map (kind 32)) (sym (take-append-drop (i + 1) xs))
-      ∙ map-append (kind 32) (take (i + 1) xs) (drop (i + 1) xs)
-      ∙ ap (λ (l : List Segment). l ++ map (kind 32) (drop (i + 1) xs)) (first-more (kind 32) xs i h)
+      ap (map read) (sym (take-append-drop (i + 1) xs))
+      ∙ map-append read (take (i + 1) xs) (drop (i + 1) xs)
+      ∙ ap (λ (l : List Segment). l ++ map read (drop (i + 1) xs)) (first-more read xs i h)
+
+  -- where a body has room for all segments, it has for one more
+  pub growing-next : {w v : Writer} → Growing F w (length xs) → Grown F w (map (kind (width F)) (take i xs)) v
+      → Growing F v 1
+  growing-next p g = still-growing first 1 (p .0, p .1, omega (arith, p .2, first-length)) g
 
   -- room for all is room for the next one
-  pub room-next : {w v : Writer} {n : ℕ} → RoomFor (map (kind 32) xs) w n → Grown w (map (kind 32) (take i xs)) v
-      → RoomFor (kind 32 (getD xs i 0) ∷ []) v n
+  pub room-next : {w v : Writer} {n : ℕ} → RoomFor F (map (kind (width F)) xs) w n
+      → Grown F w (map (kind (width F)) (take i xs)) v → RoomFor F (kind (width F) (getD xs i 0) ∷ []) v n
   room-next {w} {n} r g =
-      let ss = map (kind 32) (take i xs) in
-      let s = kind 32 (getD xs i 0) ∷ [] in
-      let ts = map (kind 32) (drop (i + 1) xs) in
-      room-rest ss s (room-first (ss ++ s) ts (subst (λ (l : List Segment). RoomFor l w n) row-split r)) g
+      let rest = map read (drop (i + 1) xs) in
+      room-rest first next
+      (room-first (first ++ next) rest (subst (λ (l : List Segment). RoomFor F l w n) row-split r)) g
 
-  -- each has taken two words at most
-  pub used-first : {w v : Writer} → Writing w → Grown w (map (kind 32) (take i xs)) v
-      → v .used ≤ w .used + 2 * length xs
-  used-first p g =
-      let d = p .0 in
-      let ss = map (kind 32) (take i xs) in
-      let l : length ss ≡ i = length-map (take i xs) (kind 32) ∙ length-take-le i xs (omega arith) in
-      omega (arith, used-is d (p .1), used-is (foldl put d ss) (g d (p .1)), puts-add d ss)
+  pub pushed-next : {real n : ℕ} {out mid out′ : List ℕ} {w v r : Writer} → RoomFor F (map (kind (width F)) xs) w n
+      → Pushed F (width F) out mid w (map (kind (width F)) (take i xs)) v
+      → Pushed F real mid out′ v (kind (width F) (getD xs i 0) ∷ []) r
+      → Pushed F real out out′ w (map (kind (width F)) (take (i + 1) xs)) r
+  pushed-next p f g =
+      let few : length (first ++ next) ≤ length (map read xs) =
+      omega (arith, length-append first next, first-length, length-map xs read) in
+      rw (first-more read xs i h) (pushed-more first next (p .0, p .1, omega (arith, p .2, few)) f g)
+
+-- nothing is put yet
+pub grown-none : {F : Format} {w : Writer} → Grown F w [] w
+grown-none before t h = rw (append-nil before) t
+
+-- ---- many pushes
+
+-- the first i words are pushed, the last of all with the rows of the mask, and those before it with all of theirs
+abbrev pub PushedTo : (F : Format) (words : List ℕ) (mask : ℕ) (old : List ℕ) (w : Writer) (out : List ℕ) (v : Writer)
+    (i : ℕ) → Type 0
+PushedTo F words mask old w out v i =
+    (real : ℕ) → (i < length words → real ≡ width F) → (length words ≤ i → mask ≡ 2 ^ real - 1)
+    → Pushed F real old out w (map (kind (width F)) (take i words)) v
+
+module _ (F : Format) (words : List ℕ) (mask : ℕ) (old : List ℕ) (w : Writer) where
+  pub pushed-none : 1 ≤ length words → PushedTo F words mask old w old w 0
+  pushed-none some real whole last =
+      let e = whole (omega arith) in
+      record { grown = grown-none; drawn = λ before t h b. rw (append-nil before, e) b; kept = refl }
+
+  module _ (out : List ℕ) (v : Writer) (i : ℕ) (h : i < length words) (g : PushedTo F words mask old w out v i) where
+    by-whole : Pushed F (width F) old out w (map (kind (width F)) (take i words)) v
+    by-whole = g (width F) (λ l. refl) (λ l. absurd (omega arith))
+
+    pub room-more : {n : ℕ} → RoomFor F (map (kind (width F)) words) w n
+        → RoomFor F (kind (width F) (getD words i 0) ∷ []) v n
+    room-more p = room-next F words i h p (by-whole .grown)
+
+    -- the next one, of which `full` has the rows
+    pub pushed-one : {n : ℕ} {out′ : List ℕ} {r : Writer} (full : ℕ) → RoomFor F (map (kind (width F)) words) w n
+        → (i + 1 ≡ length words → full ≡ mask) × ((i + 1 ≡ length words → ⊥) → full ≡ allSet (width F))
+        → ((real : ℕ) → full ≡ 2 ^ real - 1 → Pushed F real out out′ v (kind (width F) (getD words i 0) ∷ []) r)
+        → PushedTo F words mask old w out′ r (i + 1)
+    pushed-one full p rows push real whole last = pushed-next F words i h p by-whole (push real rows-are)
+      where
+        rows-are : full ≡ 2 ^ real - 1
+        rows-are = elim (ℕ-discrete (i + 1) (length words)) [
+          | yes e ↦ rows .0 e ∙ last (omega arith)
+          | no e ↦ rows .1 e ∙ unfold allSet in ap (λ (k : ℕ). 2 ^ k - 1) (sym (whole (omega arith)))
+        ]
 
 -- ---- written or only measured
 
-pub emitted-stored : {out out′ : List ℕ} {w r : Writer} {ss : List Segment} {store : Bool} → store ≡ true
-    → Pushed out out′ w ss r → Emitted out out′ w ss store r
-emitted-stored t p = record { grown = p .grown; stored = λ e. p; kept = λ e. absurd (true≢false (sym t ∙ e)) }
+module _ {F : Format} {real : ℕ} {out : List ℕ} {w r : Writer} {ss : List Segment} {store : Bool} where
+  pub emitted-stored : {out′ : List ℕ} → store ≡ true → Pushed F real out out′ w ss r
+      → Emitted F real out out′ w ss store r
+  emitted-stored t p = record { grown = p .grown; stored = λ e. p; kept = λ e. absurd (true≢false (sym t ∙ e)) }
 
-pub emitted-measured : {out : List ℕ} {w r : Writer} {ss : List Segment} {store : Bool} → store ≡ false
-    → Grown w ss r → Emitted out out w ss store r
-emitted-measured t g = record { grown = g; stored = λ e. absurd (true≢false (sym e ∙ t)); kept = λ e. refl }
+  pub emitted-measured : store ≡ false → Grown F w ss r → Emitted F real out out w ss store r
+  emitted-measured t g = record { grown = g; stored = λ e. absurd (true≢false (sym e ∙ t)); kept = λ e. refl }
 
 -- ---- the segments of a row
 
-pub row-even : (words : List ℕ) (n : ℕ) {even : Bool} → even ≡ true
-    → rowSegments words n even ≡ replicate n (kind 32 (getD words 0 0))
-unfolding rowSegments
-row-even words n e = rw e
+module _ (F : Format) (words : List ℕ) (n : ℕ) {even : Bool} where
+  pub row-even : even ≡ true → rowSegments F words n even ≡ replicate n (kind (width F) (getD words 0 0))
+  unfolding rowSegments
+  row-even e = rw e
 
-pub row-each : (words : List ℕ) (n : ℕ) {even : Bool} → even ≡ false → rowSegments words n even ≡ map (kind 32) words
-unfolding rowSegments
-row-each words n e = rw e
+  pub row-each : even ≡ false → rowSegments F words n even ≡ map (kind (width F)) words
+  unfolding rowSegments
+  row-each e = rw e
+
+  -- those of mixed words in EWAH
+  pub row-mixed : even ≡ false → F ≡ Ewah → map (kind 32) words ≡ map mixed words
+      → rowSegments F words n even ≡ map mixed words
+  row-mixed e f m = row-each e ∙ ap (λ (G : Format). map (kind (width G)) words) f ∙ m

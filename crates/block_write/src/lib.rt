@@ -1,27 +1,31 @@
-// A row of words, or a run of alike segments, goes to the writer of one body. Mixed segments that the last marker has room for go
-// there all at once.
+// A row of words, or a run of alike segments, goes to the writer of one body. Mixed segments that the last EWAH marker has room for
+// go there all at once.
 // Calls here have a `requires`; the public ones of `zvonurel` test their input first.
 ghost use mathlib.Core.Path.{_≡_};
 ghost use mathlib.Core.Bool.{true, false};
 ghost use mathlib.Core.List.{map};
-ghost use Prim.Native.Nat.{_+_, _<_, _≤_, _^_};
+ghost use Prim.Native.Nat.{ℕ, _+_, _-_, _<_, _≤_, _^_};
 ghost use lib.ListN.{length, getD, replicate};
 ghost use lib.Seq.{paste};
-ghost use Rattle.meaning.specs.Limits.{mostClean, mostDirty, blockSegments};
-ghost use Rattle.meaning.specs.Segment.{clean, mixed, kind};
-ghost use Rattle.ewah_write.specs.Drafts.{Writing, RoomFor, Grown, Pushed};
-ghost use Rattle.merge.specs.Emitted.{Emitted};
+ghost use Rattle.meaning.specs.Limits.{mostDirty};
+ghost use Rattle.meaning.specs.Segment.{clean, mixed, kind, allSet};
+ghost use Rattle.meaning.specs.Format.{width, mostRun};
+ghost use Rattle.meaning.specs.declared.Format.{Format};
+ghost use Rattle.meaning.specs.declared.Format.the-variants.{Ewah};
+ghost use Rattle.ewah_write.specs.Drafts as ewah;
+ghost use Rattle.body_write.specs.Bodies.{Growing, RoomFor, Grown, Pushed, Emitted};
 ghost use Rattle.block_write.specs.Rowed.{rowSegments, CleanWord, Joined};
+use body_write::writer;
 use ewah::marker;
 use ewah::marker::Marker;
-use ewah_write::writer;
 use ewah_write::writer::Writer;
+use meaning::Format;
 use meaning::MOST_DIRTY;
+use words::rows;
 
 // The value of the clean segments whose word is x.
 fn clean_value(x: u32) -> u32
-    requires { ⌜ CleanWord x ⌝ }
-    ensures { λ r. ⌜ (r < 2) × (kind 32 x ≡ clean r) ⌝ }
+    ensures { λ r. ⌜ (r < 2) × ((F : Format) → CleanWord F x → kind (width F) x ≡ clean r) ⌝ }
 {
     if x == 0 {
         return 0;
@@ -29,18 +33,27 @@ fn clean_value(x: u32) -> u32
     1
 }
 
-// n clean segments, all of the word x.
-fn emit_even(out: &mut [u32], w: Writer, x: u32, n: u32, store: bool) -> Writer
-    requires { ⌜ Writing w ⌝ }
-    requires { ⌜ (w .used < 2 ^ 60) × (n ≤ mostClean) × CleanWord x ⌝ }
-    requires { ⌜ (store ≡ true → RoomFor (replicate n (kind 32 x)) w (length (now out))) ⌝ }
-    ensures { λ r. ⌜ Emitted (now (out .entry)) (now (out .exit)) w (replicate n (kind 32 x)) store r ⌝ }
+// n clean segments, all of the word x; the mask has the rows of the last.
+fn emit_even(
+    format: Format,
+    out: &mut [u32],
+    w: Writer,
+    x: u32,
+    n: u32,
+    mask: u32,
+    store: bool,
+) -> Writer
+    requires { ⌜ Growing format w n ⌝ }
+    requires { ⌜ (1 ≤ n) × (n ≤ mostRun format) × CleanWord format x ⌝ }
+    requires { ⌜ (store ≡ true → RoomFor format (replicate n (kind (width format) x)) w (length (now out))) ⌝ }
+    ensures { λ r. ⌜ ((real : ℕ) → mask ≡ 2 ^ real - 1 → Emitted format real (now (out .entry)) (now (out .exit)) w
+        (replicate n (kind (width format) x)) store r) ⌝ }
 {
     let value = clean_value(x);
     if store {
-        return writer::push_run(out, w, value, n);
+        return writer::push_run(format, out, w, value, n, mask);
     }
-    writer::grow_run(w, value, n)
+    writer::grow_run(format, w, value, n)
 }
 
 // No word is all zeros or all ones.
@@ -61,18 +74,31 @@ fn all_mixed(words: &[u32]) -> bool
     true
 }
 
-// Whether all words are of mixed segments and the last marker has room for them. A body with no word yet counts as having a full one.
-fn joins(w: Writer, words: &[u32]) -> bool
-    requires { ⌜ Writing w ⌝ }
-    ensures { λ r. ⌜ (r ≡ true → (w .last .dirty + length (now (words .entry)) ≤ mostDirty)
-        × (map (kind 32) (now (words .entry)) ≡ map mixed (now (words .entry)))) ⌝ }
+// Whether the last EWAH marker has room for the words. A body with no word yet counts as having a full one.
+fn marker_has_room(w: Writer, count: usize) -> bool
+    requires { ⌜ ewah.Writing w ⌝ }
+    ensures { λ r. ⌜ (r ≡ true → w .last .dirty + count ≤ mostDirty) ⌝ }
 {
     let last = w.last;
     let room = (MOST_DIRTY - last.dirty) as usize;
-    if room < words.len() {
-        return false;
+    count <= room
+}
+
+// Whether all words are of mixed segments and the last marker has room for them. WAH has no markers: there each literal goes by itself.
+fn joins(format: Format, w: Writer, words: &[u32]) -> bool
+    requires { ⌜ Growing format w (length (now words)) ⌝ }
+    ensures { λ r. ⌜ (r ≡ true → (format ≡ Ewah) × (w .last .dirty + length (now (words .entry)) ≤ mostDirty)
+        × (map (kind 32) (now (words .entry)) ≡ map mixed (now (words .entry)))) ⌝ }
+{
+    match format {
+        Format::Ewah => {
+            if marker_has_room(w, words.len()) {
+                return all_mixed(words);
+            }
+            false
+        }
+        Format::Wah => false,
     }
-    all_mixed(words)
 }
 
 // The words go to `out` from `at` on.
@@ -108,8 +134,8 @@ fn grow_words(w: Writer, m: u32) -> Writer
 // `grow_words`, with the words: those of the segments behind the last, and then the marker that counts them.
 fn push_words(out: &mut [u32], w: Writer, words: &[u32]) -> Writer
     requires { ⌜ (1 ≤ length (now words)) × (w .last .dirty + length (now words) ≤ mostDirty) × (w .used < 2 ^ 62) ⌝ }
-    requires { ⌜ RoomFor (map mixed (now words)) w (length (now out)) ⌝ }
-    ensures { λ r. ⌜ Pushed (now (out .entry)) (now (out .exit)) w (map mixed (now (words .entry))) r ⌝ }
+    requires { ⌜ ewah.RoomFor (map mixed (now words)) w (length (now out)) ⌝ }
+    ensures { λ r. ⌜ ewah.Pushed (now (out .entry)) (now (out .exit)) w (map mixed (now (words .entry))) r ⌝ }
 {
     let at = w.at;
     let used = w.used;
@@ -119,11 +145,13 @@ fn push_words(out: &mut [u32], w: Writer, words: &[u32]) -> Writer
     r
 }
 
-// Mixed segments, all under the last marker.
+// Mixed segments, all under the last EWAH marker.
 fn emit_mixed(out: &mut [u32], w: Writer, words: &[u32], store: bool) -> Writer
-    requires { ⌜ (1 ≤ length (now words)) × (w .last .dirty + length (now words) ≤ mostDirty) × (w .used < 2 ^ 60) ⌝ }
-    requires { ⌜ (store ≡ true → RoomFor (map mixed (now words)) w (length (now out))) ⌝ }
-    ensures { λ r. ⌜ Emitted (now (out .entry)) (now (out .exit)) w (map mixed (now (words .entry))) store r ⌝ }
+    requires { ⌜ Growing Ewah w (length (now words)) ⌝ }
+    requires { ⌜ (1 ≤ length (now words)) × (w .last .dirty + length (now words) ≤ mostDirty) ⌝ }
+    requires { ⌜ (store ≡ true → RoomFor Ewah (map mixed (now words)) w (length (now out))) ⌝ }
+    ensures { λ r. ⌜ ((real : ℕ) → Emitted Ewah real (now (out .entry)) (now (out .exit)) w
+        (map mixed (now (words .entry))) store r) ⌝ }
 {
     if store {
         return push_words(out, w, words);
@@ -132,30 +160,43 @@ fn emit_mixed(out: &mut [u32], w: Writer, words: &[u32], store: bool) -> Writer
 }
 
 // The words segment by segment, with no buffer.
-fn grow_each(w: Writer, words: &[u32]) -> Writer
-    requires { ⌜ Writing w ⌝ }
-    requires { ⌜ (w .used < 2 ^ 60) × (length (now words) ≤ blockSegments) ⌝ }
-    ensures { λ r. ⌜ Grown w (map (kind 32) (now (words .entry))) r ⌝ }
+fn grow_each(format: Format, w: Writer, words: &[u32]) -> Writer
+    requires { ⌜ Growing format w (length (now words)) ⌝ }
+    ensures { λ r. ⌜ Grown format w (map (kind (width format)) (now (words .entry))) r ⌝ }
 {
     let mut v = w;
     let mut i: usize = 0;
     while i < words.len() {
-        let r = writer::grow_segment(v, words[i]);
+        let r = writer::grow_segment(format, v, words[i]);
         v = r;
         i += 1;
     }
     v
 }
 
-// `grow_each`, with the words.
-fn push_each(out: &mut [u32], w: Writer, words: &[u32]) -> Writer
-    requires { ⌜ RoomFor (map (kind 32) (now words)) w (length (now out)) ⌝ }
-    ensures { λ r. ⌜ Pushed (now (out .entry)) (now (out .exit)) w (map (kind 32) (now (words .entry))) r ⌝ }
+// The rows of segment i of so many: those of the mask if it is the last, and else all.
+fn rows_of(format: Format, i: usize, count: usize, mask: u32) -> u32
+    requires { ⌜ i < count ⌝ }
+    ensures { λ r. ⌜ (i + 1 ≡ count → r ≡ mask) × ((i + 1 ≡ count → ⊥) → r ≡ allSet (width format)) ⌝ }
+{
+    if i + 1 == count {
+        return mask;
+    }
+    rows::full(format)
+}
+
+// `grow_each`, with the words; the mask has the rows of the last.
+fn push_each(format: Format, out: &mut [u32], w: Writer, words: &[u32], mask: u32) -> Writer
+    requires { ⌜ RoomFor format (map (kind (width format)) (now words)) w (length (now out)) ⌝ }
+    requires { ⌜ 1 ≤ length (now words) ⌝ }
+    ensures { λ r. ⌜ ((real : ℕ) → mask ≡ 2 ^ real - 1 → Pushed format real (now (out .entry)) (now (out .exit)) w
+        (map (kind (width format)) (now (words .entry))) r) ⌝ }
 {
     let mut v = w;
     let mut i: usize = 0;
     while i < words.len() {
-        let r = writer::push_segment(out, v, words[i]);
+        let full = rows_of(format, i, words.len(), mask);
+        let r = writer::push_segment(format, out, v, words[i], full);
         v = r;
         i += 1;
     }
@@ -163,39 +204,50 @@ fn push_each(out: &mut [u32], w: Writer, words: &[u32]) -> Writer
 }
 
 // Words of any segments, one by one.
-fn emit_each(out: &mut [u32], w: Writer, words: &[u32], store: bool) -> Writer
-    requires { ⌜ Writing w ⌝ }
-    requires { ⌜ (w .used < 2 ^ 60) × (length (now words) ≤ blockSegments) ⌝ }
-    requires { ⌜ (store ≡ true → RoomFor (map (kind 32) (now words)) w (length (now out))) ⌝ }
-    ensures { λ r. ⌜ Emitted (now (out .entry)) (now (out .exit)) w (map (kind 32) (now (words .entry))) store r ⌝ }
+fn emit_each(
+    format: Format,
+    out: &mut [u32],
+    w: Writer,
+    words: &[u32],
+    mask: u32,
+    store: bool,
+) -> Writer
+    requires { ⌜ Growing format w (length (now words)) ⌝ }
+    requires { ⌜ 1 ≤ length (now words) ⌝ }
+    requires { ⌜ (store ≡ true → RoomFor format (map (kind (width format)) (now words)) w (length (now out))) ⌝ }
+    ensures { λ r. ⌜ ((real : ℕ) → mask ≡ 2 ^ real - 1 → Emitted format real (now (out .entry)) (now (out .exit)) w
+        (map (kind (width format)) (now (words .entry))) store r) ⌝ }
 {
     if store {
-        return push_each(out, w, words);
+        return push_each(format, out, w, words, mask);
     }
-    grow_each(w, words)
+    grow_each(format, w, words)
 }
 
-// A row of n segments is written where `store` says so, and else only measured.
+// A row of n segments is written where `store` says so, and else only measured; the mask has the rows of the last.
 pub fn emit_row(
+    format: Format,
     out: &mut [u32],
     w: Writer,
     words: &[u32],
     n: u32,
     even: bool,
+    mask: u32,
     store: bool,
 ) -> Writer
-    requires { ⌜ Writing w ⌝ }
-    requires { ⌜ (w .used < 2 ^ 60) × (1 ≤ n) × (n ≤ mostClean)
-        × (even ≡ true → (1 ≤ length (now words)) × CleanWord (getD (now words) 0 0))
-        × (even ≡ false → (length (now words) ≡ n) × (n ≤ blockSegments)) ⌝ }
-    requires { ⌜ (store ≡ true → RoomFor (rowSegments (now words) n even) w (length (now out))) ⌝ }
-    ensures { λ r. ⌜ Emitted (now (out .entry)) (now (out .exit)) w (rowSegments (now (words .entry)) n even) store r ⌝ }
+    requires { ⌜ Growing format w n ⌝ }
+    requires { ⌜ (1 ≤ n) × (n ≤ mostRun format)
+        × (even ≡ true → (1 ≤ length (now words)) × CleanWord format (getD (now words) 0 0))
+        × (even ≡ false → length (now words) ≡ n) ⌝ }
+    requires { ⌜ (store ≡ true → RoomFor format (rowSegments format (now words) n even) w (length (now out))) ⌝ }
+    ensures { λ r. ⌜ ((real : ℕ) → mask ≡ 2 ^ real - 1 → Emitted format real (now (out .entry)) (now (out .exit)) w
+        (rowSegments format (now (words .entry)) n even) store r) ⌝ }
 {
     if even {
-        return emit_even(out, w, words[0], n, store);
+        return emit_even(format, out, w, words[0], n, mask, store);
     }
-    if joins(w, words) {
+    if joins(format, w, words) {
         return emit_mixed(out, w, words, store);
     }
-    emit_each(out, w, words, store)
+    emit_each(format, out, w, words, mask, store)
 }

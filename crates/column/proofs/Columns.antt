@@ -11,24 +11,31 @@ use lib.ListN.{length, getD, drop, drop-of-length-le}
 use lib.Pow.{pow-mono}
 use Rattle.meaning.specs.Limits.{mostValueColumn}
 use Rattle.meaning.specs.Rows.{bit, countBelow}
-use Rattle.meaning.specs.Ewah.{segments}
 use Rattle.meaning.specs.Refusal.{refused, sound}
-use Rattle.meaning.specs.Index.{rowCount, bitmapCount, rowsAt, bodyAt}
+use Rattle.meaning.specs.Index.{formatOf, rowCount, rowsAt, bodyAt}
+use Rattle.meaning.specs.declared.Format.{Format}
+use Rattle.meaning.specs.Laws.{SoundFacts}
 use Rattle.meaning.specs.Answer.{named}
 use Rattle.meaning.specs.Column.{valueOf}
 use Rattle.meaning.specs.Columns.{existing, slicesOf, valueAt, strayRows, straysIn, strays}
-use Rattle.meaning.specs.Laws.{IndexFacts}
 use Rattle.meaning.specs.Demands.{IsNth}
 use Rattle.meaning.proofs.Outcomes.{refuse-no, refuse-yes}
 use Rattle.meaning.proofs.Counted.{count-none, nth-below, nth-eq}
-use Rattle.meaning.proofs.RowWords.{rows-fit}
 use Rattle.ewah.proofs.Pieces.{cons-at}
-use Rattle.column.specs.Outside.{outside, NoneBelow, Lowest}
+use Rattle.column.specs.declared.outside.Found.{Found}
+use Rattle.column.specs.Outside.{outside, NoneBelow, Lowest, FoundIn}
 
--- a row lies in a segment of each body
-pub row-within : (index : List ℕ) → IndexFacts index → (k : ℕ) → k < bitmapCount index → (r : ℕ) → r < rowCount index
-    → r < length (segments (bodyAt index k)) * 32
-row-within index f k h r l = rw (f .bodies k h .count) (omega (arith, rows-fit 32 (omega arith) (rowCount index)))
+-- ---- bodies as they were handed on
+
+-- what was found in them
+pub found-at : (F G : Format) (x x′ y y′ : List ℕ) (n n′ : ℕ) (r : Found) → F ≡ G → x ≡ x′ → y ≡ y′ → n ≡ n′
+    → FoundIn n (outside F x y) r → FoundIn n′ (outside G x′ y′) r
+found-at F G x x′ y y′ n n′ r e f g h t = rw (e, f, g, h) at t
+
+-- the facts of one
+pub facts-at : (F G : Format) (n n′ : ℕ) (b b′ : List ℕ) → F ≡ G → n ≡ n′ → b ≡ b′ → SoundFacts G n′ b′
+    → SoundFacts F n b
+facts-at F G n n′ b b′ e f g t = rw (e, f, g) t
 
 -- ---- a slice k, and the others behind it
 
@@ -37,7 +44,7 @@ module _ (index : List ℕ) (j k : ℕ) (ks : List ℕ) where
   stray = strayRows index (rowsAt index j) k
 
   abbrev strayed : ℕ → Bool
-  strayed = outside (bodyAt index k) (bodyAt index j)
+  strayed = outside (formatOf index) (bodyAt index k) (bodyAt index j)
 
   same : stray ≡ strayed
   unfolding strayRows rowsAt

@@ -4,7 +4,7 @@ ghost use mathlib.Core.Path.{_≡_};
 ghost use Prim.Native.Nat.{ℕ, _≤_, _<_};
 ghost use lib.ListN.{length, getD};
 ghost use Rattle.meaning.specs.Rows.{bit};
-ghost use Rattle.meaning.specs.Index.{rowCount, bitmapCount, rowsAt};
+ghost use Rattle.meaning.specs.Index.{formatOf, rowCount, bitmapCount, rowsAt};
 ghost use Rattle.meaning.specs.Laws.{IndexFacts};
 ghost use Rattle.meaning.specs.Limits.{leastColumn, mostValueColumn};
 ghost use Rattle.meaning.specs.Columns as meaning;
@@ -12,7 +12,8 @@ ghost use Rattle.answers.specs.Told.{verdictOf};
 use crate::outside::Found;
 use answers::answer;
 use answers::refusal::Checked;
-use ewah_read::row;
+use body_read::row;
+use meaning::Format;
 
 mod outside;
 
@@ -23,12 +24,13 @@ pub fn strays(index: &[u32], list: &[u32]) -> Checked
         × ((i : ℕ) → i < length (now list) → getD (now list) i 0 < bitmapCount (now index)) ⌝ }
     ensures { λ r. ⌜ verdictOf r ≡ meaning.strays (now (index .entry)) (now (list .entry)) ⌝ }
 {
+    let format = contents::format(index);
     let rows = contents::rows(index);
     let exists = contents::body(index, list[0]);
     let mut i: usize = 1;
     while i < list.len() {
         let k = list[i];
-        let found = outside::first(contents::body(index, k), exists, rows);
+        let found = outside::first(format, contents::body(index, k), exists, rows);
         match found {
             Found::Row(row) => return Checked::Refused(answer::stray(k, row as u64)),
             Found::Nothing => i += 1,
@@ -37,22 +39,22 @@ pub fn strays(index: &[u32], list: &[u32]) -> Checked
     Checked::Sound
 }
 
-// Whether bitmap k has a row.
-fn has(index: &[u32], k: u32, row: u32) -> bool
+// Whether bitmap k has a row, where its bodies have that format.
+fn has(format: Format, index: &[u32], k: u32, row: u32) -> bool
     requires { ⌜ IndexFacts (now index) ⌝ }
-    requires { ⌜ (k < bitmapCount (now index)) × (row < rowCount (now index)) ⌝ }
+    requires { ⌜ (format ≡ formatOf (now index)) × (k < bitmapCount (now index)) × (row < rowCount (now index)) ⌝ }
     ensures { λ r. ⌜ r ≡ rowsAt (now (index .entry)) k row ⌝ }
 {
-    row::row(contents::body(index, k), row)
+    row::row(format, contents::body(index, k), row)
 }
 
 // The same as a binary digit.
-fn digit(index: &[u32], k: u32, row: u32) -> u64
+fn digit(format: Format, index: &[u32], k: u32, row: u32) -> u64
     requires { ⌜ IndexFacts (now index) ⌝ }
-    requires { ⌜ (k < bitmapCount (now index)) × (row < rowCount (now index)) ⌝ }
+    requires { ⌜ (format ≡ formatOf (now index)) × (k < bitmapCount (now index)) × (row < rowCount (now index)) ⌝ }
     ensures { λ r. ⌜ r ≡ bit (rowsAt (now (index .entry)) k row) ⌝ }
 {
-    if has(index, k, row) {
+    if has(format, index, k, row) {
         return 1;
     }
     0
@@ -66,11 +68,12 @@ pub fn value(index: &[u32], list: &[u32], row: u32) -> u64
         × (row < rowCount (now index)) ⌝ }
     ensures { λ r. ⌜ r ≡ meaning.valueAt (now (index .entry)) (now (list .entry)) row ⌝ }
 {
+    let format = contents::format(index);
     let mut v: u64 = 0;
     let mut i = list.len();
     while 1 < i {
         i -= 1;
-        v = 2 * v + digit(index, list[i], row);
+        v = 2 * v + digit(format, index, list[i], row);
     }
     v
 }
@@ -83,5 +86,5 @@ pub fn exists(index: &[u32], list: &[u32], row: u32) -> bool
         × (row < rowCount (now index)) ⌝ }
     ensures { λ r. ⌜ r ≡ meaning.existing (now (index .entry)) (now (list .entry)) row ⌝ }
 {
-    has(index, list[0], row)
+    has(contents::format(index), index, list[0], row)
 }

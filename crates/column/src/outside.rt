@@ -1,20 +1,23 @@
-// The lowest row that one body has and another has not, for a slice and its column's existence. The two are gone
-// through together, at most to the next marker of either at a time: where a run says that nothing strays all its
-// segments are passed at once. A run of ones may cover pad bits of the last segment: the lowest bit may be no row.
+// The lowest row that one body has and another of its format has not, for a slice and its column's existence. The two
+// are gone through together, at most to the next marker or fill of either at a time: where a run says that nothing
+// strays all its segments are passed at once. A run of ones may cover pad bits of the last segment: the lowest bit may
+// be no row.
 ghost use mathlib.Core.Bool.{Bool, true};
 ghost use mathlib.Core.Path.{_≡_};
-ghost use Prim.Native.Nat.{ℕ, _+_, _*_, _≤_, _<_};
+ghost use Prim.Native.Nat.{ℕ, _+_, _*_, _^_, _≤_, _<_};
 ghost use lib.ListN.{length, getD};
-ghost use Rattle.meaning.specs.Limits.{mostRows, mostSegments, mostDirty};
-ghost use Rattle.meaning.specs.Segment.{segmentCount};
-ghost use Rattle.meaning.specs.Ewah.{segments};
+ghost use Rattle.meaning.specs.Limits.{mostRows, mostSegments, mostDirty, wordBits};
+ghost use Rattle.meaning.specs.Format.{width};
+ghost use Rattle.meaning.specs.Laws.{SoundFacts};
 ghost use Rattle.meaning.specs.Ahead.{Ahead};
 ghost use Rattle.ewah.specs.declared.cursor.Piece.the-variants.{Clean, Dirty};
-ghost use Rattle.ewah.specs.Cursors.{InOrder, piecesFrom, spanOf, behind};
+ghost use Rattle.ewah.specs.Cursors.{InOrder, piecesFrom};
+ghost use Rattle.bodies.specs.Walks.{spanOf, behind};
 ghost use Rattle.column.specs.Outside.{OverBits, Spells, Lowest, SeenIn, FoundIn, outside};
-use ewah::cursor;
+use bodies::cursor;
 use ewah::cursor::Cursor;
 use ewah::cursor::Piece;
+use meaning::Format;
 use words::bits;
 use words::rows;
 
@@ -30,25 +33,26 @@ pub enum Seen {
     Clear(u32),
 }
 
-// The bits of a word that another has not.
+// The bits of a word that another has not; a word of w bits stays one.
 fn over(x: u32, e: u32) -> u32
-    ensures { λ r. ⌜ OverBits x e r ⌝ }
+    ensures { λ r. ⌜ ((w : ℕ) → w ≤ wordBits → x < 2 ^ w → OverBits w x e r) ⌝ }
 {
     x & !e
 }
 
-// n segments that are words of each body, from `at` and from `from` on: one by one.
-fn find(slice: &[u32], at: usize, exists: &[u32], from: usize, n: u32) -> Seen
-    requires { ⌜ (1 ≤ n) × (n ≤ mostSegments) × (at + n ≤ length (now slice)) × (from + n ≤ length (now exists)) ⌝ }
-    ensures { λ r. ⌜ ((p : ℕ → Bool) → Spells p (λ i. getD (now (slice .entry)) (at + i) 0)
-        (λ i. getD (now (exists .entry)) (from + i) 0) n → SeenIn n p r) ⌝ }
+// n segments, each of so many rows, that are words of each body, from `at` and from `from` on: one by one.
+fn find(width: u32, slice: &[u32], at: usize, exists: &[u32], from: usize, n: u32) -> Seen
+    requires { ⌜ (width ≤ wordBits) × (1 ≤ n) × (n ≤ mostSegments)
+        × (at + n ≤ length (now slice)) × (from + n ≤ length (now exists)) ⌝ }
+    ensures { λ r. ⌜ ((p : ℕ → Bool) → Spells width p (λ i. getD (now (slice .entry)) (at + i) 0)
+        (λ i. getD (now (exists .entry)) (from + i) 0) n → SeenIn width n p r) ⌝ }
 {
     let count = n as usize;
     let mut i: usize = 0;
     while i < count {
-        let w = over(slice[at + i], exists[from + i]);
-        if w != 0 {
-            return Seen::Row(i as u32 * 32 + bits::nth(w, 0));
+        let y = over(slice[at + i], exists[from + i]);
+        if y != 0 {
+            return Seen::Row(i as u32 * width + bits::nth(y, 0));
         }
         i += 1;
     }
@@ -75,17 +79,18 @@ fn is_dirty(piece: Piece) -> bool
     }
 }
 
-// The next n segments of both, at most to the next marker of either. Where dirty words face a run that decides nothing,
-// they are looked at one by one: in canonical bodies the first has a stray row.
-fn look(slice: &[u32], c: Cursor, exists: &[u32], e: Cursor, n: u32) -> Seen
-    requires { ⌜ InOrder (now slice) c ⌝ }
-    requires { ⌜ InOrder (now exists) e ⌝ }
+// The next n segments of both, at most to the next marker or fill of either. Where dirty words face a run that decides
+// nothing, they are looked at one by one: in canonical bodies the first has a stray row.
+fn look(format: Format, slice: &[u32], c: Cursor, exists: &[u32], e: Cursor, n: u32) -> Seen
+    requires { ⌜ InOrder format (now slice) c ⌝ }
+    requires { ⌜ InOrder format (now exists) e ⌝ }
     requires { ⌜ (1 ≤ n) × (n ≤ mostSegments) × (n ≤ spanOf c) × (n ≤ spanOf e)
         × (c .next + behind (c .piece) n ≤ length (now slice))
         × (e .next + behind (e .piece) n ≤ length (now exists)) ⌝ }
-    ensures { λ r. ⌜ ((o : ℕ) → Ahead (now (slice .entry)) o (piecesFrom (now (slice .entry)) c)
-        → Ahead (now (exists .entry)) o (piecesFrom (now (exists .entry)) e)
-        → SeenIn n (λ k. outside (now (slice .entry)) (now (exists .entry)) (o * 32 + k)) r) ⌝ }
+    ensures { λ r. ⌜ ((o : ℕ) → Ahead format (now (slice .entry)) o (piecesFrom format (now (slice .entry)) c)
+        → Ahead format (now (exists .entry)) o (piecesFrom format (now (exists .entry)) e)
+        → SeenIn (width format) n
+        (λ k. outside format (now (slice .entry)) (now (exists .entry)) (o * width format + k)) r) ⌝ }
 {
     let held = c.piece;
     let there = e.piece;
@@ -97,17 +102,18 @@ fn look(slice: &[u32], c: Cursor, exists: &[u32], e: Cursor, n: u32) -> Seen
     }
     if is_dirty(held) {
         if is_dirty(there) {
-            return find(slice, c.next - 1, exists, e.next - 1, n);
+            let width = rows::width(format);
+            return find(width, slice, c.next - 1, exists, e.next - 1, n);
         }
     }
-    let w = over(cursor::word(held), cursor::word(there));
-    if w != 0 {
-        return Seen::Row(bits::nth(w, 0));
+    let y = over(cursor::word(format, held), cursor::word(format, there));
+    if y != 0 {
+        return Seen::Row(bits::nth(y, 0));
     }
     Seen::Clear(1)
 }
 
-// How many segments there are up to the next marker of either, of so many that are left.
+// How many segments there are up to the next marker or fill of either, of so many that are left.
 fn common(c: Cursor, e: Cursor, left: u32) -> u32
     requires { ⌜ (c .dirty ≤ mostDirty) × (e .dirty ≤ mostDirty) × (1 ≤ spanOf c) × (1 ≤ spanOf e) × (1 ≤ left) ⌝ }
     ensures { λ r. ⌜ (1 ≤ r) × (r ≤ spanOf c) × (r ≤ spanOf e) × (r ≤ left) ⌝ }
@@ -137,23 +143,23 @@ fn row_below(r: u32, rows: u32) -> Found
 }
 
 // The lowest row of a slice of that many rows that does not exist.
-pub fn first(slice: &[u32], exists: &[u32], rows: u32) -> Found
-    requires { ⌜ (rows ≤ mostRows) × (length (segments (now slice)) ≡ segmentCount 32 rows)
-        × (length (segments (now exists)) ≡ segmentCount 32 rows) ⌝ }
-    ensures { λ r. ⌜ FoundIn rows (outside (now (slice .entry)) (now (exists .entry))) r ⌝ }
+pub fn first(format: Format, slice: &[u32], exists: &[u32], rows: u32) -> Found
+    requires { ⌜ (rows ≤ mostRows) × SoundFacts format rows (now slice) × SoundFacts format rows (now exists) ⌝ }
+    ensures { λ r. ⌜ FoundIn rows (outside format (now (slice .entry)) (now (exists .entry))) r ⌝ }
 {
-    let count = rows::segment_count(rows);
-    let mut c = cursor::open(slice);
-    let mut e = cursor::open(exists);
+    let width = rows::width(format);
+    let count = rows::segments(format, rows);
+    let mut c = cursor::open(format, slice);
+    let mut e = cursor::open(format, exists);
     let mut o: u32 = 0;
     while o < count {
         let n = common(c, e, count - o);
-        let seen = look(slice, c, exists, e, n);
+        let seen = look(format, slice, c, exists, e, n);
         match seen {
-            Seen::Row(r) => return row_below(o * 32 + r, rows),
+            Seen::Row(r) => return row_below(o * width + r, rows),
             Seen::Clear(m) => {
-                let d = cursor::pass(slice, c, m);
-                let f = cursor::pass(exists, e, m);
+                let d = cursor::pass(format, slice, c, m);
+                let f = cursor::pass(format, exists, e, m);
                 c = d;
                 e = f;
                 o += m;

@@ -1,19 +1,44 @@
-// The contents of an index: its rows, its number of bitmaps, and where each body lies.
+// The contents of an index: its format, its rows, its number of bitmaps, and where each body lies.
 // Calls here have a `requires`; the check of `index`, and behind it the public calls, meet it.
 ghost use mathlib.Core.Path.{_≡_};
 ghost use Prim.Native.Nat.{_+_, _*_, _≤_, _<_};
 ghost use lib.ListN.{length};
 ghost use Rattle.meaning.specs.Limits.{mostBitmaps, headWords, mostContents, wordBytes};
-ghost use Rattle.meaning.specs.Index.{rowCount, bitmapCount, entryPlace, startOf, lengthOf, bodyAt};
+ghost use Rattle.meaning.specs.Format.{kindOf};
+ghost use Rattle.meaning.specs.Index.{formatOf, rowCount, bitmapCount, entryPlace, startOf, lengthOf, bodyAt};
 ghost use Rattle.meaning.specs.Laws.{HeadFacts, EntryFacts};
 use meaning::ENTRY_WORDS;
+use meaning::EWAH_KIND;
+use meaning::Format;
 use meaning::HEAD_WORDS;
+use meaning::WAH_KIND;
 
 // A word as a number of words.
 pub fn wide(x: u32) -> usize
     ensures { λ r. ⌜ (r ≡ x) × (r < 4294967296) ⌝ }
 {
     x as usize
+}
+
+// The format of the bodies.
+pub fn format(index: &[u32]) -> Format
+    requires { ⌜ headWords ≤ length (now index) ⌝ }
+    ensures { λ r. ⌜ r ≡ formatOf (now (index .entry)) ⌝ }
+{
+    if index[0] == WAH_KIND {
+        return Format::Wah;
+    }
+    Format::Ewah
+}
+
+// What word 0 states of an index with bodies of a format.
+pub fn kind(format: Format) -> u32
+    ensures { λ r. ⌜ r ≡ kindOf format ⌝ }
+{
+    match format {
+        Format::Ewah => EWAH_KIND,
+        Format::Wah => WAH_KIND,
+    }
 }
 
 // How many rows each bitmap has.

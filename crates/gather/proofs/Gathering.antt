@@ -10,7 +10,8 @@ use borrow.Author.Count.{below-more}
 use borrow.Author.Tests.{eq-eqb, ne-eqb}
 use lib.ListN.{length, getD}
 use Rattle.meaning.specs.Limits.{blockSegments, blockWords, placeNumbers, queryNumbers}
-use Rattle.meaning.specs.Ewah.{segments}
+use Rattle.meaning.specs.Format.{segmentsOf}
+use Rattle.meaning.specs.declared.Format.{Format}
 use Rattle.ewah.specs.declared.cursor.Cursor.{Cursor}
 use Rattle.ewah.specs.Cursors.{leftOf}
 use Rattle.block_read.specs.Taken.{wordAt, RowTaken}
@@ -33,10 +34,10 @@ module _ (ns : List ℕ) (k : ℕ) where
 -- ---- one place
 
 -- the body and the cursor that the code has are those of the place
-pub place-taken : (b ns : List ℕ) (k n : ℕ) (even : Bool) (x ns′ x′ : List ℕ) (d : Cursor) (b′ : List ℕ) (c : Cursor)
-    → b′ ≡ b → c ≡ cursorOf ns k → RowTaken b′ c n even x (k * blockSegments) x′ d → Stored ns k d ns′
-    → PlaceTaken b ns k n even x ns′ x′
-place-taken b ns k n even x ns′ x′ d b′ c b-is c-is t put =
+pub place-taken : (F : Format) (b ns : List ℕ) (k n : ℕ) (even : Bool) (x ns′ x′ : List ℕ) (d : Cursor) (b′ : List ℕ) (c : Cursor)
+    → b′ ≡ b → c ≡ cursorOf ns k → RowTaken F b′ c n even x (k * blockSegments) x′ d → Stored ns k d ns′
+    → PlaceTaken F b ns k n even x ns′ x′
+place-taken F b ns k n even x ns′ x′ d b′ c b-is c-is t put =
     record { long = put .long; others = put .others; row = rw (put .here) (rw (b-is, c-is) at t) }
 
 -- ---- place after place
@@ -46,16 +47,16 @@ within-row : (even : Bool) (n i : ℕ) → (even ≡ false → n ≤ blockSegmen
 within-row true n i few l = omega arith
 within-row false n i few l = omega (arith, few refl)
 
-module _ (index list was : List ℕ) (n : ℕ) (even : Bool) (x₀ : List ℕ) where
+module _ (F : Format) (index list was : List ℕ) (n : ℕ) (even : Bool) (x₀ : List ℕ) where
   -- the first m places went on, and their rows are taken; later places stay, and the words behind these rows
   pub record Gathering (m : ℕ) (ns x : List ℕ) : Type 0 where
     pub long : length ns ≡ queryNumbers
     pub rows-long : length x ≡ blockWords
     pub later : (k : ℕ) → m ≤ k → cursorOf ns k ≡ cursorOf was k
-    pub on : (k : ℕ) → k < m → (o : ℕ) → CursorAt (placeBody index list k) o (cursorOf was k)
-        → CursorAt (placeBody index list k) (o + n) (cursorOf ns k)
-    pub words : (k : ℕ) → k < m → (o : ℕ) → CursorAt (placeBody index list k) o (cursorOf was k) → (i : ℕ) → i < n
-        → wordAt even x (k * blockSegments) i ≡ getD (segments (placeBody index list k)) (o + i) 0
+    pub on : (k : ℕ) → k < m → (o : ℕ) → CursorAt F (placeBody index list k) o (cursorOf was k)
+        → CursorAt F (placeBody index list k) (o + n) (cursorOf ns k)
+    pub words : (k : ℕ) → k < m → (o : ℕ) → CursorAt F (placeBody index list k) o (cursorOf was k) → (i : ℕ) → i < n
+        → wordAt even x (k * blockSegments) i ≡ getD (segmentsOf F (placeBody index list k)) (o + i) 0
     pub rest : (i : ℕ) → m * blockSegments ≤ i → getD x i 0 ≡ getD x₀ i 0
 
   -- no place did
@@ -71,15 +72,17 @@ module _ (index list was : List ℕ) (n : ℕ) (even : Bool) (x₀ : List ℕ) w
 
   module _ (m : ℕ) (ns x : List ℕ) (g : Gathering m ns x) where
     -- the next place stands where it stood
-    still : (o : ℕ) → CursorAt (placeBody index list m) o (cursorOf was m) → CursorAt (placeBody index list m) o (cursorOf ns m)
+    still : (o : ℕ) → CursorAt F (placeBody index list m) o (cursorOf was m)
+        → CursorAt F (placeBody index list m) o (cursorOf ns m)
     still o a = rw (g .later m (le-refl m)) a
 
-    pub stands-before : m < length list → StandingBefore index list was n → StandsBefore (placeBody index list m) (cursorOf ns m) n
+    pub stands-before : m < length list → StandingBefore F index list was n
+        → StandsBefore F (placeBody index list m) (cursorOf ns m) n
     stands-before h st = (st .0, still (st .0) (st .1 m h), st .2 m h)
 
     -- one place more did
     pub gathering-more : (even ≡ false → n ≤ blockSegments) → (ns′ x′ : List ℕ)
-        → PlaceTaken (placeBody index list m) ns m n even x ns′ x′ → Gathering (m + 1) ns′ x′
+        → PlaceTaken F (placeBody index list m) ns m n even x ns′ x′ → Gathering (m + 1) ns′ x′
     gathering-more few ns′ x′ p = record {
       long = p .long ∙ g .long;
       rows-long = p .row .long ∙ g .rows-long;
@@ -99,7 +102,7 @@ module _ (index list was : List ℕ) (n : ℕ) (even : Bool) (x₀ : List ℕ) w
             unfold wordAt in p .row .before (k * blockSegments + cond even 0 i) (omega (arith, within-row even n i few h))
 
     -- all places did
-    pub gathering-all : m ≡ length list → Gathered index list was n even x₀ ns x
+    pub gathering-all : m ≡ length list → Gathered F index list was n even x₀ ns x
     gathering-all e = record {
       long = g .long;
       on = λ o st k l. g .on k (omega arith) o (st k l);

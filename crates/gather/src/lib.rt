@@ -5,13 +5,14 @@ ghost use mathlib.Core.Path.{_≡_};
 ghost use Prim.Native.Nat.{ℕ, _≤_, _<_};
 ghost use lib.ListN.{length};
 ghost use Rattle.meaning.specs.Limits.{mostNamed, mostValueColumn, blockSegments, blockWords, queryNumbers};
-ghost use Rattle.meaning.specs.Index.{bitmapCount, bodyAt};
+ghost use Rattle.meaning.specs.Index.{formatOf, bitmapCount, bodyAt};
 ghost use Rattle.meaning.specs.Laws.{HeadFacts, EntryFacts};
 ghost use Rattle.ewah.specs.Cursors.{leftOf};
 ghost use Rattle.walk.specs.Queries.{cursorOf, Listed};
 ghost use Rattle.gather.specs.Gathered.{StandsBefore, StandingBefore, PlaceTaken, Gathered};
 use meaning::BLOCK_SEGMENTS;
 use meaning::BLOCK_WORDS;
+use meaning::Format;
 use meaning::PLACE_NUMBERS;
 use meaning::QUERY_NUMBERS;
 use walk::query;
@@ -46,6 +47,7 @@ pub fn nearest(numbers: &[u32; QUERY_NUMBERS], len: usize) -> u32
 
 // Place k, whose bitmap has the number b, goes n segments on; row k of x becomes their words.
 fn take_place(
+    format: Format,
     index: &[u32],
     b: u32,
     numbers: &mut [u32; QUERY_NUMBERS],
@@ -56,20 +58,29 @@ fn take_place(
 )
     requires { ⌜ HeadFacts (now index) ⌝ }
     requires { ⌜ EntryFacts (now index) ⌝ }
-    requires { ⌜ StandsBefore (bodyAt (now index) b) (cursorOf (now numbers) k) n ⌝ }
+    requires { ⌜ StandsBefore format (bodyAt (now index) b) (cursorOf (now numbers) k) n ⌝ }
     requires { ⌜ (b < bitmapCount (now index)) × (k < mostValueColumn) × (length (now numbers) ≡ queryNumbers)
         × (length (now x) ≡ blockWords) × (1 ≤ n)
         × (even ≡ true → n ≤ leftOf (cursorOf (now numbers) k .piece)) × (even ≡ false → n ≤ blockSegments) ⌝ }
-    ensures { λ _. ⌜ PlaceTaken (bodyAt (now (index .entry)) b) (now (numbers .entry)) k n even (now (x .entry))
-        (now (numbers .exit)) (now (x .exit)) ⌝ }
+    ensures { λ _. ⌜ PlaceTaken format (bodyAt (now (index .entry)) b) (now (numbers .entry)) k n even
+        (now (x .entry)) (now (numbers .exit)) (now (x .exit)) ⌝ }
 {
     let c = query::cursor_at(numbers, k);
-    let d = block_read::take(contents::body(index, b), c, x, k * BLOCK_SEGMENTS, n, even);
+    let d = block_read::take(
+        format,
+        contents::body(index, b),
+        c,
+        x,
+        k * BLOCK_SEGMENTS,
+        n,
+        even,
+    );
     query::set_cursor(numbers, k, d);
 }
 
-// Every cursor goes n segments on; row k of x becomes the words of place k.
+// Every cursor goes n segments on in its body, which has the index's format; row k of x becomes the words of place k.
 pub fn gather(
+    format: Format,
     index: &[u32],
     list: &[u32],
     numbers: &mut [u32; QUERY_NUMBERS],
@@ -77,20 +88,21 @@ pub fn gather(
     even: bool,
     x: &mut [u32; BLOCK_WORDS],
 )
+    requires { ⌜ format ≡ formatOf (now index) ⌝ }
     requires { ⌜ HeadFacts (now index) ⌝ }
     requires { ⌜ EntryFacts (now index) ⌝ }
     requires { ⌜ Listed (now index) (now list) ⌝ }
-    requires { ⌜ StandingBefore (now index) (now list) (now numbers) n ⌝ }
+    requires { ⌜ StandingBefore (formatOf (now index)) (now index) (now list) (now numbers) n ⌝ }
     requires { ⌜ (length (now numbers) ≡ queryNumbers) × (length (now x) ≡ blockWords)
         × (length (now list) ≤ mostValueColumn) × (1 ≤ n)
         × (even ≡ true → (k : ℕ) → k < length (now list) → n ≤ leftOf (cursorOf (now numbers) k .piece))
         × (even ≡ false → n ≤ blockSegments) ⌝ }
-    ensures { λ _. ⌜ Gathered (now (index .entry)) (now (list .entry)) (now (numbers .entry)) n even (now (x .entry))
-        (now (numbers .exit)) (now (x .exit)) ⌝ }
+    ensures { λ _. ⌜ Gathered (formatOf (now (index .entry))) (now (index .entry)) (now (list .entry))
+        (now (numbers .entry)) n even (now (x .entry)) (now (numbers .exit)) (now (x .exit)) ⌝ }
 {
     let mut k: usize = 0;
     while k < list.len() {
-        take_place(index, list[k], numbers, k, n, even, x);
+        take_place(format, index, list[k], numbers, k, n, even, x);
         k += 1;
     }
 }

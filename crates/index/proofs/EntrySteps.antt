@@ -1,17 +1,19 @@
 -- The entries of an index, one by one, and where a body lies.
 -- Assumes nothing.
-use Prim.Native.Nat.{ℕ, suc, _+_, _-_, _≤_, _<_}
-use mathlib.Core.Path.{_≡_, sym, _∙_, subst}
+use Prim.Native.Nat.{ℕ, suc, _+_, _-_, _^_, _≤_, _<_}
+use mathlib.Core.Path.{_≡_, sym, ap, _∙_, subst}
 use mathlib.Core.List.{List}
 use native.Mathlib.Omega.{arith}
 use borrow.Author.Tests.{lt-ltb, le-ltb, eq-eqb, ne-eqb}
 use lib.Dec.{ltb}
-use lib.ListN.{length, take, drop, length-drop}
-use lib.Seq.{length-take-le}
-use Rattle.meaning.specs.Refusal.{Verdict, refused, sound, refuseIf, _then_}
-use Rattle.meaning.specs.Ewah.{bodyFault}
-use Rattle.meaning.specs.Index.{rowCount, bitmapCount, entryPlace, startOf, lengthOf, bodyPlace, bodyAt, entriesFault, bodiesFault}
+use lib.ListN.{length}
+use Rattle.meaning.specs.Limits.{mostRows}
 use Rattle.meaning.specs.Laws.{HeadFacts, EntryFacts}
+use Rattle.meaning.specs.Refusal.{Verdict, refused, sound, refuseIf, _then_}
+use Rattle.meaning.specs.Format.{bodyFault}
+use Rattle.meaning.specs.declared.Format.{Format}
+use Rattle.meaning.specs.Index.{formatOf, rowCount, bitmapCount, entryPlace, startOf, lengthOf, bodyAt, entriesFault, bodiesFault}
+use Rattle.contents.proofs.Places.{body-within, body-length}
 use Rattle.index.specs.declared.check.Step.{Step}
 use Rattle.index.specs.declared.check.Step.the-variants.{Next, Fault}
 use Rattle.index.specs.Entries.{Passed, Faulty, Stepped}
@@ -67,15 +69,15 @@ module _ (index : List ℕ) (n k end : ℕ) (v : Verdict) (inv : entriesFault in
 
 module _ (index : List ℕ) (n k : ℕ) (v : Verdict) (inv : bodiesFault index k (n - k) ≡ v) where
   module _ (h : k < n) where
-    opened : (bodyFault k (startOf index k) (rowCount index) (bodyAt index k) then bodiesFault index (k + 1) (n - (k + 1))) ≡ v
+    opened : (bodyFault (formatOf index) k (startOf index k) (rowCount index) (bodyAt index k) then bodiesFault index (k + 1) (n - (k + 1))) ≡ v
     unfolding bodiesFault
     opened = let e : n - k ≡ suc (n - suc k) = omega arith in let z : k + 1 ≡ suc k = omega arith in rw z (rw e at inv)
 
-    pub bodies-next : bodyFault k (startOf index k) (rowCount index) (bodyAt index k) ≡ sound → bodiesFault index (k + 1) (n - (k + 1)) ≡ v
+    pub bodies-next : bodyFault (formatOf index) k (startOf index k) (rowCount index) (bodyAt index k) ≡ sound → bodiesFault index (k + 1) (n - (k + 1)) ≡ v
     unfolding _then_
     bodies-next e = rw e at opened
 
-    pub bodies-fault : (number bitmap word : ℕ) → bodyFault k (startOf index k) (rowCount index) (bodyAt index k) ≡ refused number bitmap word → refused number bitmap word ≡ v
+    pub bodies-fault : (number bitmap word : ℕ) → bodyFault (formatOf index) k (startOf index k) (rowCount index) (bodyAt index k) ≡ refused number bitmap word → refused number bitmap word ≡ v
     unfolding _then_
     bodies-fault number bitmap word e = rw e at opened
 
@@ -89,6 +91,22 @@ entries-start index n e h g = let z : n - 0 ≡ n = omega arith in rw (z, g, h)
 pub bodies-start : (index : List ℕ) (n : ℕ) → n ≡ bitmapCount index → bodiesFault index 0 (n - 0) ≡ bodiesFault index 0 (bitmapCount index)
 bodies-start index n h = let z : n - 0 ≡ n = omega arith in rw (z, h)
 
--- the fault of body k, where the rows were read before
-pub fault-of : (index : List ℕ) (k rows : ℕ) (v : Verdict) → rows ≡ rowCount index → bodyFault k (startOf index k) rows (bodyAt index k) ≡ v → bodyFault k (startOf index k) (rowCount index) (bodyAt index k) ≡ v
-fault-of index k rows v e h = rw e at h
+-- the fault of body k, told as t, where the rows were read before
+pub fault-of : (index : List ℕ) (k rows : ℕ) (t v : Verdict) → rows ≡ rowCount index
+    → t ≡ bodyFault (formatOf index) k (startOf index k) rows (bodyAt index k) → t ≡ v
+    → bodyFault (formatOf index) k (startOf index k) (rowCount index) (bodyAt index k) ≡ v
+fault-of index k rows t v e h g = rw e at (sym h ∙ g)
+
+module _ (index : List ℕ) (h : HeadFacts index) (g : EntryFacts index) (k rows from : ℕ) (b : List ℕ) where
+  -- what a body's check asks of its rows and places, where its start and its words were read before
+  pub body-asked : k < bitmapCount index → rows ≡ rowCount index → from ≡ startOf index k → b ≡ bodyAt index k
+      → (rows ≤ mostRows) × (from + length b < 2 ^ 64)
+  body-asked few e f same = (
+    omega (arith, h .few-rows),
+    omega (arith, ap length same, body-length index k g few, body-within index k g few, h .few-words),
+  )
+
+-- the fault of a body, where its format, its start and its words were read before
+pub body-told : (t : Verdict) (F G : Format) (k from place rows : ℕ) (b c : List ℕ)
+    → t ≡ bodyFault F k from rows b → F ≡ G → from ≡ place → b ≡ c → t ≡ bodyFault G k place rows c
+body-told t F G k from place rows b c h e f g = rw (← e, ← f, ← g) h

@@ -1,21 +1,23 @@
 // The first fault of an index: of its head, of its entries one by one, of its bodies one by one.
+ghost use mathlib.Core.Bool.{not};
 ghost use mathlib.Core.Path.{_≡_};
 ghost use Prim.Native.Nat.{_≤_, _<_};
 ghost use lib.ListN.{length};
 ghost use Rattle.meaning.specs.Refusal.{_then_};
-ghost use Rattle.meaning.specs.Ewah.{bodyFault};
-ghost use Rattle.meaning.specs.Index.{rowCount, bitmapCount, entryPlace, startOf, bodyAt, headFault, entriesFault, bodiesFault, indexFault};
+ghost use Rattle.meaning.specs.Format.{bodyFault};
+ghost use Rattle.meaning.specs.Index.{isKind, formatOf, rowCount, bitmapCount, entryPlace, startOf, bodyAt, headFault, entriesFault, bodiesFault, indexFault};
 ghost use Rattle.meaning.specs.Laws.{HeadFacts, EntryFacts};
 ghost use Rattle.answers.specs.Told.{verdictOf};
 ghost use Rattle.index.specs.Entries.{Stepped, refusal};
 use answers::refusal::Checked;
 use answers::refusal::Refusal;
-use ewah::check as body;
+use meaning::EWAH_KIND;
+use meaning::Format;
 use meaning::HEAD_WORDS;
-use meaning::INDEX_KIND;
 use meaning::MOST_BITMAPS;
 use meaning::MOST_INDEX_WORDS;
 use meaning::MOST_ROWS;
+use meaning::WAH_KIND;
 
 // A refusal with these three numbers.
 fn refused(number: u32, bitmap: u32, word: usize) -> Checked
@@ -26,6 +28,16 @@ fn refused(number: u32, bitmap: u32, word: usize) -> Checked
         bitmap,
         word: word as u64,
     })
+}
+
+// Whether word 0 states no kind that is known.
+fn kind_is_bad(x: u32) -> bool
+    ensures { λ r. ⌜ r ≡ not (isKind x) ⌝ }
+{
+    if x == EWAH_KIND {
+        return false;
+    }
+    x != WAH_KIND
 }
 
 // The head: the index's length, word 0, the rows, the number of bitmaps, and room for the contents.
@@ -39,7 +51,7 @@ fn check_head(index: &[u32]) -> Checked
     if words < HEAD_WORDS {
         return refused(1, 0, words);
     }
-    if index[0] != INDEX_KIND {
+    if kind_is_bad(index[0]) {
         return refused(2, 0, 0);
     }
     if MOST_ROWS < index[1] {
@@ -104,16 +116,22 @@ fn check_entries(index: &[u32]) -> Checked
     Checked::Sound
 }
 
-// Body k, with places counted from word 0 of the index.
-fn check_body(index: &[u32], rows: u32, k: u32) -> Checked
+// Body k, with places counted from word 0 of the index. `bodies::check` has the same switch; here both ways are compiled
+// into the loop over the bodies, which a call for each short body would slow.
+fn check_body(format: Format, index: &[u32], rows: u32, k: u32) -> Checked
     requires { ⌜ HeadFacts (now index) ⌝ }
     requires { ⌜ EntryFacts (now index) ⌝ }
     requires { ⌜ k < bitmapCount (now index) ⌝ }
-    requires { ⌜ rows ≡ rowCount (now index) ⌝ }
-    ensures { λ r. ⌜ verdictOf r ≡ bodyFault k (startOf (now (index .entry)) k) rows (bodyAt (now (index .entry)) k) ⌝ }
+    requires { ⌜ (rows ≡ rowCount (now index)) × (format ≡ formatOf (now index)) ⌝ }
+    ensures { λ r. ⌜ verdictOf r ≡ bodyFault (formatOf (now (index .entry))) k (startOf (now (index .entry)) k) rows
+        (bodyAt (now (index .entry)) k) ⌝ }
 {
     let start = contents::start(index, k);
-    body::check(contents::body(index, k), rows, k, start as u64)
+    let body = contents::body(index, k);
+    match format {
+        Format::Ewah => ewah::check::check(body, rows, k, start as u64),
+        Format::Wah => wah::check::check(body, rows, k, start as u64),
+    }
 }
 
 // The bodies.
@@ -124,9 +142,10 @@ fn check_bodies(index: &[u32]) -> Checked
 {
     let n = contents::bitmaps(index);
     let rows = contents::rows(index);
+    let format = contents::format(index);
     let mut k: u32 = 0;
     while k < n {
-        let checked = check_body(index, rows, k);
+        let checked = check_body(format, index, rows, k);
         match checked {
             Checked::Refused(refusal) => {
                 return Checked::Refused(refusal);

@@ -1,5 +1,4 @@
 pub mod Evaluating
-pub mod Emitting
 pub mod Stretched
 pub mod Along
 pub mod Merging

@@ -1,4 +1,4 @@
--- Cursors that stand at one segment, and their survey, are a stretch of the bodies.
+-- Cursors that stand at one segment, and their survey, are a stretch of the bodies, of either format.
 -- Assumes nothing.
 use Prim.Native.Nat.{ℕ, zero, suc, _+_, _-_, _*_, _≤_, _<_}
 use mathlib.Core.Bool.{Bool, true, false}
@@ -7,17 +7,20 @@ use mathlib.Core.List.{List, [], _∷_, map}
 use native.Mathlib.Omega.{arith}
 use native.Mathlib.Decide.{decLe}
 use lib.ListN.{length, getD, drop, length-map}
-use Rattle.meaning.specs.Limits.{mostClean}
 use Rattle.meaning.specs.Rows.{bit, sumBelow, countBelow}
-use Rattle.meaning.specs.Segment.{fill, isSet, segmentCount}
-use Rattle.meaning.specs.Ewah.{Piece, cleanRun, dirtyWord, runThen, pieces, segments, rowsOf}
+use Rattle.meaning.specs.Segment.{fill, isSet, bitAt, segmentCount}
+use Rattle.meaning.specs.Piece.{Piece, cleanRun, dirtyWord, runThen}
+use Rattle.meaning.specs.Format.{width, mostRun, piecesOf, segmentsOf, rowsOf}
+use Rattle.meaning.specs.declared.Format.{Format}
+use Rattle.meaning.specs.declared.Format.the-variants.{Ewah, Wah}
 use Rattle.meaning.specs.Question.{held, endsAt, isIn, endsFrom}
 use Rattle.meaning.specs.Index.{bodyAt}
 use Rattle.meaning.specs.Laws.{SoundFacts}
-use Rattle.meaning.specs.Ahead.{Ahead, heldAt, StretchAt}
+use Rattle.meaning.specs.Ahead.{Ahead, restOf, heldAt, StretchAt}
+use Rattle.meaning.proofs.Formats.{width-pos, width-le, facts-count}
 use Rattle.meaning.proofs.RowWords.{has-at}
 use Rattle.meaning.proofs.Sums.{sum-ext, sum-add, held-map}
-use Rattle.meaning.proofs.Counting.{zero-clear, full-set}
+use Rattle.meaning.proofs.Even.{bit-fill}
 use Rattle.meaning.proofs.Walked.{ahead-run, ahead-dirty, no-end, an-end, ends-none, ends-some, count-stretch}
 use Rattle.ewah.specs.declared.cursor.Cursor.{Cursor}
 use Rattle.ewah.specs.declared.cursor.Piece as code
@@ -76,55 +79,73 @@ no-term (suc m) f e i h = elim (decLe (suc i) m) [
 
 -- ---- one cursor
 
-pub bit-fill : (v j : ℕ) → v < 2 → j < 32 → bit (isSet (fill 32 v) j) ≡ v
-unfolding fill bit
-bit-fill zero j h l = rw (zero-clear j)
-bit-fill (suc zero) j h l = rw (full-set 32 j l)
-bit-fill (suc (suc v)) j h l = absurd (omega arith)
+-- 32 bits hold the longest run
+run-low : (F : Format) → mostRun F ≤ 4294967295
+run-low Ewah = omega arith
+run-low Wah = omega arith
 
 -- a row of a body is a bit of one of its segments
-pub row-bit : (b : List ℕ) (i j : ℕ) → j < 32 → rowsOf b (i * 32 + j) ≡ isSet (getD (segments b) i 0) j
-unfolding rowsOf isSet
-row-bit b i j h = has-at 32 (omega arith) (segments b) i j h
+pub row-bit : (F : Format) (b : List ℕ) (i j : ℕ) → j < width F
+    → rowsOf F b (i * width F + j) ≡ isSet (getD (segmentsOf F b) i 0) j
+unfolding rowsOf isSet bitAt
+row-bit F b i j h = has-at (width F) (width-pos F) (segmentsOf F b) i j h
 
-module _ (b : List ℕ) (o : ℕ) (c : Cursor) (a : CursorAt b o c) where
+module _ (F : Format) (b : List ℕ) (o : ℕ) (c : Cursor) (a : CursorAt F b o c) where
+  abbrev w : ℕ
+  w = width F
+
+  abbrev segs : List ℕ
+  segs = segmentsOf F b
+
+  -- the ends of the body's pieces
+  abbrev ends : List ℕ
+  ends = endsFrom 0 (piecesOf F b)
+
   abbrev others : List Piece
-  others = pieces (c .dirty) (drop (c .next) b)
+  others = restOf F (c .dirty) (drop (c .next) b)
 
-  ahead-of : (q : code.Piece) → c .piece ≡ q → Ahead b o (pieceThen q others)
+  ahead-of : (q : code.Piece) → c .piece ≡ q → Ahead F b o (pieceThen q others)
   unfolding piecesFrom
-  ahead-of q e = subst (λ (z : code.Piece). Ahead b o (pieceThen z others)) e (a .ahead)
+  ahead-of q e = subst (λ (z : code.Piece). Ahead F b o (pieceThen z others)) e (a .ahead)
 
-  module _ (l : o < length (segments b)) where
+  module _ (l : o < length (segmentsOf F b)) where
     -- row j of every segment of a run, and of the segment of a dirty word
-    pub row-run : dirtyIn (c .piece) ≡ 0 → (i : ℕ) → o ≤ i → i < o + leftOf (c .piece) → (j : ℕ) → j < 32 → bit (rowsOf b (i * 32 + j)) ≡ onesIn (c .piece)
-    row-run z i g h j k = rw (row-bit b i j k) (go (c .piece) refl z h)
+    pub row-run : dirtyIn (c .piece) ≡ 0 → (i : ℕ) → o ≤ i → i < o + leftOf (c .piece)
+        → (j : ℕ) → j < width F → bit (rowsOf F b (i * width F + j)) ≡ onesIn (c .piece)
+    row-run z i g h j k = rw (row-bit F b i j k) (go (c .piece) refl z h)
       where
-        go : (q : code.Piece) → c .piece ≡ q → dirtyIn q ≡ 0 → i < o + leftOf q → bit (isSet (getD (segments b) i 0) j) ≡ onesIn q
+        go : (q : code.Piece) → c .piece ≡ q → dirtyIn q ≡ 0 → i < o + leftOf q
+            → bit (isSet (getD segs i 0) j) ≡ onesIn q
         go (Dirty x) e z h = absurd (omega arith)
         go (Clean v zero) e z h = absurd (omega arith)
         go (Clean v (suc n)) e z h =
-            let f : Ahead b o (cleanRun v (suc n) ∷ others) = unfold pieceThen runThen in ahead-of (Clean v (suc n)) e in
+            let f : Ahead F b o (cleanRun v (suc n) ∷ others) =
+            unfold pieceThen runThen in ahead-of (Clean v (suc n)) e in
             let at : o + (i - o) ≡ i = omega arith in
-            let word : getD (segments b) i 0 ≡ fill 32 v = ap (λ (m : ℕ). getD (segments b) m 0) (sym at) ∙ ahead-run b o v (suc n) others f (i - o) (omega arith) in
+            let word : getD segs i 0 ≡ fill w v =
+            ap (λ (m : ℕ). getD segs m 0) (sym at) ∙ ahead-run F b o v (suc n) others f (i - o) (omega arith) in
             let low : v < 2 = subst ValueLow e (a .in-order .value-low) in
-            rw word (bit-fill v j low k)
+            rw word (bit-fill w v j low k)
 
-    row-first : (j : ℕ) → j < 32 → bit (rowsOf b (o * 32 + j)) ≡ onesIn (c .piece) + bitIn (c .piece) j
+    row-first : (j : ℕ) → j < width F → bit (rowsOf F b (o * width F + j)) ≡ onesIn (c .piece) + bitIn (c .piece) j
     row-first j k = go (c .piece) refl
       where
-        go : (q : code.Piece) → c .piece ≡ q → bit (rowsOf b (o * 32 + j)) ≡ onesIn q + bitIn q j
-        go (Clean v n) e = omega (arith, row-run (ap dirtyIn e) o (omega arith) (omega (arith, some-left b o c a l)) j k, ap onesIn e)
+        go : (q : code.Piece) → c .piece ≡ q → bit (rowsOf F b (o * w + j)) ≡ onesIn q + bitIn q j
+        go (Clean v n) e =
+            let l′ : o < o + leftOf (c .piece) = omega (arith, some-left F b o c a l) in
+            omega (arith, row-run (ap dirtyIn e) o (omega arith) l′ j k, ap onesIn e)
         go (Dirty x) e =
-            let f : Ahead b o (dirtyWord x ∷ others) = unfold pieceThen in ahead-of (Dirty x) e in
-            rw (row-bit b o j k, ahead-dirty b o x others f) (omega (arith, bit-set x j))
+            let f : Ahead F b o (dirtyWord x ∷ others) = unfold pieceThen in ahead-of (Dirty x) e in
+            rw (row-bit F b o j k, ahead-dirty F b o x others f) (omega (arith, bit-set x j))
 
     -- its piece ends at the end of what is left, and not before
-    left-no-end : (e : ℕ) → o < e → e < o + leftOf (c .piece) → isIn (endsFrom 0 (pieces 0 b)) e ≡ false
-    left-no-end e g h = no-end b o (piecesFrom b c) (a .ahead) e g (omega (arith, left-size b o c a l))
+    left-no-end : (e : ℕ) → o < e → e < o + leftOf (c .piece) → isIn (endsFrom 0 (piecesOf F b)) e ≡ false
+    left-no-end e g h = no-end F b o (piecesFrom F b c) (a .ahead) e g (omega (arith, left-size F b o c a l))
 
-    left-end : isIn (endsFrom 0 (pieces 0 b)) (o + leftOf (c .piece)) ≡ true
-    left-end = ap (λ (m : ℕ). isIn (endsFrom 0 (pieces 0 b)) (o + m)) (sym (left-size b o c a l)) ∙ an-end b o (piecesFrom b c) (a .ahead) (omega (arith, left-size b o c a l, some-left b o c a l))
+    left-end : isIn (endsFrom 0 (piecesOf F b)) (o + leftOf (c .piece)) ≡ true
+    left-end =
+        ap (λ (m : ℕ). isIn ends (o + m)) (sym (left-size F b o c a l))
+        ∙ an-end F b o (piecesFrom F b c) (a .ahead) (omega (arith, left-size F b o c a l, some-left F b o c a l))
 
 -- ---- all of them
 
@@ -138,7 +159,7 @@ dirty-left : (q : code.Piece) → 1 ≤ dirtyIn q → leftOf q ≡ 1
 dirty-left (Clean v n) h = absurd (omega arith)
 dirty-left (Dirty x) h = refl
 
-module _ (index list ns : List ℕ) (R o : ℕ) (s : Survey) where
+module _ (F : Format) (index list ns : List ℕ) (R o : ℕ) (s : Survey) where
   abbrev m : ℕ
   m = length list
 
@@ -148,39 +169,61 @@ module _ (index list ns : List ℕ) (R o : ℕ) (s : Survey) where
   abbrev body : ℕ → List ℕ
   body i = placeBody index list i
 
+  abbrev cursor : ℕ → Cursor
+  cursor i = cursorOf ns i
+
   abbrev piece : ℕ → code.Piece
   piece i = cursorOf ns i .piece
 
-  module _ (sound : (i : ℕ) → i < m → SoundFacts R (body i)) (st : Standing index list ns m o) (su : Surveyed ns m s) (some : 1 ≤ m) (l : o < segmentCount 32 R) where
-    inside : (i : ℕ) → i < m → o < length (segments (body i))
-    inside i h = omega (arith, sound i h .count)
+  -- body n has row r
+  abbrev has : (r n : ℕ) → ℕ
+  has r n = bit (rowsOf F (body n) r)
+
+  module _ (sound : (i : ℕ) → i < m → SoundFacts F R (body i)) (st : Standing F index list ns m o)
+      (su : Surveyed ns m s) (some : 1 ≤ m) (l : o < segmentCount (width F) R) where
+    inside : (i : ℕ) → i < m → o < length (segmentsOf F (body i))
+    inside i h = omega (arith, facts-count F R (body i) (sound i h))
 
     pub least-left : (i : ℕ) → i < m → s .least ≤ leftOf (piece i)
     least-left i h = omega (arith, su .least-is, least-le m (λ k. leftOf (piece k)) i h)
 
-    within : (i : ℕ) → i < m → o + leftOf (piece i) ≤ segmentCount 32 R
-    within i h = omega (arith, sound i h .count, left-within (body i) o (cursorOf ns i) (st i h) (inside i h))
+    within : (i : ℕ) → i < m → o + leftOf (piece i) ≤ segmentCount (width F) R
+    within i h =
+        omega (
+          arith,
+          facts-count F R (body i) (sound i h),
+          left-within F (body i) o (cursor i) (st i h) (inside i h),
+        )
 
     low : (i : ℕ) → i < m → leftOf (piece i) ≤ 4294967295
-    low i h = omega (arith, st i h .in-order .left-low)
+    low i h = omega (arith, run-low F, st i h .in-order .left-low)
 
-    pub least-low : s .least ≤ mostClean
+    pub least-low : s .least ≤ mostRun F
     least-low = omega (arith, least-left 0 some, st 0 some .in-order .left-low)
 
     least-some : 1 ≤ s .least
-    least-some = omega (arith, su .least-is, least-ge m (λ k. leftOf (piece k)) 1 (omega arith) (λ i h. some-left (body i) o (cursorOf ns i) (st i h) (inside i h)))
+    least-some =
+        omega (
+          arith,
+          su .least-is,
+          least-ge m (λ k. leftOf (piece k)) 1 (omega arith)
+              (λ i h. some-left F (body i) o (cursor i) (st i h) (inside i h)),
+        )
 
-    held-is : (r : ℕ) → held (map rowsOf bodies) r ≡ sumBelow m (λ i. bit (rowsOf (body i) r))
+    held-is : (r : ℕ) → held (map (rowsOf F) bodies) r ≡ sumBelow m (has r)
     held-is r =
-        held-map rowsOf [] bodies r
-        ∙ ap (λ (n : ℕ). sumBelow n (λ i. bit (rowsOf (getD bodies i []) r))) (length-map list (bodyAt index))
-        ∙ sum-ext m (λ i. bit (rowsOf (getD bodies i []) r)) (λ i. bit (rowsOf (body i) r)) (λ i h. ap (λ (b : List ℕ). bit (rowsOf b r)) (map-at (bodyAt index) list i h))
+        held-map (rowsOf F) [] bodies r
+        ∙ ap (λ (n : ℕ). sumBelow n (λ i. bit (rowsOf F (getD bodies i []) r))) (length-map list (bodyAt index))
+        ∙ sum-ext m (λ i. bit (rowsOf F (getD bodies i []) r)) (has r)
+        (λ i h. ap (λ (b : List ℕ). bit (rowsOf F b r)) (map-at (bodyAt index) list i h))
 
-    clean : s .dirty ≡ 0 → (i : ℕ) → o ≤ i → i < o + s .least → (j : ℕ) → j < 32 → heldAt bodies i j ≡ s .ones
+    clean : s .dirty ≡ 0 → (i : ℕ) → o ≤ i → i < o + s .least → (j : ℕ) → j < width F → heldAt F bodies i j ≡ s .ones
     unfolding heldAt
     clean z i g h j k =
-        held-is (i * 32 + j)
-        ∙ sum-ext m (λ n. bit (rowsOf (body n) (i * 32 + j))) (λ n. onesIn (piece n)) (λ n f. row-run (body n) o (cursorOf ns n) (st n f) (inside n f) (none n f) i g (omega (arith, least-left n f)) j k)
+        held-is (i * width F + j)
+        ∙ sum-ext m (has (i * width F + j)) (λ n. onesIn (piece n))
+        (λ n f. row-run F (body n) o (cursor n) (st n f) (inside n f) (none n f) i g
+        (omega (arith, least-left n f)) j k)
         ∙ sym (su .ones-is)
       where
         none : (n : ℕ) → n < m → dirtyIn (piece n) ≡ 0
@@ -191,36 +234,45 @@ module _ (index list ns : List ℕ) (R o : ℕ) (s : Survey) where
         let r = some-term m (λ k. dirtyIn (piece k)) (λ z. h (su .dirty-is ∙ z)) in
         omega (arith, least-left (r .0) (r .1), dirty-left (piece (r .0)) (r .2), least-some)
 
-    mixed : (j : ℕ) → j < 32 → heldAt bodies o j ≡ s .ones + countAt (s .planes) j
+    mixed : (j : ℕ) → j < width F → heldAt F bodies o j ≡ s .ones + countAt (s .planes) j
     unfolding heldAt
     mixed j k =
-        held-is (o * 32 + j)
-        ∙ sum-ext m (λ n. bit (rowsOf (body n) (o * 32 + j))) (λ n. onesIn (piece n) + bitIn (piece n) j) (λ n f. row-first (body n) o (cursorOf ns n) (st n f) (inside n f) j k)
+        held-is (o * width F + j)
+        ∙ sum-ext m (has (o * width F + j)) (λ n. onesIn (piece n) + bitIn (piece n) j)
+        (λ n f. row-first F (body n) o (cursor n) (st n f) (inside n f) j k)
         ∙ sum-add m (λ n. onesIn (piece n)) (λ n. bitIn (piece n) j)
-        ∙ ap₂ (λ (x y : ℕ). x + y) (sym (su .ones-is)) (sym (su .counts j k))
+        ∙ ap₂ (λ (x y : ℕ). x + y) (sym (su .ones-is)) (sym (su .counts j (omega (arith, width-le F))))
 
-    ends-of : (i e : ℕ) → i < m → (t : Bool) → isIn (endsFrom 0 (pieces 0 (body i))) e ≡ t → isIn (endsFrom 0 (pieces 0 (getD bodies i []))) e ≡ t
+    ends-of : (i e : ℕ) → i < m → (t : Bool) → isIn (endsFrom 0 (piecesOf F (body i))) e ≡ t
+        → isIn (endsFrom 0 (piecesOf F (getD bodies i []))) e ≡ t
     ends-of i e h t g = rw (map-at (bodyAt index) list i h) g
 
     short : (i : ℕ) → i < length bodies → i < m
     short i h = rw (length-map list (bodyAt index)) at h
 
-    next : countBelow (o + s .least) (endsAt bodies) ≡ countBelow o (endsAt bodies) + 1
-    next = count-stretch (endsAt bodies) o (s .least) least-some quiet last
+    next : countBelow (o + s .least) (endsAt F bodies) ≡ countBelow o (endsAt F bodies) + 1
+    next = count-stretch (endsAt F bodies) o (s .least) least-some quiet last
       where
-        quiet : (e : ℕ) → o ≤ e → suc e < o + s .least → endsAt bodies e ≡ false
-        quiet e g h = ends-none bodies e (λ i f. let q = short i f in ends-of i (suc e) q false (left-no-end (body i) o (cursorOf ns i) (st i q) (inside i q) (suc e) (omega arith) (omega (arith, least-left i q))))
+        quiet : (e : ℕ) → o ≤ e → suc e < o + s .least → endsAt F bodies e ≡ false
+        quiet e g h =
+            ends-none F bodies e
+            (λ i f. let q = short i f in
+            ends-of i (suc e) q false
+            (left-no-end F (body i) o (cursor i) (st i q) (inside i q) (suc e) (omega arith)
+            (omega (arith, least-left i q))))
 
-        last : endsAt bodies (o + s .least - 1) ≡ true
+        last : endsAt F bodies (o + s .least - 1) ≡ true
         last =
             let r = least-one m (λ k. leftOf (piece k)) low some in
             let i = r .0 in
             let is : suc (o + s .least - 1) ≡ o + leftOf (piece i) = omega (arith, r .2, su .least-is, least-some) in
             let f : i < length bodies = rw (length-map list (bodyAt index)) (r .1) in
-            ends-some bodies (o + s .least - 1) i f (ends-of i (suc (o + s .least - 1)) (r .1) true (rw is (left-end (body i) o (cursorOf ns i) (st i (r .1)) (inside i (r .1)))))
+            ends-some F bodies (o + s .least - 1) i f
+            (ends-of i (suc (o + s .least - 1)) (r .1) true
+            (rw is (left-end F (body i) o (cursor i) (st i (r .1)) (inside i (r .1)))))
 
     -- the stretch that the survey is of
-    pub stretch : StretchAt R bodies o (s .least) (s .ones) (s .dirty) (countAt (s .planes))
+    pub stretch : StretchAt F R bodies o (s .least) (s .ones) (s .dirty) (countAt (s .planes))
     stretch = record {
       some = least-some;
       within = omega (arith, least-left 0 some, within 0 some);

@@ -8,22 +8,24 @@ use lib.ListN.{length, getD}
 use Rattle.meaning.specs.Limits.{histogramCounts}
 use Rattle.meaning.specs.Rows.{countBelow}
 use Rattle.meaning.specs.Segment.{allSet, rowsIn}
+use Rattle.meaning.specs.Format.{width}
+use Rattle.meaning.specs.declared.Format.{Format}
 use Rattle.meaning.specs.Ahead.{StretchAt, answerRows}
 use Rattle.words.specs.Counters.{countAt}
 use Rattle.walk.specs.declared.survey.Survey.{Survey}
 
 -- of the rows of the first o segments, how many exactly c of the bodies have
-abbrev pub heldBefore : (R : ℕ) (bodies : List (List ℕ)) (o c : ℕ) → ℕ
-heldBefore R bodies o c = countBelow (min R (o * 32)) (answerRows (λ k. eqb k c) bodies)
+abbrev pub heldBefore : Format → (R : ℕ) (bodies : List (List ℕ)) (o c : ℕ) → ℕ
+heldBefore F R bodies o c = countBelow (min R (o * width F)) (answerRows F (λ k. eqb k c) bodies)
 
 -- the counts are the histogram of the first o segments
-abbrev pub HistogramBefore : (R : ℕ) (bodies : List (List ℕ)) (o : ℕ) (counts : List ℕ) → Type 0
-HistogramBefore R bodies o counts = (c : ℕ) → c < histogramCounts → getD counts c 0 ≡ heldBefore R bodies o c
+abbrev pub HistogramBefore : Format → (R : ℕ) (bodies : List (List ℕ)) (o : ℕ) (counts : List ℕ) → Type 0
+HistogramBefore F R bodies o counts = (c : ℕ) → c < histogramCounts → getD counts c 0 ≡ heldBefore F R bodies o c
 
 -- the stretch that the survey s is of is counted in, wherever it stands and whatever bodies it is over
-pub record StretchCounted (counts : List ℕ) (s : Survey) (mask : ℕ) (r : List ℕ) : Type 0 where
+pub record StretchCounted (F : Format) (counts : List ℕ) (s : Survey) (mask : ℕ) (r : List ℕ) : Type 0 where
   pub long : length r ≡ histogramCounts
   pub on : (R o : ℕ) (bodies : List (List ℕ))
-      → StretchAt R bodies o (s .least) (s .ones) (s .dirty) (countAt (s .planes))
-      → mask ≡ allSet (rowsIn 32 R (o + s .least - 1))
-      → HistogramBefore R bodies o counts → HistogramBefore R bodies (o + s .least) r
+      → StretchAt F R bodies o (s .least) (s .ones) (s .dirty) (countAt (s .planes))
+      → mask ≡ allSet (rowsIn (width F) R (o + s .least - 1))
+      → HistogramBefore F R bodies o counts → HistogramBefore F R bodies (o + s .least) r

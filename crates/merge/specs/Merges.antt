@@ -7,8 +7,8 @@ use mathlib.Core.Path.{_≡_}
 use mathlib.Core.List.{List, _++_, map}
 use lib.ListN.{length, drop}
 use Rattle.meaning.specs.Limits.{histogramCounts}
-use Rattle.meaning.specs.Canonical.{canonical}
-use Rattle.meaning.specs.Index.{rowCount, bodyAt}
+use Rattle.meaning.specs.Format.{canonical}
+use Rattle.meaning.specs.Index.{formatOf, rowCount, bodyAt}
 use Rattle.meaning.specs.Question.{stretches}
 use Rattle.meaning.specs.Laws.{IndexFacts}
 use Rattle.meaning.specs.Ahead.{answerRows}
@@ -35,11 +35,12 @@ bodiesOf index list = map (bodyAt index) list
 
 -- the canonical body of the answer's rows
 unfoldable pub answerBody : (index list : List ℕ) → Operation → (table : List ℕ) → List ℕ
-answerBody index list op table = canonical (rowCount index) (answerRows (chosen op table) (bodiesOf index list))
+answerBody index list op table =
+    canonical (formatOf index) (rowCount index) (answerRows (formatOf index) (chosen op table) (bodiesOf index list))
 
 -- the words and the stretches of the answer; its words stand in the buffer where they are stored, and the rest is as it was
 pub record MergedTo (index list : List ℕ) (op : Operation) (table out : List ℕ) (store : Bool) (out′ : List ℕ) (r : Merged) : Type 0 where
   pub words-are : r .words ≡ length (answerBody index list op table)
-  pub stretches-are : r .stretches ≡ stretches (rowCount index) (bodiesOf index list)
+  pub stretches-are : r .stretches ≡ stretches (formatOf index) (rowCount index) (bodiesOf index list)
   pub stored : store ≡ true → out′ ≡ answerBody index list op table ++ drop (length (answerBody index list op table)) out
   pub kept : store ≡ false → out′ ≡ out

@@ -7,7 +7,7 @@ ghost use Rattle.merge.specs.Merges.{Mergeable, MergedTo, answerBody};
 use crate::emit;
 use crate::evaluate;
 use crate::evaluate::Operation;
-use ewah_write::writer;
+use body_write::writer;
 use walk::survey;
 use words::rows;
 
@@ -31,20 +31,23 @@ pub fn merge(
     ensures { λ r. ⌜ MergedTo (now (index .entry)) (now (list .entry)) op (now (table .entry))
         (now (out .entry)) store (now (out .exit)) r ⌝ }
 {
+    let format = contents::format(index);
     let rows = contents::rows(index);
-    let segments = rows::segment_count(rows);
-    let mut q = survey::open(index, list);
+    let segments = rows::segments(format, rows);
+    let full = rows::full(format);
+    let last = rows::last_mask(format, rows);
+    let mut q = survey::open(format, index, list);
     let mut s = survey::all(q);
-    let mut w = writer::start();
+    let mut w = writer::start(format);
     let mut o: u32 = 0;
     let mut stretches: u32 = 0;
     while o < segments {
         let n = s.least;
-        let mask = rows::mask_before(rows, segments, o + n);
-        let part = evaluate::evaluate(op, table, s, mask);
-        let v = emit::emit(out, w, part, store);
+        let mask = rows::mask_before(full, last, segments, o + n);
+        let part = evaluate::evaluate(op, table, s, mask, full);
+        let v = emit::emit(format, out, w, part, mask, store);
         w = v;
-        let t = survey::advance(index, list, &mut q.numbers, n);
+        let t = survey::advance(format, index, list, &mut q.numbers, n);
         s = t;
         o += n;
         stretches += 1;

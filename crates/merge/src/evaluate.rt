@@ -4,7 +4,9 @@ ghost use Prim.Native.Nat.{ℕ, _+_, _≤_, _<_};
 ghost use lib.Dec.{eqb};
 ghost use lib.ListN.{length, getD};
 ghost use Rattle.meaning.specs.Limits.{mostNamed, histogramCounts};
-ghost use Rattle.meaning.specs.Segment.{isSet};
+ghost use Rattle.meaning.specs.Segment.{isSet, allSet};
+ghost use Rattle.meaning.specs.Format.{width};
+ghost use Rattle.meaning.specs.declared.Format.{Format};
 ghost use Rattle.words.specs.Counters.{countAt};
 ghost use Rattle.merge.specs.Operations.{chosen, LowNumber};
 ghost use Rattle.merge.specs.Parts.{Evaluated};
@@ -71,17 +73,17 @@ pub enum Part {
     Word(u32),
 }
 
-// The part of the answer in a stretch of n segments, of whose last one the mask has the rows. With no dirty word it is
-// a run, also over a last segment with pad bits.
-pub fn evaluate(op: Operation, table: &[u32], s: Survey, mask: u32) -> Part
+// The part of the answer in a stretch of n segments, of whose last one the mask has the rows; `full` is the word of a
+// segment of ones. With no dirty word it is a run, also over a last segment with pad bits.
+pub fn evaluate(op: Operation, table: &[u32], s: Survey, mask: u32, full: u32) -> Part
     requires { ⌜ (length (now table) ≤ histogramCounts) × LowNumber op × (s .ones ≤ mostNamed) ⌝ }
-    ensures { λ r. ⌜ Evaluated op (now (table .entry)) s mask r ⌝ }
+    ensures { λ r. ⌜ ((F : Format) → full ≡ allSet (width F) → Evaluated F op (now (table .entry)) s mask r) ⌝ }
 {
     let n = s.least;
     let base = s.ones;
     if s.dirty != 0 {
         let planes = s.planes;
-        return Part::Word(rows::spelled(word(op, table, base, planes), mask));
+        return Part::Word(rows::spelled(word(op, table, base, planes), mask, full));
     }
     if holds(op, table, base) {
         return Part::Run(1, n);

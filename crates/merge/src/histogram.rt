@@ -3,9 +3,11 @@ ghost use mathlib.Core.Path.{_≡_};
 ghost use mathlib.Core.List.{map};
 ghost use Prim.Native.Nat.{ℕ, _+_, _≤_, _<_};
 ghost use lib.ListN.{getD};
-ghost use Rattle.meaning.specs.Limits.{mostRows, mostNamed, histogramCounts, mostClean};
-ghost use Rattle.meaning.specs.Ewah.{rowsOf};
-ghost use Rattle.meaning.specs.Index.{rowCount};
+ghost use Rattle.meaning.specs.Limits.{mostRows, mostNamed, histogramCounts, mostSegments};
+ghost use Rattle.meaning.specs.Format as format;
+ghost use Rattle.meaning.specs.Format.{rowsOf};
+ghost use Rattle.meaning.specs.declared.Format.{Format};
+ghost use Rattle.meaning.specs.Index.{formatOf, rowCount};
 ghost use Rattle.meaning.specs.Question.{histogramOf};
 ghost use Rattle.words.specs.Counters.{countAt};
 ghost use Rattle.merge.specs.Merges.{Walkable, bodiesOf};
@@ -17,12 +19,17 @@ use words::bits;
 use words::counters;
 use words::rows;
 
-// The numbers with the rows of a stretch counted in, of whose last segment the mask has the rows.
-fn count_stretch(counts: [u32; HISTOGRAM_COUNTS], s: Survey, mask: u32) -> [u32; HISTOGRAM_COUNTS]
-    requires { ⌜ (s .ones + s .dirty ≤ mostNamed) × (1 ≤ s .least) × (s .least ≤ mostClean)
+// The numbers with the rows of a stretch counted in, of segments of that width, of whose last one the mask has the rows.
+fn count_stretch(
+    counts: [u32; HISTOGRAM_COUNTS],
+    s: Survey,
+    mask: u32,
+    width: u32,
+) -> [u32; HISTOGRAM_COUNTS]
+    requires { ⌜ (s .ones + s .dirty ≤ mostNamed) × (1 ≤ s .least) × (s .least ≤ mostSegments) × (width ≤ 32)
         × ((c : ℕ) → c < histogramCounts → getD counts c 0 ≤ mostRows)
         × ((j : ℕ) → j < 32 → countAt (s .planes) j ≤ s .dirty) ⌝ }
-    ensures { λ r. ⌜ StretchCounted counts s mask r ⌝ }
+    ensures { λ r. ⌜ ((F : Format) → width ≡ format.width F → StretchCounted F counts s mask r) ⌝ }
 {
     let n = s.least;
     let base = s.ones;
@@ -33,7 +40,7 @@ fn count_stretch(counts: [u32; HISTOGRAM_COUNTS], s: Survey, mask: u32) -> [u32;
     }
     let mut r = counts;
     let k = base as usize;
-    r[k] = r[k] + ((n - 1) * 32 + bits::count(mask));
+    r[k] = r[k] + ((n - 1) * width + bits::count(mask));
     r
 }
 
@@ -41,20 +48,24 @@ fn count_stretch(counts: [u32; HISTOGRAM_COUNTS], s: Survey, mask: u32) -> [u32;
 pub fn histogram(index: &[u32], list: &[u32]) -> [u32; HISTOGRAM_COUNTS]
     requires { ⌜ Walkable (now index) (now list) ⌝ }
     ensures { λ r. ⌜ r ≡ histogramOf (rowCount (now (index .entry)))
-        (map rowsOf (bodiesOf (now (index .entry)) (now (list .entry)))) ⌝ }
+        (map (rowsOf (formatOf (now (index .entry)))) (bodiesOf (now (index .entry)) (now (list .entry)))) ⌝ }
 {
+    let format = contents::format(index);
     let rows = contents::rows(index);
-    let segments = rows::segment_count(rows);
-    let mut q = survey::open(index, list);
+    let segments = rows::segments(format, rows);
+    let width = rows::width(format);
+    let full = rows::full(format);
+    let last = rows::last_mask(format, rows);
+    let mut q = survey::open(format, index, list);
     let mut s = survey::all(q);
     let mut counts: [u32; HISTOGRAM_COUNTS] = [0; HISTOGRAM_COUNTS];
     let mut o: u32 = 0;
     while o < segments {
         let n = s.least;
-        let mask = rows::mask_before(rows, segments, o + n);
-        let d = count_stretch(counts, s, mask);
+        let mask = rows::mask_before(full, last, segments, o + n);
+        let d = count_stretch(counts, s, mask, width);
         counts = d;
-        let t = survey::advance(index, list, &mut q.numbers, n);
+        let t = survey::advance(format, index, list, &mut q.numbers, n);
         s = t;
         o += n;
     }

@@ -8,7 +8,9 @@ use native.Mathlib.Numerals.{add-one}
 use native.Mathlib.Omega.{arith}
 use lib.ListN.{length, getD, take, drop, set, length-set, take-append-drop}
 use lib.Seq.{getD-set-same, getD-set-other, drop-set-lt, ext-getD, getD-take, take-add, take-all, length-take-le}
-use Rattle.meaning.specs.Limits.{mostSegments, mostValueColumn, mostStarts, indexKind, headWords, entryWords}
+use Rattle.meaning.specs.Limits.{mostSegments, mostValueColumn, mostStarts, headWords, entryWords}
+use Rattle.meaning.specs.Format.{kindOf}
+use Rattle.meaning.specs.declared.Format.{Format}
 use Rattle.meaning.specs.Question.{totalWords}
 use Rattle.meaning.specs.NewIndex.{entriesOf, joined, contentsEnd, assembled}
 use Rattle.meaning.proofs.NewIndexes.{entries-length, entries-start, entries-words, joined-more, total-more, length-is}
@@ -60,11 +62,11 @@ module _ (ns r : List ℕ) (from at m : ℕ) (h : m < mostValueColumn) (u : writ
 
 -- ---- the head and the contents
 
-module _ (old : List ℕ) (rows : ℕ) (starts : List ℕ) (count : ℕ) (fits : headWords + entryWords * count ≤ length old) where
-  -- the head alone; c is the count, as a word
-  module _ (c : ℕ) (e : c ≡ count) where
+module _ (F : Format) (old : List ℕ) (rows : ℕ) (starts : List ℕ) (count : ℕ) (fits : headWords + entryWords * count ≤ length old) where
+  -- the head alone; c is the count, as a word, and k the word of the format
+  module _ (k c : ℕ) (f : k ≡ kindOf F) (e : c ≡ count) where
     abbrev one : List ℕ
-    one = set old 0 indexKind
+    one = set old 0 k
 
     abbrev two : List ℕ
     two = set one 1 rows
@@ -72,26 +74,38 @@ module _ (old : List ℕ) (rows : ℕ) (starts : List ℕ) (count : ℕ) (fits :
     abbrev headed : List ℕ
     headed = set two 2 c
 
-    headed-none : Headed old rows starts count headed 0
+    headed-none : Headed F old rows starts count headed 0
     headed-none = record {
       long = simp length-set;
-      kind = getD-set-other two 2 0 c 0 (omega arith) ∙ getD-set-other one 1 0 rows 0 (omega arith) ∙ getD-set-same old 0 indexKind 0 (omega arith);
+      kind = getD-set-other two 2 0 c 0 (omega arith) ∙ getD-set-other one 1 0 rows 0 (omega arith) ∙ getD-set-same old 0 k 0 (omega arith) ∙ f;
       rows-are = getD-set-other two 2 1 c 0 (omega arith) ∙ getD-set-same one 1 rows 0 (simp length-set (omega arith));
       count-is = getD-set-same two 2 c 0 (simp length-set (omega arith)) ∙ e;
       entries = λ i l. absurd (omega arith);
-      behind = stays two 2 c (omega arith) ∙ stays one 1 rows (omega arith) ∙ stays old 0 indexKind (omega arith);
+      behind = stays two 2 c (omega arith) ∙ stays one 1 rows (omega arith) ∙ stays old 0 k (omega arith);
     }
       where
         stays : (l : List ℕ) (i x : ℕ) → i < 3 → drop (headWords + entryWords * count) (set l i x) ≡ drop (headWords + entryWords * count) l
         stays l i x h = drop-set-lt (headWords + entryWords * count) l i x (omega arith)
 
-    -- what is written behind the head is counted from there on
-    pub headed-here : Headed headed rows starts count headed 0
-    headed-here =
-        let g = headed-none in
-        record { long = refl; kind = g .kind; rows-are = g .rows-are; count-is = g .count-is; entries = g .entries; behind = refl }
+    -- its first word
+    pub headed-kind : getD headed 0 0 ≡ kindOf F
+    headed-kind = headed-none .kind
 
-    pub headed-since : (out : List ℕ) (m : ℕ) → Headed headed rows starts count out m → Headed old rows starts count out m
+    -- what is written behind the head is counted from there on
+    pub headed-here : (G : Format) → getD headed 0 0 ≡ kindOf G → Headed G headed rows starts count headed 0
+    headed-here G kind =
+        let g = headed-none in
+        record {
+          long = refl;
+          kind = kind;
+          rows-are = g .rows-are;
+          count-is = g .count-is;
+          entries = g .entries;
+          behind = refl;
+        }
+
+    pub headed-since : (out : List ℕ) (m : ℕ) → Headed F headed rows starts count out m
+        → Headed F old rows starts count out m
     headed-since out m f = record {
       long = f .long ∙ headed-none .long;
       kind = f .kind;
@@ -103,7 +117,7 @@ module _ (old : List ℕ) (rows : ℕ) (starts : List ℕ) (count : ℕ) (fits :
 
   -- one entry more
   module _ (out : List ℕ) (m a l : ℕ) (h : m < count) (ea : a ≡ getD starts m 0) (el : l ≡ getD starts (m + 1) 0 - getD starts m 0)
-      (g : Headed old rows starts count out m) where
+      (g : Headed F old rows starts count out m) where
     abbrev place : ℕ
     place = headWords + entryWords * m
 
@@ -131,7 +145,7 @@ module _ (old : List ℕ) (rows : ℕ) (starts : List ℕ) (count : ℕ) (fits :
           (kept (headWords + entryWords * i) (omega arith) ∙ e .0, kept (headWords + entryWords * i + 1) (omega arith) ∙ e .1)
     ]
 
-    pub headed-more : Headed old rows starts count out′ (m + 1)
+    pub headed-more : Headed F old rows starts count out′ (m + 1)
     headed-more = record {
       long = simp length-set (g .long);
       kind = kept 0 (omega arith) ∙ g .kind;
@@ -176,18 +190,18 @@ module _ (out starts : List ℕ) (bs : List (List ℕ)) (f : ℕ) (places : (k :
       sym (take-append-drop (f + totalWords bs) out) ∙ ap₂ (λ (u v : List ℕ). u ++ v) front h
 
   -- behind the head and the contents of an index of the bodies they are that index
-  pub assembled-out : (rows : ℕ) (old : List ℕ) → f ≡ contentsEnd (length bs)
-      → take f out ≡ indexKind ∷ rows ∷ length bs ∷ entriesOf (contentsEnd (length bs)) bs
+  pub assembled-out : (F : Format) (rows : ℕ) (old : List ℕ) → f ≡ contentsEnd (length bs)
+      → take f out ≡ kindOf F ∷ rows ∷ length bs ∷ entriesOf (contentsEnd (length bs)) bs
       → drop (f + totalWords bs) out ≡ drop (f + totalWords bs) old
-      → out ≡ assembled rows bs ++ drop (length (assembled rows bs)) old
+      → out ≡ assembled F rows bs ++ drop (length (assembled F rows bs)) old
   unfolding assembled
-  assembled-out rows old e head h =
+  assembled-out F rows old e head h =
       laid-out old h
       ∙ ap (λ (l : List ℕ). l ++ joined bs ++ drop (f + totalWords bs) old) head
-      ∙ ap (λ (n : ℕ). assembled rows bs ++ drop n old) (ap (λ (n : ℕ). n + totalWords bs) e ∙ sym (length-is rows bs))
+      ∙ ap (λ (n : ℕ). assembled F rows bs ++ drop n old) (ap (λ (n : ℕ). n + totalWords bs) e ∙ sym (length-is F rows bs))
 
 -- the head and the contents that are written are those of the index of the bodies
-module _ (old out starts : List ℕ) (rows : ℕ) (bs : List (List ℕ)) (g : Headed old rows starts (length bs) out (length bs))
+module _ (F : Format) (old out starts : List ℕ) (rows : ℕ) (bs : List (List ℕ)) (g : Headed F old rows starts (length bs) out (length bs))
     (fits : contentsEnd (length bs) ≤ length old)
     (places : (k : ℕ) → k ≤ length bs → getD starts k 0 ≡ contentsEnd (length bs) + totalWords (take k bs)) where
   abbrev N : ℕ
@@ -197,7 +211,7 @@ module _ (old out starts : List ℕ) (rows : ℕ) (bs : List (List ℕ)) (g : He
   contents = entriesOf (contentsEnd N) bs
 
   abbrev head : List ℕ
-  head = indexKind ∷ rows ∷ N ∷ contents
+  head = kindOf F ∷ rows ∷ N ∷ contents
 
   head-length : length head ≡ contentsEnd N
   unfolding contentsEnd

@@ -2,23 +2,32 @@
 -- Assumes nothing.
 use Prim.Native.Nat.{ℕ, _+_, _*_, _≤_, _<_}
 use mathlib.Core.Path.{_≡_, _∙_}
-use mathlib.Core.List.{List}
+use mathlib.Core.List.{List, []}
 use native.Mathlib.Decide.{decLe}
 use native.Mathlib.Omega.{arith}
 use lib.ListN.{length, getD, set, length-set}
 use lib.Seq.{getD-set-same, getD-set-other}
-use Rattle.meaning.specs.Canonical.{blank}
+use Rattle.meaning.specs.Format.{mostRun}
+use Rattle.meaning.specs.declared.Format.{Format}
+use Rattle.meaning.specs.declared.Format.the-variants.{Ewah, Wah}
 use Rattle.ewah_write.specs.declared.writer.Writer.{Writer}
-use Rattle.ewah_write.specs.Drafts.{Tracks, Writing}
+use Rattle.body_write.specs.Bodies.{Stands, Growing}
+use Rattle.body_write.proofs.Bodies as bodies
 use Rattle.new_index.specs.Writers.{writerOf, Stored}
 
 -- ---- read
 
--- the numbers of a writer's last marker fit 32 bits
-pub fields-low : (ns : List ℕ) (i : ℕ) → Writing (writerOf ns i)
+run-low : (F : Format) → mostRun F < 4294967296
+run-low Ewah = omega arith
+run-low Wah = omega arith
+
+-- the numbers of a writer's last marker, or run, fit 32 bits
+pub fields-low : (ns : List ℕ) (i : ℕ) → (F : Format) × (n : ℕ) × Growing F (writerOf ns i) n
     → (getD ns (5 * i + 2) 0 < 4294967296) × (getD ns (5 * i + 3) 0 < 4294967296) × (getD ns (5 * i + 4) 0 < 4294967296)
 unfolding writerOf
-fields-low ns i w = let r = w .1 .in-range in (omega (arith, r .value-low), omega (arith, r .clean-low), omega (arith, r .dirty-low))
+fields-low ns i w =
+    let r = bodies.fields-low (w .2 .1) in
+    (omega (arith, r .0), omega (arith, r .1, run-low (w .0)), omega (arith, r .2))
 
 pub read : (ns : List ℕ) (i v c d : ℕ) → v ≡ getD ns (5 * i + 2) 0 → c ≡ getD ns (5 * i + 3) 0 → d ≡ getD ns (5 * i + 4) 0
     → record { used = getD ns (5 * i) 0; at = getD ns (5 * i + 1) 0; last = record { value = v; clean = c; dirty = d } } ≡ writerOf ns i
@@ -107,8 +116,8 @@ stored ns i w v c d ev ec ed fits = record {
 -- ---- at the start
 
 -- one writer more that has no word yet
-pub started-more : (ns ns′ : List ℕ) (i : ℕ) (w : Writer) → Tracks w blank → Stored ns i w ns′
-    → ((k : ℕ) → k < i → Tracks (writerOf ns k) blank) → (k : ℕ) → k < i + 1 → Tracks (writerOf ns′ k) blank
+pub started-more : {F : Format} (ns ns′ : List ℕ) (i : ℕ) (w : Writer) → Stands F w [] → Stored ns i w ns′
+    → ((k : ℕ) → k < i → Stands F (writerOf ns k) []) → (k : ℕ) → k < i + 1 → Stands F (writerOf ns′ k) []
 started-more ns ns′ i w t st g k h = elim (decLe i k) [
   | yes l ↦ let z : k ≡ i = omega arith in rw (z, st .here) t
   | no l ↦ rw (st .others k (λ z. absurd (omega arith))) (g k (omega arith))

@@ -1,6 +1,6 @@
 -- The parts of a buffer in which several bodies are written: what a push to one of them changes, and a push to each in turn.
 -- Assumes nothing.
-use Prim.Native.Nat.{ℕ, _+_, _-_, _≤_, _<_}
+use Prim.Native.Nat.{ℕ, _+_, _-_, _^_, _≤_, _<_}
 use mathlib.Core.Bool.{Bool}
 use mathlib.Core.Path.{_≡_, refl, sym, ap, _∙_}
 use mathlib.Core.List.{List, _++_, append-assoc}
@@ -9,8 +9,9 @@ use lib.Seq.{take-at, drop-at, drop-drop, take-take, take-append-le, drop-append
 use native.Mathlib.Decide.{decLe}
 use native.Mathlib.Omega.{arith}
 use Rattle.meaning.specs.Segment.{Segment}
+use Rattle.meaning.specs.declared.Format.{Format}
 use Rattle.ewah_write.specs.declared.writer.Writer.{Writer}
-use Rattle.merge.specs.Emitted.{Emitted}
+use Rattle.body_write.specs.Bodies.{Emitted}
 use Rattle.new_index.specs.Writers.{writerOf, Stored, Laid, region, EmittedAll}
 
 -- ---- the elements from f to t are replaced
@@ -69,13 +70,14 @@ region-length starts out count i laid h =
     length-take-le (getD starts (i + 1) 0 - getD starts i 0) (drop (getD starts i 0) out)
     (omega (arith, length-drop (getD starts i 0) out, in-order, in-all, laid .within))
 
-module _ (starts old nsₒ : List ℕ) (count : ℕ) (ss : ℕ → List Segment) (store : Bool) where
+-- of segments ss, of whose last one the mask has the rows
+module _ (F : Format) (mask : ℕ) (starts old nsₒ : List ℕ) (count : ℕ) (ss : ℕ → List Segment) (store : Bool) where
   -- the first m bodies got theirs
   pub record Going (out ns : List ℕ) (m : ℕ) : Type 0 where
     pub long : length out ≡ length old
     pub numbers-long : length ns ≡ length nsₒ
-    pub done : (i : ℕ) → i < m
-        → Emitted (region starts old i) (region starts out i) (writerOf nsₒ i) (ss i) store (writerOf ns i)
+    pub done : (real : ℕ) → mask ≡ 2 ^ real - 1 → (i : ℕ) → i < m
+        → Emitted F real (region starts old i) (region starts out i) (writerOf nsₒ i) (ss i) store (writerOf ns i)
     pub ahead : (i : ℕ) → m ≤ i → writerOf ns i ≡ writerOf nsₒ i
     pub same : (i : ℕ) → m ≤ i → i < count → region starts out i ≡ region starts old i
     pub front : take (getD starts 0 0) out ≡ take (getD starts 0 0) old
@@ -85,7 +87,7 @@ module _ (starts old nsₒ : List ℕ) (count : ℕ) (ss : ℕ → List Segment)
   going-none = record {
     long = refl;
     numbers-long = refl;
-    done = λ i h. absurd (omega arith);
+    done = λ real e i h. absurd (omega arith);
     ahead = λ i h. refl;
     same = λ i h l. refl;
     front = refl;
@@ -95,7 +97,8 @@ module _ (starts old nsₒ : List ℕ) (count : ℕ) (ss : ℕ → List Segment)
   module _ (laid : Laid starts count (length old)) (out ns : List ℕ) (m : ℕ) (g : Going out ns m) where
     -- the next one's part became ys, and its writer v
     module _ (h : m < count) (ys : List ℕ) (v : Writer) (long′ : length ys ≡ length (region starts out m))
-        (e : Emitted (region starts out m) ys (writerOf ns m) (ss m) store v) (ns′ : List ℕ) (st : Stored ns m v ns′) where
+        (e : (real : ℕ) → mask ≡ 2 ^ real - 1 → Emitted F real (region starts out m) ys (writerOf ns m) (ss m) store v)
+        (ns′ : List ℕ) (st : Stored ns m v ns′) where
       abbrev f : ℕ
       f = getD starts m 0
 
@@ -125,17 +128,21 @@ module _ (starts old nsₒ : List ℕ) (count : ℕ) (ss : ℕ → List Segment)
             (drop-after out f t ys ft tl n (getD starts i 0) (laid .rising (m + 1) i (omega arith) (omega arith)))
       ]
 
-      here : Emitted (region starts old m) (region starts out′ m) (writerOf nsₒ m) (ss m) store (writerOf ns′ m)
-      here = rw (new-part out f t ys ft tl n, st .here, ← g .same m (omega arith) h, ← g .ahead m (omega arith)) e
+      module _ (real : ℕ) (rows : mask ≡ 2 ^ real - 1) where
+        here : Emitted F real (region starts old m) (region starts out′ m) (writerOf nsₒ m) (ss m) store
+            (writerOf ns′ m)
+        here =
+            rw (new-part out f t ys ft tl n, st .here, ← g .same m (omega arith) h, ← g .ahead m (omega arith))
+            (e real rows)
 
-      done : (i : ℕ) → i < m + 1
-          → Emitted (region starts old i) (region starts out′ i) (writerOf nsₒ i) (ss i) store (writerOf ns′ i)
-      done i l = elim (decLe m i) [
-        | yes w ↦ let z : i ≡ m = omega arith in rw z here
-        | no w ↦
-            rw (elsewhere i (omega arith) (λ z. absurd (omega arith)), st .others i (λ z. absurd (omega arith)))
-            (g .done i (omega arith))
-      ]
+        done : (i : ℕ) → i < m + 1
+            → Emitted F real (region starts old i) (region starts out′ i) (writerOf nsₒ i) (ss i) store (writerOf ns′ i)
+        done i l = elim (decLe m i) [
+          | yes w ↦ let z : i ≡ m = omega arith in rw z here
+          | no w ↦
+              rw (elsewhere i (omega arith) (λ z. absurd (omega arith)), st .others i (λ z. absurd (omega arith)))
+              (g .done real rows i (omega arith))
+        ]
 
       pub going-more : Going out′ ns′ (m + 1)
       going-more = record {
@@ -150,11 +157,11 @@ module _ (starts old nsₒ : List ℕ) (count : ℕ) (ss : ℕ → List Segment)
             ∙ g .back;
       }
 
-    pub going-all : m ≡ count → EmittedAll starts old out nsₒ ns count ss store
-    going-all z = record {
+    pub going-all : m ≡ count → (real : ℕ) → mask ≡ 2 ^ real - 1 → EmittedAll F real starts old out nsₒ ns count ss store
+    going-all z real rows = record {
       long = g .long;
       numbers-long = g .numbers-long;
-      each = λ i l. g .done i (omega arith);
+      each = λ i l. g .done real rows i (omega arith);
       others = λ i l. g .ahead i (omega arith);
       front = g .front;
       back = g .back;

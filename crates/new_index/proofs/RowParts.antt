@@ -8,6 +8,7 @@ use native.Mathlib.Omega.{arith}
 use lib.ListN.{length, getD, take, drop, length-drop}
 use lib.Seq.{getD-drop, getD-take, length-take-le}
 use Rattle.meaning.specs.Limits.{mostValueColumn, blockSegments, blockWords}
+use Rattle.meaning.specs.declared.Format.{Format}
 use Rattle.block_write.specs.Rowed.{rowSegments, CleanWord}
 use Rattle.new_index.specs.Writers.{rowLength, rowOf}
 
@@ -17,7 +18,7 @@ row-low n true h = omega arith
 row-low n false h = h refl
 
 -- row k's m words
-module _ (rows : List ℕ) (n : ℕ) (even : Bool) (k m : ℕ) (e : m ≡ rowLength n even) where
+module _ (F : Format) (rows : List ℕ) (n : ℕ) (even : Bool) (k m : ℕ) (e : m ≡ rowLength n even) where
   abbrev words : List ℕ
   words = take ((k * blockSegments + m) - k * blockSegments) (drop (k * blockSegments) rows)
 
@@ -25,16 +26,16 @@ module _ (rows : List ℕ) (n : ℕ) (even : Bool) (k m : ℕ) (e : m ≡ rowLen
   many = omega arith
 
   -- they are the row's segments
-  pub row-is : rowSegments words n even ≡ rowOf rows n even k
+  pub row-is : rowSegments F words n even ≡ rowOf F rows n even k
   unfolding rowOf
-  row-is = ap (λ (j : ℕ). rowSegments (take j (drop (k * blockSegments) rows)) n even) (many ∙ e)
+  row-is = ap (λ (j : ℕ). rowSegments F (take j (drop (k * blockSegments) rows)) n even) (many ∙ e)
 
   module _ (long : length rows ≡ blockWords) (h : k < mostValueColumn) (low : m ≤ blockSegments) where
     row-length : length words ≡ m
     row-length = length-take-le _ (drop (k * blockSegments) rows) (omega (arith, length-drop (k * blockSegments) rows)) ∙ many
 
     -- where all segments are alike, the first word is there
-    pub row-first : even ≡ true → CleanWord (getD rows (k * blockSegments) 0) → (1 ≤ length words) × CleanWord (getD words 0 0)
+    pub row-first : even ≡ true → CleanWord F (getD rows (k * blockSegments) 0) → (1 ≤ length words) × CleanWord F (getD words 0 0)
     row-first t g =
         let one : m ≡ 1 = e ∙ ap (rowLength n) t in
         let some : 1 ≤ length words = omega (arith, row-length, one) in
@@ -45,5 +46,5 @@ module _ (rows : List ℕ) (n : ℕ) (even : Bool) (k m : ℕ) (e : m ≡ rowLen
         (some, rw same g)
 
     -- and else one for each
-    pub row-each : even ≡ false → n ≤ blockSegments → (length words ≡ n) × (n ≤ blockSegments)
-    row-each t g = (row-length ∙ e ∙ ap (rowLength n) t, g)
+    pub row-each : even ≡ false → length words ≡ n
+    row-each t = row-length ∙ e ∙ ap (rowLength n) t

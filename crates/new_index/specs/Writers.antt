@@ -7,8 +7,9 @@ use mathlib.Core.List.{List}
 use lib.ListN.{length, getD, take, drop}
 use Rattle.meaning.specs.Limits.{blockSegments, writerNumbers}
 use Rattle.meaning.specs.Segment.{Segment}
+use Rattle.meaning.specs.declared.Format.{Format}
 use Rattle.ewah_write.specs.declared.writer.Writer.{Writer}
-use Rattle.merge.specs.Emitted.{Emitted}
+use Rattle.body_write.specs.Bodies.{Emitted}
 use Rattle.block_write.specs.Rowed.{rowSegments}
 
 -- the writer at place i
@@ -44,14 +45,17 @@ abbrev pub rowLength : (n : ℕ) (even : Bool) → ℕ
 rowLength n even = cond even 1 n
 
 -- the segments of row i
-unfoldable pub rowOf : (rows : List ℕ) (n : ℕ) (even : Bool) (i : ℕ) → List Segment
-rowOf rows n even i = rowSegments (take (rowLength n even) (drop (i * blockSegments) rows)) n even
+unfoldable pub rowOf : Format → (rows : List ℕ) (n : ℕ) (even : Bool) (i : ℕ) → List Segment
+rowOf F rows n even i = rowSegments F (take (rowLength n even) (drop (i * blockSegments) rows)) n even
 
--- the first `count` bodies got the segments `ss`, each in its own part, and what lies before and behind all parts stays
-pub record EmittedAll (starts out out′ ns ns′ : List ℕ) (count : ℕ) (ss : ℕ → List Segment) (store : Bool) : Type 0 where
+-- the first `count` bodies got the segments `ss`, the last of which has `real` rows, each in its own part, and what lies before and
+-- behind all parts stays
+pub record EmittedAll (F : Format) (real : ℕ) (starts out out′ ns ns′ : List ℕ) (count : ℕ) (ss : ℕ → List Segment)
+    (store : Bool) : Type 0 where
   pub long : length out′ ≡ length out
   pub numbers-long : length ns′ ≡ length ns
-  pub each : (i : ℕ) → i < count → Emitted (region starts out i) (region starts out′ i) (writerOf ns i) (ss i) store (writerOf ns′ i)
+  pub each : (i : ℕ) → i < count
+      → Emitted F real (region starts out i) (region starts out′ i) (writerOf ns i) (ss i) store (writerOf ns′ i)
   pub others : (i : ℕ) → count ≤ i → writerOf ns′ i ≡ writerOf ns i
   pub front : take (getD starts 0 0) out′ ≡ take (getD starts 0 0) out
   pub back : drop (getD starts count 0) out′ ≡ drop (getD starts count 0) out

@@ -6,8 +6,8 @@ ghost use Rattle.meaning.specs.Limits.{mostSegments, mostValueColumn, writersNu
 ghost use Rattle.new_index.specs.Writers.{writerOf};
 ghost use Rattle.new_index.specs.Layouts.{StartsOf, Headed};
 use meaning::ENTRY_WORDS;
+use meaning::Format;
 use meaning::HEAD_WORDS;
-use meaning::INDEX_KIND;
 use meaning::MOST_STARTS;
 use meaning::WRITER_NUMBERS;
 use meaning::WRITERS_NUMBERS;
@@ -39,15 +39,15 @@ pub(crate) fn narrow(x: usize) -> u32
 }
 
 // The head and the contents.
-pub fn write_contents(out: &mut [u32], rows: u32, starts: &[usize], count: usize)
+pub fn write_contents(format: Format, out: &mut [u32], rows: u32, starts: &[usize], count: usize)
     requires { ⌜ (count ≤ mostValueColumn) × (count < length (now starts))
         × (headWords + entryWords * count ≤ length (now out)) ⌝ }
     requires { ⌜ ((i : ℕ) → i < count → (getD (now starts) i 0 ≤ getD (now starts) (i + 1) 0)
         × (getD (now starts) (i + 1) 0 < 4294967296)) ⌝ }
-    ensures { λ _. ⌜ Headed (now (out .entry)) rows (now (starts .entry)) count (now (out .exit)) count ⌝ }
+    ensures { λ _. ⌜ Headed format (now (out .entry)) rows (now (starts .entry)) count (now (out .exit)) count ⌝ }
 {
     let bitmaps = narrow(count);
-    out[0] = INDEX_KIND;
+    out[0] = contents::kind(format);
     out[1] = rows;
     out[2] = bitmaps;
     let mut i: usize = 0;

@@ -1,39 +1,43 @@
 // The writers of several bodies at once, as numbers, and one row more for each of them.
 ghost use mathlib.Core.Path.{_≡_};
 ghost use mathlib.Core.Bool.{true, false};
-ghost use Prim.Native.Nat.{ℕ, _*_, _≤_, _<_, _^_};
+ghost use mathlib.Core.List.{[]};
+ghost use Prim.Native.Nat.{ℕ, _-_, _*_, _≤_, _<_, _^_};
 ghost use lib.ListN.{length, getD};
-ghost use Rattle.meaning.specs.Limits.{mostClean, mostValueColumn, blockSegments, blockWords, writersNumbers};
-ghost use Rattle.meaning.specs.Canonical.{blank};
-ghost use Rattle.ewah_write.specs.Drafts.{Tracks, Writing, RoomFor};
+ghost use Rattle.meaning.specs.Limits.{mostValueColumn, blockSegments, blockWords, writersNumbers};
+ghost use Rattle.meaning.specs.Format.{mostRun};
+ghost use Rattle.meaning.specs.declared.Format.{Format};
+ghost use Rattle.body_write.specs.Bodies.{Stands, Growing, RoomFor};
 ghost use Rattle.block_write.specs.Rowed.{CleanWord};
 ghost use Rattle.new_index.specs.Writers.{writerOf, Stored, Laid, region, rowLength, rowOf, EmittedAll};
 use crate::layout;
+use body_write::writer;
 use ewah::marker::Marker;
-use ewah_write::writer;
 use ewah_write::writer::Writer;
 use meaning::BLOCK_SEGMENTS;
 use meaning::BLOCK_WORDS;
+use meaning::Format;
 use meaning::MOST_VALUE_COLUMN;
 use meaning::WRITER_NUMBERS;
 use meaning::WRITERS_NUMBERS;
 
-// Five numbers for each writer: the words in use, the last marker's place, and its three fields.
+// Five numbers for each writer: the words in use, the last marker's place, and its three fields; in WAH those of the run that
+// the words end with.
 pub struct Writers {
     pub numbers: [usize; WRITERS_NUMBERS],
 }
 
 // No body has a word yet.
-pub fn start() -> Writers
+pub fn start(format: Format) -> Writers
     ensures { λ r. ⌜ (length (r .numbers) ≡ writersNumbers)
-        × ((i : ℕ) → i < mostValueColumn → Tracks (writerOf (r .numbers) i) blank) ⌝ }
+        × ((i : ℕ) → i < mostValueColumn → Stands format (writerOf (r .numbers) i) []) ⌝ }
 {
     let mut ws = Writers {
         numbers: [0; WRITERS_NUMBERS],
     };
     let mut i: usize = 0;
     while i < MOST_VALUE_COLUMN {
-        let w = writer::start();
+        let w = writer::start(format);
         set_writer(&mut ws.numbers, i, w);
         i += 1;
     }
@@ -43,7 +47,7 @@ pub fn start() -> Writers
 // The writer at place i.
 pub fn writer_at(numbers: &[usize; WRITERS_NUMBERS], i: usize) -> Writer
     requires { ⌜ (i < mostValueColumn) × (length (now numbers) ≡ writersNumbers) ⌝ }
-    requires { ⌜ Writing (writerOf (now numbers) i) ⌝ }
+    requires { ⌜ ((F : Format) × (n : ℕ) × Growing F (writerOf (now numbers) i) n) ⌝ }
     ensures { λ r. ⌜ r ≡ writerOf (now (numbers .entry)) i ⌝ }
 {
     let k = WRITER_NUMBERS * i;
@@ -95,6 +99,7 @@ pub fn row_length(n: u32, even: bool) -> usize
 // The next n segments of each of the bodies, row i of `rows` for body i: written to the part of `out` between start i and
 // start i + 1 where `store` says so, and else only measured.
 pub fn emit_all(
+    format: Format,
     out: &mut [u32],
     starts: &[usize],
     numbers: &mut [usize; WRITERS_NUMBERS],
@@ -102,17 +107,19 @@ pub fn emit_all(
     count: usize,
     n: u32,
     even: bool,
+    mask: u32,
     store: bool,
 )
     requires { ⌜ (count ≤ mostValueColumn) × (length (now numbers) ≡ writersNumbers) × (length (now rows) ≡ blockWords)
-        × (1 ≤ n) × (n ≤ mostClean) × (even ≡ false → n ≤ blockSegments) ⌝ }
+        × (1 ≤ n) × (n ≤ mostRun format) × (even ≡ false → n ≤ blockSegments) ⌝ }
     requires { ⌜ Laid (now starts) count (length (now out)) ⌝ }
-    requires { ⌜ ((i : ℕ) → i < count → Writing (writerOf (now numbers) i) × (writerOf (now numbers) i .used < 2 ^ 60)) ⌝ }
-    requires { ⌜ (even ≡ true → (i : ℕ) → i < count → CleanWord (getD (now rows) (i * blockSegments) 0)) ⌝ }
+    requires { ⌜ ((i : ℕ) → i < count → Growing format (writerOf (now numbers) i) n) ⌝ }
+    requires { ⌜ (even ≡ true → (i : ℕ) → i < count → CleanWord format (getD (now rows) (i * blockSegments) 0)) ⌝ }
     requires { ⌜ (store ≡ true → (i : ℕ) → i < count
-        → RoomFor (rowOf (now rows) n even i) (writerOf (now numbers) i) (length (region (now starts) (now out) i))) ⌝ }
-    ensures { λ _. ⌜ EmittedAll (now (starts .entry)) (now (out .entry)) (now (out .exit))
-        (now (numbers .entry)) (now (numbers .exit)) count (rowOf (now (rows .entry)) n even) store ⌝ }
+        → RoomFor format (rowOf format (now rows) n even i) (writerOf (now numbers) i) (length (region (now starts) (now out) i))) ⌝ }
+    ensures { λ _. ⌜ ((real : ℕ) → mask ≡ 2 ^ real - 1
+        → EmittedAll format real (now (starts .entry)) (now (out .entry)) (now (out .exit))
+        (now (numbers .entry)) (now (numbers .exit)) count (rowOf format (now (rows .entry)) n even) store) ⌝ }
 {
     let long = row_length(n, even);
     let words: &[u32] = rows;
@@ -123,11 +130,13 @@ pub fn emit_all(
         let row = i * BLOCK_SEGMENTS;
         let w = writer_at(numbers, i);
         let v = block_write::emit_row(
+            format,
             &mut out[from..to],
             w,
             &words[row..row + long],
             n,
             even,
+            mask,
             store,
         );
         set_writer(numbers, i, v);

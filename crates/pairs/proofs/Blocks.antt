@@ -12,8 +12,9 @@ use native.Mathlib.Nat.{mod-lt, pow-suc, zero-mul}
 use native.Mathlib.Omega.{arith}
 use Rattle.meaning.specs.Rows.{bit, sumBelow}
 use Rattle.meaning.specs.Segment.{Segment, clean, kind, kinds, rowsIn, bitAt, isSet, segmentCount, fromRows}
-use Rattle.meaning.specs.Ewah.{segments}
-use Rattle.meaning.specs.Index.{rowCount, rowsAt}
+use Rattle.meaning.specs.Format.{width, segmentsOf}
+use Rattle.meaning.specs.declared.Format.{Format}
+use Rattle.meaning.specs.Index.{formatOf, rowCount, rowsAt}
 use Rattle.meaning.specs.Question.{intersection}
 use Rattle.meaning.specs.Answer.{named}
 use Rattle.meaning.specs.Column.{valueOf, slice, columnOf, sumValue}
@@ -22,6 +23,7 @@ use Rattle.meaning.specs.Columns.{existing, slicesOf, valueAt, pairColumn}
 use Rattle.meaning.proofs.RowWords.{word-by-bits, from-bit, from-below, from-length}
 use Rattle.meaning.proofs.Segments.{kinds-length}
 use Rattle.meaning.proofs.Cut.{kinds-at, rows-le}
+use Rattle.meaning.proofs.Formats.{width-pos}
 use Rattle.meaning.proofs.Evaluated.{mask-bit}
 use Rattle.meaning.proofs.Sums.{sum-zero, sum-first}
 use Rattle.meaning.proofs.Counting.{zero-clear}
@@ -56,16 +58,18 @@ numberOf ws n j = sumBelow n (λ i. bitAt (ws (i + 1)) j * 2 ^ i)
 
 -- ws k is the word of place k of a list at segment s, and 0 past the list
 pub record WordsAt (index list : List ℕ) (s : ℕ) (ws : ℕ → ℕ) : Type 0 where
-  pub has : (k : ℕ) → k < length list → ws k ≡ getD (segments (placeBody index list k)) s 0
+  pub has : (k : ℕ) → k < length list → ws k ≡ getD (segmentsOf (formatOf index) (placeBody index list k)) s 0
   pub rest : (k : ℕ) → length list ≤ k → ws k ≡ 0
 
-module _ (index : List ℕ) (s j : ℕ) (low : j < 32) where
+module _ (index : List ℕ) (s j : ℕ) (low : j < width (formatOf index)) where
   abbrev r : ℕ
-  r = s * 32 + j
+  r = s * width (formatOf index) + j
 
-  place-bit : (list : List ℕ) (ws : ℕ → ℕ) (w : WordsAt index list s ws) (k : ℕ) → k < length list → rowsAt index (getD list k 0) r ≡ isSet (ws k) j
+  place-bit : (list : List ℕ) (ws : ℕ → ℕ) → WordsAt index list s ws → (k : ℕ) → k < length list
+      → rowsAt index (getD list k 0) r ≡ isSet (ws k) j
   unfolding rowsAt
-  place-bit list ws w k h = row-bit (placeBody index list k) s j low ∙ ap (λ (x : ℕ). isSet x j) (sym (w .has k h))
+  place-bit list ws w k h =
+      row-bit (formatOf index) (placeBody index list k) s j low ∙ ap (λ (x : ℕ). isSet x j) (sym (w .has k h))
 
   pub exists-bit : (list : List ℕ) (ws : ℕ → ℕ) → WordsAt index list s ws → 1 ≤ length list → existing index list r ≡ isSet (ws 0) j
   unfolding existing
@@ -86,41 +90,51 @@ module _ (index : List ℕ) (s j : ℕ) (low : j < 32) where
 
 -- ---- the segments of a set of rows
 
-abbrev pub segs : (R : ℕ) → (ℕ → Bool) → List Segment
-segs R p = kinds 32 R (fromRows 32 R p)
-
-pub segs-length : (R : ℕ) (p : ℕ → Bool) → length (segs R p) ≡ segmentCount 32 R
-segs-length R p = kinds-length 32 R (fromRows 32 R p) ∙ from-length 32 (omega arith) R p
-
 and-swap : (a b : Bool) → a && b ≡ b && a
 and-swap true true = refl
 and-swap true false = refl
 and-swap false true = refl
 and-swap false false = refl
 
--- the segment of a word whose bits are right: of its bits those that are rows
-segment-is : (R : ℕ) (p : ℕ → Bool) (i y : ℕ) → i < segmentCount 32 R → ((j : ℕ) → j < 32 → isSet y j ≡ p (i * 32 + j))
-    → getD (segs R p) i (clean 0) ≡ kind (rowsIn 32 R i) (y % 2 ^ rowsIn 32 R i)
-segment-is R p i y h g =
-    let k = rowsIn 32 R i in
-    let low : y % 2 ^ k < 2 ^ 32 = omega (arith, mod-lt y (pow-pos k), pow-mono (rows-le 32 (omega arith) R i)) in
-    kinds-at 32 (omega arith) R (fromRows 32 R p) i (clean 0) (from-length 32 (omega arith) R p) h
-    ∙ ap (kind k) (word-by-bits 32 (getD (fromRows 32 R p) i 0) (y % 2 ^ k) (from-below 32 (omega arith) R p i) low
-    (λ j l. from-bit 32 (omega arith) R p i j h l ∙ sym (bit j l)))
-  where
-    bit : (j : ℕ) → j < 32 → isSet (y % 2 ^ rowsIn 32 R i) j ≡ ltb (i * 32 + j) R && p (i * 32 + j)
-    bit j l =
-        ap (λ (x : ℕ). isSet x j) (sym (and-mask y (rowsIn 32 R i)))
-        ∙ and-set y (2 ^ rowsIn 32 R i - 1) j
-        ∙ ap₂ (λ (a b : Bool). a && b) (g j l) (mask-bit 32 (omega arith) R i j l)
-        ∙ and-swap (p (i * 32 + j)) (ltb (i * 32 + j) R)
+module _ (F : Format) (R : ℕ) (p : ℕ → Bool) where
+  abbrev pub segs : List Segment
+  segs = kinds (width F) R (fromRows (width F) R p)
+
+  abbrev pos : 0 < width F
+  pos = width-pos F
+
+  pub segs-length : length segs ≡ segmentCount (width F) R
+  segs-length = kinds-length (width F) R (fromRows (width F) R p) ∙ from-length (width F) pos R p
+
+  -- the segment of a word whose bits are right: of its bits those that are rows
+  module _ (i y : ℕ) (h : i < segmentCount (width F) R)
+      (g : (j : ℕ) → j < width F → isSet y j ≡ p (i * width F + j)) where
+    abbrev real : ℕ
+    real = rowsIn (width F) R i
+
+    own-bit : (j : ℕ) → j < width F → isSet (y % 2 ^ real) j ≡ ltb (i * width F + j) R && p (i * width F + j)
+    own-bit j l =
+        ap (λ (x : ℕ). isSet x j) (sym (and-mask y real))
+        ∙ and-set y (2 ^ real - 1) j
+        ∙ ap₂ (λ (a b : Bool). a && b) (g j l) (mask-bit (width F) pos R i j l)
+        ∙ and-swap (p (i * width F + j)) (ltb (i * width F + j) R)
+
+    segment-is : getD segs i (clean 0) ≡ kind real (y % 2 ^ real)
+    segment-is =
+        let words = fromRows (width F) R p in
+        let low : y % 2 ^ real < 2 ^ width F =
+        omega (arith, mod-lt y (pow-pos real), pow-mono (rows-le (width F) pos R i)) in
+        kinds-at (width F) pos R words i (clean 0) (from-length (width F) pos R p) h
+        ∙ ap (kind real)
+        (word-by-bits (width F) (getD words i 0) (y % 2 ^ real) (from-below (width F) pos R p i) low
+        (λ j l. from-bit (width F) pos R p i j h l ∙ sym (own-bit j l)))
 
 -- ---- the answer's segment
 
--- z b is the word of body b of the sum, made of the words x and y of two columns
-pub record SumWords (n : ℕ) (x y z : ℕ → ℕ) : Type 0 where
-  pub exists : (j : ℕ) → j < 32 → isSet (z 0) j ≡ isSet (x 0) j && isSet (y 0) j
-  pub digits : (b j : ℕ) → b < n → j < 32
+-- z b is the word of body b of the sum, made of the words x and y of two columns, in segments of w rows
+pub record SumWords (w n : ℕ) (x y z : ℕ → ℕ) : Type 0 where
+  pub exists : (j : ℕ) → j < w → isSet (z 0) j ≡ isSet (x 0) j && isSet (y 0) j
+  pub digits : (b j : ℕ) → b < n → j < w
       → isSet (z (suc b)) j ≡ isSet (z 0) j && isSet (sumValue n (numberOf x n j) (numberOf y n j)) b
 
 -- the rows of body b
@@ -128,6 +142,9 @@ abbrev pub sets : (index first second : List ℕ) (n b : ℕ) → ℕ → Bool
 sets index first second n b = getD (pairColumn index sumValue n first second) b none
 
 module _ (index first second : List ℕ) (n : ℕ) (f1 : 1 ≤ length first) (f2 : 1 ≤ length second) (l1 : length first ≤ n + 1) (l2 : length second ≤ n + 1) where
+  abbrev F : Format
+  F = formatOf index
+
   abbrev R : ℕ
   R = rowCount index
 
@@ -142,24 +159,24 @@ module _ (index first second : List ℕ) (n : ℕ) (f1 : 1 ≤ length first) (f2
   set-later b h = slices-at both v 0 n b h ∙ ap (slice both v) (omega arith)
 
   module _ (s : ℕ) (x y z : ℕ → ℕ) (wx : WordsAt index first s x) (wy : WordsAt index second s y)
-      (p : SumWords n x y z) where
-    both-is : (j : ℕ) → j < 32 → both (s * 32 + j) ≡ isSet (x 0) j && isSet (y 0) j
+      (p : SumWords (width (formatOf index)) n x y z) where
+    both-is : (j : ℕ) → j < width F → both (s * width F + j) ≡ isSet (x 0) j && isSet (y 0) j
     unfolding intersection
     both-is j k = ap₂ (λ (a b : Bool). a && b) (exists-bit index s j k first x wx f1) (exists-bit index s j k second y wy f2)
 
-    v-is : (j : ℕ) → j < 32 → v (s * 32 + j) ≡ sumValue n (numberOf x n j) (numberOf y n j)
+    v-is : (j : ℕ) → j < width F → v (s * width F + j) ≡ sumValue n (numberOf x n j) (numberOf y n j)
     v-is j k = ap₂ (sumValue n) (value-number index s j k first x n wx f1 l1) (value-number index s j k second y n wy f2 l2)
 
-    rows : (b : ℕ) → b ≤ n → (j : ℕ) → j < 32 → isSet (z b) j ≡ sets index first second n b (s * 32 + j)
+    rows : (b : ℕ) → b ≤ n → (j : ℕ) → j < width F → isSet (z b) j ≡ sets index first second n b (s * width F + j)
     unfolding pairColumn columnOf
     rows zero l j k = p .exists j k ∙ sym (both-is j k)
     rows (suc b) l j k =
         p .digits b j (omega arith) k
         ∙ ap (λ (a : Bool). a && isSet (sumValue n (numberOf x n j) (numberOf y n j)) b) (p .exists j k)
-        ∙ sym (ap (λ (q : ℕ → Bool). q (s * 32 + j)) (set-later b (omega arith))
+        ∙ sym (ap (λ (q : ℕ → Bool). q (s * width F + j)) (set-later b (omega arith))
         ∙ unfold slice in ap₂ (λ (a : Bool) (t : ℕ). a && isSet t b) (both-is j k) (v-is j k))
 
     -- the rows in the word of body b are its segment
-    pub block-segment : (b : ℕ) → b ≤ n → s < segmentCount 32 R
-        → getD (segs R (sets index first second n b)) s (clean 0) ≡ kind (rowsIn 32 R s) (z b % 2 ^ rowsIn 32 R s)
-    block-segment b l h = segment-is R (sets index first second n b) s (z b) h (rows b l)
+    pub block-segment : (b : ℕ) → b ≤ n → s < segmentCount (width F) R
+        → getD (segs F R (sets index first second n b)) s (clean 0) ≡ kind (rowsIn (width F) R s) (z b % 2 ^ rowsIn (width F) R s)
+    block-segment b l h = segment-is F R (sets index first second n b) s (z b) h (rows b l)

@@ -1,19 +1,23 @@
 -- Segments within clean runs of all places: the words of the sum are clean there too.
 -- Assumes nothing.
-use Prim.Native.Nat.{ℕ, zero, suc, _+_, _*_, _^_, _≤_, _<_}
+use Prim.Native.Nat.{ℕ, zero, suc, _+_, _-_, _*_, _^_, _≤_, _<_}
 use mathlib.Core.Bool.{Bool, true, false, _&&_}
 use mathlib.Core.Path.{_≡_, refl, sym, ap, ap₂, _∙_}
 use mathlib.Core.List.{List}
 use lib.Dec.{eqb}
 use lib.ListN.{length, getD}
+use lib.Pow.{pow-pos, ones-lt}
 use native.Mathlib.Decide.{decLe}
 use native.Mathlib.Omega.{arith}
 use Rattle.meaning.specs.Limits.{blockSegments}
 use Rattle.meaning.specs.Rows.{bit}
-use Rattle.meaning.specs.Segment.{bitAt, isSet}
-use Rattle.meaning.specs.Ewah.{segments, rowsOf}
+use Rattle.meaning.specs.Segment.{allSet, bitAt, isSet}
+use Rattle.meaning.specs.Format.{width, segmentsOf, rowsOf}
+use Rattle.meaning.specs.declared.Format.{Format}
+use Rattle.meaning.specs.Index.{formatOf}
 use Rattle.meaning.specs.Column.{sumValue}
 use Rattle.meaning.proofs.RowWords.{word-by-bits, eqb-bit}
+use Rattle.meaning.proofs.Formats.{width-pos}
 use Rattle.meaning.proofs.Sums.{sum-ext}
 use Rattle.meaning.proofs.Counting.{zero-clear, full-set}
 use Rattle.words.proofs.BitLaws.{bit-set}
@@ -40,66 +44,86 @@ several-clean (Clean v n) h = refl
 several-clean (Dirty x) h = absurd (omega arith)
 
 -- all bits of a run's segment are alike
-run-bits : (b : List ℕ) (o : ℕ) (c : Cursor) → CursorAt b o c → o < length (segments b) → 2 ≤ leftOf (c .piece)
-    → (j : ℕ) → j < 32 → isSet (getD (segments b) o 0) j ≡ isSet (getD (segments b) o 0) 0
-run-bits b o c a l h j k = sym (row-bit b o j k) ∙ bit-only _ _ (at j k ∙ sym (at 0 (omega arith))) ∙ row-bit b o 0 (omega arith)
+run-bits : (F : Format) (b : List ℕ) (o : ℕ) (c : Cursor) → CursorAt F b o c → o < length (segmentsOf F b)
+    → 2 ≤ leftOf (c .piece) → (j : ℕ) → j < width F
+    → isSet (getD (segmentsOf F b) o 0) j ≡ isSet (getD (segmentsOf F b) o 0) 0
+run-bits F b o c a l h j k =
+    let pos = width-pos F in
+    sym (row-bit F b o j k) ∙ bit-only _ _ (at j k ∙ sym (at 0 pos)) ∙ row-bit F b o 0 pos
   where
-    at : (j : ℕ) → j < 32 → bit (rowsOf b (o * 32 + j)) ≡ onesIn (c .piece)
-    at j k = row-run b o c a l (several-clean (c .piece) h) o (omega arith) (omega arith) j k
+    at : (j : ℕ) → j < width F → bit (rowsOf F b (o * width F + j)) ≡ onesIn (c .piece)
+    at j k = row-run F b o c a l (several-clean (c .piece) h) o (omega arith) (omega arith) j k
 
--- a word whose bits are all alike is clean
-uniform : (z : ℕ) → z < 2 ^ 32 → ((j : ℕ) → j < 32 → isSet z j ≡ isSet z 0) → CleanWord z
-uniform z h g n = go (isSet z 0) refl
+-- a word of a segment whose bits are all alike is clean
+uniform : (F : Format) (z : ℕ) → z < 2 ^ width F → ((j : ℕ) → j < width F → isSet z j ≡ isSet z 0) → CleanWord F z
+unfolding allSet
+uniform F z h g n = go (isSet z 0) refl
   where
-    go : (t : Bool) → isSet z 0 ≡ t → z ≡ 4294967295
-    go true e = word-by-bits 32 z 4294967295 h (omega arith) (λ j k. g j k ∙ e ∙ sym (full-set 32 j k))
-    go false e = absurd (n (word-by-bits 32 z 0 h (omega arith) (λ j k. g j k ∙ e ∙ sym (zero-clear j))))
+    go : (t : Bool) → isSet z 0 ≡ t → z ≡ 2 ^ width F - 1
+    go true e =
+        word-by-bits (width F) z (2 ^ width F - 1) h (ones-lt (width F)) (λ j k. g j k ∙ e ∙ sym (full-set (width F) j k))
+    go false e =
+        absurd (n (word-by-bits (width F) z 0 h (pow-pos (width F)) (λ j k. g j k ∙ e ∙ sym (zero-clear j))))
 
 -- ---- the words of a list
 
--- of each row's first word all bits are alike
-abbrev pub AllAlike : List ℕ → Type 0
-AllAlike x = (k j : ℕ) → j < 32 → isSet (getD x (k * blockSegments + 0) 0) j ≡ isSet (getD x (k * blockSegments + 0) 0) 0
+-- of each row's first word the first w bits are alike
+abbrev pub AllAlike : (w : ℕ) → List ℕ → Type 0
+AllAlike w x =
+    (k j : ℕ) → j < w → isSet (getD x (k * blockSegments + 0) 0) j ≡ isSet (getD x (k * blockSegments + 0) 0) 0
 
-pub alike : (index list ns x : List ℕ) (o n : ℕ) → 1 ≤ n → BlockOf index list o n true x → Standing index list ns (length list) o
-    → ((k : ℕ) → k < length list → o < length (segments (placeBody index list k))) → ((k : ℕ) → k < length list → 2 ≤ leftOf (cursorOf ns k .piece)) → AllAlike x
-unfolding wordAt
-alike index list ns x o n some b st inside left k j l = elim (decLe (suc k) (length list)) [
-  | yes h ↦ rw (word h) (run-bits (placeBody index list k) o (cursorOf ns k) (st k h) (inside k h) (left k h) j l)
-  | no h ↦ rw (b .rest (k * blockSegments + 0) (omega arith)) (zero-clear j ∙ sym (zero-clear 0))
-]
-  where
-    word : k < length list → getD x (k * blockSegments + 0) 0 ≡ getD (segments (placeBody index list k)) o 0
-    word h = b .has k 0 h (omega arith) ∙ ap (λ (i : ℕ). getD (segments (placeBody index list k)) i 0) (omega arith)
+module _ (index list ns x : List ℕ) (o n : ℕ) (some : 1 ≤ n) (b : BlockOf index list o n true x) where
+  abbrev F : Format
+  F = formatOf index
 
-number-alike : (x : List ℕ) (n j : ℕ) → j < 32 → AllAlike x → numberAt x n 0 j ≡ numberAt x n 0 0
+  word : (k : ℕ) → k < length list
+      → getD x (k * blockSegments + 0) 0 ≡ getD (segmentsOf (formatOf index) (placeBody index list k)) o 0
+  unfolding wordAt
+  word k h = b .has k 0 h (omega arith) ∙ ap (λ (i : ℕ). getD (segmentsOf F (placeBody index list k)) i 0) (omega arith)
+
+  pub alike : Standing (formatOf index) index list ns (length list) o
+      → ((k : ℕ) → k < length list → o < length (segmentsOf (formatOf index) (placeBody index list k)))
+      → ((k : ℕ) → k < length list → 2 ≤ leftOf (cursorOf ns k .piece)) → AllAlike (width (formatOf index)) x
+  alike st inside left k j l = elim (decLe (suc k) (length list)) [
+    | yes h ↦ rw (word k h) (run-bits F (placeBody index list k) o (cursorOf ns k) (st k h) (inside k h) (left k h) j l)
+    | no h ↦ rw (b .rest (k * blockSegments + 0) (omega arith)) (zero-clear j ∙ sym (zero-clear 0))
+  ]
+
+number-alike : (w : ℕ) (x : List ℕ) (n j : ℕ) → j < w → AllAlike w x → numberAt x n 0 j ≡ numberAt x n 0 0
 unfolding numberAt
-number-alike x n j l h =
-    sum-ext n (λ i. bitAt (getD x ((i + 1) * blockSegments + 0) 0) j * 2 ^ i) (λ i. bitAt (getD x ((i + 1) * blockSegments + 0) 0) 0 * 2 ^ i)
-    (λ i g. ap (λ (b : ℕ). b * 2 ^ i) (bit-set (getD x ((i + 1) * blockSegments + 0) 0) j ∙ ap bit (h (i + 1) j l) ∙ sym (bit-set (getD x ((i + 1) * blockSegments + 0) 0) 0)))
+number-alike w x n j l h =
+    sum-ext n (λ i. bitAt (first i) j * 2 ^ i) (λ i. bitAt (first i) 0 * 2 ^ i)
+    (λ i g. ap (λ (b : ℕ). b * 2 ^ i) (bit-set (first i) j ∙ ap bit (h (i + 1) j l) ∙ sym (bit-set (first i) 0)))
+  where
+    first : ℕ → ℕ
+    first i = getD x ((i + 1) * blockSegments + 0) 0
 
 -- ---- their sum
 
-module _ (N : ℕ) (x y z : List ℕ) (ax : AllAlike x) (ay : AllAlike y) (p : Paired sumValue x y N z) where
-  first-word : (v : List ℕ) → AllAlike v → (j : ℕ) → j < 32 → isSet (getD v 0 0) j ≡ isSet (getD v 0 0) 0
+module _ (F : Format) (N : ℕ) (x y z : List ℕ) (ax : AllAlike (width F) x) (ay : AllAlike (width F) y)
+    (p : Paired sumValue x y N z)
+    (low : (b : ℕ) → b ≤ N → getD z (b * blockSegments + 0) 0 < 2 ^ width F) where
+  first-word : (v : List ℕ) → AllAlike (width F) v → (j : ℕ) → j < width F → isSet (getD v 0 0) j ≡ isSet (getD v 0 0) 0
   first-word v a j k = a 0 j k
 
-  exists-alike : (j : ℕ) → j < 32 → isSet (getD z 0 0) j ≡ isSet (getD z 0 0) 0
+  exists-alike : (j : ℕ) → j < width F → isSet (getD z 0 0) j ≡ isSet (getD z 0 0) 0
   exists-alike j k =
       p .exists 0 j (omega arith)
       ∙ ap₂ (λ (a b : Bool). a && b) (first-word x ax j k) (first-word y ay j k)
       ∙ sym (p .exists 0 0 (omega arith))
 
-  alike-at : (b : ℕ) → b ≤ N → (j : ℕ) → j < 32 → isSet (getD z (b * blockSegments + 0) 0) j ≡ isSet (getD z (b * blockSegments + 0) 0) 0
+  alike-at : (b : ℕ) → b ≤ N → (j : ℕ) → j < width F
+      → isSet (getD z (b * blockSegments + 0) 0) j ≡ isSet (getD z (b * blockSegments + 0) 0) 0
   alike-at zero l j k = exists-alike j k
   alike-at (suc b) l j k =
       let s : suc b ≡ b + 1 = omega arith in
       rw s
       (p .digits b 0 j (omega arith) (omega arith)
-      ∙ ap₂ (λ (a : Bool) (t : ℕ). a && isSet t b) (exists-alike j k) (ap₂ (sumValue N) (number-alike x N j k ax) (number-alike y N j k ay))
+      ∙ ap₂ (λ (a : Bool) (t : ℕ). a && isSet t b) (exists-alike j k)
+      (ap₂ (sumValue N) (number-alike (width F) x N j k ax) (number-alike (width F) y N j k ay))
       ∙ sym (p .digits b 0 0 (omega arith) (omega arith)))
 
-  pub clean-words : (b : ℕ) → b ≤ N → CleanWord (getD z (b * blockSegments) 0)
+  pub clean-words : (b : ℕ) → b ≤ N → CleanWord F (getD z (b * blockSegments) 0)
   clean-words b l =
       let s : b * blockSegments + 0 ≡ b * blockSegments = omega arith in
-      rw s at (uniform (getD z (b * blockSegments + 0) 0) (p .low b 0 l (omega arith)) (alike-at b l))
+      rw s at (uniform F (getD z (b * blockSegments + 0) 0) (low b l) (alike-at b l))

@@ -1,21 +1,28 @@
 -- The rows of a block: the words that were gathered and added are the segments of the answer's bodies.
 -- Assumes nothing.
-use Prim.Native.Nat.{ℕ, suc, _+_, _*_, _%_, _^_, _≤_, _<_}
+use Prim.Native.Nat.{ℕ, zero, suc, _+_, _*_, _/_, _%_, _^_, _≤_, _<_}
 use mathlib.Core.Bool.{Bool, true, false, cond, _&&_}
 use mathlib.Core.Path.{_≡_, refl, sym, ap, ap₂, _∙_}
 use mathlib.Core.List.{List}
 use lib.ListN.{length, getD, take, drop, replicate, length-map, length-drop, length-replicate, getD-replicate, List·getD-map, List·getD-eq-default}
 use lib.Seq.{getD-take, getD-drop, length-take-le}
 use native.Mathlib.Decide.{decLe, ℕ-discrete}
-use native.Mathlib.Nat.{mod-eq-of-lt}
+use native.Mathlib.Nat.{mod-eq-of-lt, zero-mul, one-mul}
 use native.Mathlib.Omega.{arith}
+use borrow.Author.Tests.{eqb-false, ne-eqb}
 use Rattle.meaning.specs.Limits.{blockSegments, blockWords}
-use Rattle.meaning.specs.Segment.{Segment, clean, kind, fill, allSet, isSet, rowsIn, segmentCount, lastLimit}
-use Rattle.meaning.specs.Ewah.{segments}
-use Rattle.meaning.specs.Index.{rowCount}
+use Rattle.meaning.specs.Segment.{Segment, clean, kind, fill, allSet, bitAt, isSet, rowsIn, segmentCount, lastLimit}
+use Rattle.meaning.specs.Format.{width, segmentsOf}
+use Rattle.meaning.specs.declared.Format.{Format}
+use Rattle.meaning.specs.declared.Format.the-variants.{Ewah, Wah}
+use Rattle.meaning.specs.Index.{formatOf, rowCount}
+use Rattle.meaning.specs.Wah.{wahSegments}
 use Rattle.meaning.specs.Column.{sumValue}
 use Rattle.meaning.proofs.Segments.{fill-cut, kind-fill}
+use Rattle.meaning.proofs.Pieces.{fill-lt}
 use Rattle.meaning.proofs.Cut.{rows-inside, rows-end, rows-some}
+use Rattle.meaning.proofs.WahBody.{wah-below}
+use Rattle.meaning.proofs.Formats.{width-pos}
 use Rattle.meaning.proofs.Evaluated.{part-is}
 use Rattle.adder.specs.Digits.{numberAt, Paired}
 use Rattle.block_read.specs.Taken.{wordAt}
@@ -28,7 +35,8 @@ use Rattle.pairs.proofs.Blocks.{WordsAt, SumWords, numberOf, sets, segs
 
 -- the rows of x are the words of a list's places in the n segments from o on, and 0 past the list
 pub record BlockOf (index list : List ℕ) (o n : ℕ) (even : Bool) (x : List ℕ) : Type 0 where
-  pub has : (k i : ℕ) → k < length list → i < n → wordAt even x (k * blockSegments) i ≡ getD (segments (placeBody index list k)) (o + i) 0
+  pub has : (k i : ℕ) → k < length list → i < n
+      → wordAt even x (k * blockSegments) i ≡ getD (segmentsOf (formatOf index) (placeBody index list k)) (o + i) 0
   pub rest : (i : ℕ) → length list * blockSegments ≤ i → getD x i 0 ≡ 0
 
 -- the place in its row of the word of segment i
@@ -64,40 +72,95 @@ number-same : (x : List ℕ) (even : Bool) (n i j : ℕ) → numberOf (λ k. wor
 unfolding wordAt numberAt
 number-same x even n i j = refl
 
+-- ---- no bit behind a segment's width
+
+segment-clear : (F : Format) (b : List ℕ) (i j : ℕ) → width F ≤ j → j < 32 → isSet (getD (segmentsOf F b) i 0) j ≡ false
+unfolding isSet bitAt
+segment-clear Ewah b i j l h = absurd (omega arith)
+segment-clear Wah b i j l h =
+    let e : j ≡ 31 = omega arith in
+    let low = wah-below b i in
+    rw e (ne-eqb (getD (wahSegments b) i 0 / 2 ^ 31 % 2) 1 (omega arith))
+
+-- a word that has none is a segment's
+word-low : (F : Format) (x : ℕ) → x < 2 ^ 32 → ((j : ℕ) → width F ≤ j → j < 32 → isSet x j ≡ false) → x < 2 ^ width F
+unfolding isSet bitAt
+word-low Ewah x h g = h
+word-low Wah x h g = omega (arith, eqb-false (x / 2 ^ 31 % 2) 1 (g 31 (omega arith) (omega arith)))
+
+-- the sum has none, since what exists has none
+module _ {index first : List ℕ} {N o n : ℕ} {even : Bool} {x y z : List ℕ} (some : 1 ≤ length first)
+    (bx : BlockOf index first o n even x) (p : Paired sumValue x y N z) (i : ℕ) (h : i < n)
+    (low : place even i < blockSegments) where
+  abbrev at : ℕ
+  at = place even i
+
+  exists-clear : (j : ℕ) → width (formatOf index) ≤ j → j < 32 → isSet (getD z (place even i) 0) j ≡ false
+  unfolding wordAt
+  exists-clear j l k =
+      let e : 0 * blockSegments + at ≡ at = omega arith in
+      let word = rw e at (bx .has 0 i (omega arith) h) in
+      p .exists at j low
+      ∙ ap (λ (a : Bool). a && isSet (getD y at 0) j)
+      (ap (λ (a : ℕ). isSet a j) word ∙ segment-clear (formatOf index) (placeBody index first 0) (o + i) j l k)
+
+  sum-clear : (b : ℕ) → b ≤ N → (j : ℕ) → width (formatOf index) ≤ j → j < 32
+      → isSet (getD z (b * blockSegments + place even i) 0) j ≡ false
+  sum-clear zero g j l k = let e : 0 * blockSegments + at ≡ at = omega arith in rw e (exists-clear j l k)
+  sum-clear (suc b) g j l k =
+      let e : suc b ≡ b + 1 = omega arith in
+      let number = sumValue N (numberAt x N at j) (numberAt y N at j) in
+      rw e (p .digits b at j (omega arith) low ∙ ap (λ (a : Bool). a && isSet number b) (exists-clear j l k))
+
+  pub sum-low : (b : ℕ) → b ≤ N → getD z (b * blockSegments + place even i) 0 < 2 ^ width (formatOf index)
+  sum-low b g =
+      word-low (formatOf index) (getD z (b * blockSegments + at) 0) (p .low b at g low) (sum-clear b g)
+
 -- ---- a word of a run, over a segment with pad bits too
 
--- how a word is written as segment i: by its rows
-abbrev rowsKind : (R i x : ℕ) → Segment
-rowsKind R i x = kind (rowsIn 32 R i) (x % 2 ^ rowsIn 32 R i)
+module _ (F : Format) (R i : ℕ) where
+  abbrev pos : 0 < width F
+  pos = width-pos F
 
-fill-rows : (R i v : ℕ) → i < segmentCount 32 R → v < 2 → fill 32 v % 2 ^ rowsIn 32 R i ≡ fill (rowsIn 32 R i) v
-fill-rows R i v h l = elim (decLe (suc (suc i)) (segmentCount 32 R)) [
-  | yes g ↦ rw (rows-inside 32 (omega arith) R i g) (mod-eq-of-lt (unfold fill allSet in omega arith))
-  | no g ↦
-      let e : suc i ≡ segmentCount 32 R = omega arith in
-      rw (rows-end 32 (omega arith) R i e) (unfold lastLimit in fill-cut 32 R (omega arith) v l)
-]
+  abbrev real : ℕ
+  real = rowsIn (width F) R i
 
-clean-kind : (R i x : ℕ) → i < segmentCount 32 R → CleanWord x → kind 32 x ≡ rowsKind R i x
-clean-kind R i x h c = elim (ℕ-discrete x 0) [
-  | yes e ↦ by-value 0 (omega arith) (unfold fill in omega arith)
-  | no e ↦ by-value 1 (omega arith) (unfold fill allSet in omega (arith, c e))
-]
-  where
-    by-value : (v : ℕ) → v < 2 → x ≡ fill 32 v → kind 32 x ≡ rowsKind R i x
-    by-value v l e =
-        ap (kind 32) e
-        ∙ kind-fill 32 v (omega arith) l
-        ∙ sym (ap (kind (rowsIn 32 R i)) (ap (λ (y : ℕ). y % 2 ^ rowsIn 32 R i) e ∙ fill-rows R i v h l)
-        ∙ kind-fill (rowsIn 32 R i) v (rows-some 32 (omega arith) R i h) l)
+  -- how a word is written as segment i: by its rows
+  abbrev rowsKind : (x : ℕ) → Segment
+  rowsKind x = kind real (x % 2 ^ real)
+
+  module _ (h : i < segmentCount (width F) R) where
+    fill-rows : (v : ℕ) → v < 2 → fill (width F) v % 2 ^ real ≡ fill real v
+    fill-rows v l = elim (decLe (suc (suc i)) (segmentCount (width F) R)) [
+      | yes g ↦ rw (rows-inside (width F) pos R i g) (mod-eq-of-lt (fill-lt (width F) v l))
+      | no g ↦
+          let e : suc i ≡ segmentCount (width F) R = omega arith in
+          rw (rows-end (width F) pos R i e) (unfold lastLimit in fill-cut (width F) R pos v l)
+    ]
+
+    by-value : (x v : ℕ) → v < 2 → x ≡ fill (width F) v → kind (width F) x ≡ rowsKind x
+    by-value x v l e =
+        ap (kind (width F)) e
+        ∙ kind-fill (width F) v pos l
+        ∙ sym (ap (kind real) (ap (λ (y : ℕ). y % 2 ^ real) e ∙ fill-rows v l)
+        ∙ kind-fill real v (rows-some (width F) pos R i h) l)
+
+    clean-kind : (x : ℕ) → CleanWord F x → kind (width F) x ≡ rowsKind x
+    clean-kind x c = elim (ℕ-discrete x 0) [
+      | yes e ↦ by-value x 0 (omega arith) (unfold fill in e ∙ sym (zero-mul (allSet (width F))))
+      | no e ↦ by-value x 1 (omega arith) (unfold fill in c e ∙ sym (one-mul (allSet (width F))))
+    ]
 
 -- ---- the sum
 
 module _ {index first second : List ℕ} {N near o n : ℕ} {even : Bool} {x y z z′ : List ℕ}
-    (cs : Columns index first second N) (ch : Chosen near (segmentCount 32 (rowCount index)) o n even)
+    (cs : Columns index first second N) (ch : Chosen near (segmentCount (width (formatOf index)) (rowCount index)) o n even)
     (bx : BlockOf index first o n even x) (by : BlockOf index second o n even y)
-    (p : Paired sumValue x y N z) (sp : Spelled (rowCount index) o n even z (N + 1) z′)
-    (cl : even ≡ true → (b : ℕ) → b ≤ N → CleanWord (getD z (b * blockSegments) 0)) where
+    (p : Paired sumValue x y N z) (sp : Spelled (formatOf index) (rowCount index) o n even z (N + 1) z′)
+    (cl : even ≡ true → (b : ℕ) → b ≤ N → CleanWord (formatOf index) (getD z (b * blockSegments) 0)) where
+  abbrev F : Format
+  F = formatOf index
+
   abbrev R : ℕ
   R = rowCount index
 
@@ -132,7 +195,7 @@ module _ {index first second : List ℕ} {N near o n : ℕ} {even : Bool} {x y z
     w-low : w < blockSegments
     w-low = place-low even i n h (ch .in-block)
 
-    digits : (b j : ℕ) → b < N → j < 32
+    digits : (b j : ℕ) → b < N → j < width F
         → isSet (Z (suc b)) j ≡ isSet (Z 0) j && isSet (sumValue N (numberOf X N j) (numberOf Y N j)) b
     digits b j l k =
         ap (λ (t : ℕ). isSet t j) (later b)
@@ -140,56 +203,57 @@ module _ {index first second : List ℕ} {N near o n : ℕ} {even : Bool} {x y z
         ∙ ap₂ (λ (s t : Bool). s && t) (ap (λ (t : ℕ). isSet t j) (sym (front z)))
         (ap₂ (λ (s t : ℕ). isSet (sumValue N s t) b) (sym (number-same x even N i j)) (sym (number-same y even N i j)))
 
-    sum-words : SumWords N X Y Z
+    sum-words : SumWords (width F) N X Y Z
     sum-words = record { exists = λ j k. rw (front x, front y, front z) (p .exists w j w-low); digits = digits }
 
     -- what the word of body b is written as
-    written : (b : ℕ) → b ≤ N → kind 32 (wordAt even z′ (b * blockSegments) i) ≡ rowsKind R (o + i) (Z b)
+    written : (b : ℕ) → b ≤ N → kind (width F) (wordAt even z′ (b * blockSegments) i) ≡ rowsKind F R (o + i) (Z b)
     unfolding wordAt
     written b l = go even refl
       where
         go : (t : Bool) → even ≡ t
-            → kind 32 (wordAt t z′ (b * blockSegments) i) ≡ rowsKind R (o + i) (wordAt t z (b * blockSegments) i)
+            → kind (width F) (wordAt t z′ (b * blockSegments) i)
+            ≡ rowsKind F R (o + i) (wordAt t z (b * blockSegments) i)
         go true q =
             let e : b * blockSegments + 0 ≡ b * blockSegments = omega arith in
-            let in-rows : o + i < segmentCount 32 R = omega (arith, ch .within) in
-            rw (e, sp .run q) (clean-kind R (o + i) (getD z (b * blockSegments) 0) in-rows (cl q b l))
-        go false q = sp .block q b i (omega arith) h (p .low b i l (omega (arith, ch .in-block q)))
+            let in-rows : o + i < segmentCount (width F) R = omega (arith, ch .within) in
+            rw (e, sp .run q) (clean-kind F R (o + i) in-rows (getD z (b * blockSegments) 0) (cl q b l))
+        go false q = sp .block q b i (omega arith) h (rw q at (sum-low f1 bx p i h w-low b l))
 
   -- ---- the rows that go to the writers
 
   abbrev T : ℕ → List Segment
-  T b = segs R (sets index first second N b)
+  T b = segs F R (sets index first second N b)
 
   -- row b of the block, from its first word on
   abbrev rowAt : ℕ → List ℕ
   rowAt b = drop (b * blockSegments) z′
 
   row-at : (t : Bool) → even ≡ t → (b i : ℕ) → i < n
-      → getD (rowOf z′ n t b) i (clean 0) ≡ kind 32 (wordAt t z′ (b * blockSegments) i)
+      → getD (rowOf F z′ n t b) i (clean 0) ≡ kind (width F) (wordAt t z′ (b * blockSegments) i)
   unfolding rowOf rowSegments wordAt kind allSet
   row-at true q b i h =
-      getD-replicate n i (kind 32 (getD (take 1 (rowAt b)) 0 0)) (clean 0) h
-      ∙ ap (kind 32) (getD-take 1 (rowAt b) 0 0 (omega arith) ∙ getD-drop (b * blockSegments) z′ 0 0)
+      getD-replicate n i (kind (width F) (getD (take 1 (rowAt b)) 0 0)) (clean 0) h
+      ∙ ap (kind (width F)) (getD-take 1 (rowAt b) 0 0 (omega arith) ∙ getD-drop (b * blockSegments) z′ 0 0)
   row-at false q b i h =
-      List·getD-map (kind 32) (take n (rowAt b)) i 0
-      ∙ ap (kind 32) (getD-take n (rowAt b) i 0 h ∙ getD-drop (b * blockSegments) z′ i 0)
+      List·getD-map (kind (width F)) (take n (rowAt b)) i 0
+      ∙ ap (kind (width F)) (getD-take n (rowAt b) i 0 h ∙ getD-drop (b * blockSegments) z′ i 0)
 
-  row-length : (t : Bool) → even ≡ t → (b : ℕ) → b ≤ N → length (rowOf z′ n t b) ≡ n
+  row-length : (t : Bool) → even ≡ t → (b : ℕ) → b ≤ N → length (rowOf F z′ n t b) ≡ n
   unfolding rowOf rowSegments
-  row-length true q b l = length-replicate n (kind 32 (getD (take 1 (rowAt b)) 0 0))
+  row-length true q b l = length-replicate n (kind (width F) (getD (take 1 (rowAt b)) 0 0))
   row-length false q b l =
       let long : length z′ ≡ blockWords = sp .long ∙ p .long in
-      length-map (take n (rowAt b)) (kind 32)
+      length-map (take n (rowAt b)) (kind (width F))
       ∙ length-take-le n (rowAt b) (omega (arith, length-drop (b * blockSegments) z′, ch .in-block q, cs .few))
 
-  pub row-part : (b : ℕ) → b ≤ N → rowOf z′ n even b ≡ take n (drop o (T b))
+  pub row-part : (b : ℕ) → b ≤ N → rowOf F z′ n even b ≡ take n (drop o (T b))
   row-part b l =
-      sym (part-is (T b) (rowOf z′ n even b) o n (row-length even refl b l)
-      (omega (arith, ch .within, segs-length R (sets index first second N b)))
+      sym (part-is (T b) (rowOf F z′ n even b) o n (row-length even refl b l)
+      (omega (arith, ch .within, segs-length F R (sets index first second N b)))
       (λ i h. segment i h ∙ sym (row-at even refl b i h ∙ written i h b l)))
     where
-      segment : (i : ℕ) (h : i < n) → getD (T b) (o + i) (clean 0) ≡ rowsKind R (o + i) (Z i h b)
+      segment : (i : ℕ) (h : i < n) → getD (T b) (o + i) (clean 0) ≡ rowsKind F R (o + i) (Z i h b)
       segment i h =
           block-segment index first second N f1 f2 (cs .first-fits) (cs .second-fits) (o + i) (X i h) (Y i h) (Z i h)
           (words-at bx i h) (words-at by i h) (sum-words i h) b l (omega (arith, ch .within))

@@ -5,30 +5,34 @@ use mathlib.Core.Bool.{Bool, true, false, true≢false}
 use mathlib.Core.Path.{_≡_, refl, sym, ap, _∙_}
 use mathlib.Core.List.{List}
 use lib.ListN.{length, getD, set, length-set}
-use lib.Pow.{pow-mono}
+use lib.Pow.{pow-lt, pow-pos}
 use lib.Seq.{getD-set-same, getD-set-other}
 use native.Mathlib.Decide.{ℕ-discrete}
 use native.Mathlib.Nat.{mod-eq-of-lt}
 use native.Mathlib.Omega.{arith}
 use Rattle.meaning.specs.Limits.{blockSegments}
 use Rattle.meaning.specs.Segment.{kind, allSet, rowsIn, segmentCount}
+use Rattle.meaning.specs.Format.{width}
+use Rattle.meaning.specs.declared.Format.{Format}
 use Rattle.meaning.proofs.Cut.{rows-inside, rows-some, rows-le}
+use Rattle.meaning.proofs.Formats.{width-pos}
 use Rattle.pairs.specs.Spellings.{WordsSpelled, Spelled}
 
 -- ---- row by row
 
-module _ (z : List ℕ) (w mask : ℕ) where
-  pub spelled-none : WordsSpelled z 0 w mask z
+module _ (F : Format) (z : List ℕ) (w mask : ℕ) where
+  pub spelled-none : WordsSpelled F z 0 w mask z
   spelled-none = record { long = refl; words = λ b real h. absurd (omega arith); others = λ i h. refl }
 
   -- one row more, whose word became x
-  module _ (z′ : List ℕ) (count x : ℕ) (g : WordsSpelled z count w mask z′) where
+  module _ (z′ : List ℕ) (count x : ℕ) (g : WordsSpelled F z count w mask z′) where
     abbrev at : ℕ
     at = count * blockSegments + w
 
     pub spelled-more : at < length z′
-        → ((real : ℕ) → 1 ≤ real → real ≤ 32 → mask ≡ allSet real → kind 32 x ≡ kind real (getD z′ at 0 % 2 ^ real))
-        → WordsSpelled z (count + 1) w mask (set z′ at x)
+        → ((real : ℕ) → 1 ≤ real → real ≤ width F → mask ≡ allSet real
+        → kind (width F) x ≡ kind real (getD z′ at 0 % 2 ^ real))
+        → WordsSpelled F z (count + 1) w mask (set z′ at x)
     spelled-more l h = record {
       long = length-set z′ at x ∙ g .long;
       words = words;
@@ -38,47 +42,53 @@ module _ (z : List ℕ) (w mask : ℕ) where
         other : (i : ℕ) → (i ≡ at → ⊥) → getD (set z′ at x) i 0 ≡ getD z′ i 0
         other i n = getD-set-other z′ at i x 0 n
 
-        words : (b real : ℕ) → b < count + 1 → 1 ≤ real → real ≤ 32 → mask ≡ allSet real
-            → kind 32 (getD (set z′ at x) (b * blockSegments + w) 0)
+        words : (b real : ℕ) → b < count + 1 → 1 ≤ real → real ≤ width F → mask ≡ allSet real
+            → kind (width F) (getD (set z′ at x) (b * blockSegments + w) 0)
             ≡ kind real (getD z (b * blockSegments + w) 0 % 2 ^ real)
         words b real s some most e = elim (ℕ-discrete b count) [
           | yes t ↦ rw t
-              (ap (kind 32) (getD-set-same z′ at x 0 l) ∙ h real some most e
+              (ap (kind (width F)) (getD-set-same z′ at x 0 l) ∙ h real some most e
               ∙ ap (λ (y : ℕ). kind real (y % 2 ^ real)) (g .others at (λ k f q. absurd (omega arith))))
           | no t ↦
-              ap (kind 32) (other (b * blockSegments + w) (λ q. absurd (omega arith)))
+              ap (kind (width F)) (other (b * blockSegments + w) (λ q. absurd (omega arith)))
               ∙ g .words b real (omega arith) some most e
         ]
 
 -- ---- the block
 
-pub spelled-run : (R o n : ℕ) (z : List ℕ) (count : ℕ) (even : Bool) → even ≡ true → Spelled R o n even z count z
-spelled-run R o n z count even t = record {
+pub spelled-run : (F : Format) (R o n : ℕ) (z : List ℕ) (count : ℕ) (even : Bool) → even ≡ true
+    → Spelled F R o n even z count z
+spelled-run F R o n z count even t = record {
   long = refl;
   run = λ e. refl;
   block = λ f. absurd (true≢false (sym t ∙ f));
   others = λ i h. refl;
 }
 
-all-rows : (k : ℕ) → k ≤ 32 → allSet k ≡ 4294967295 → k ≡ 32
+-- only w ones are as many as w ones
+all-rows : (w k : ℕ) → k ≤ w → allSet k ≡ allSet w → k ≡ w
 unfolding allSet
-all-rows k h e = elim (ℕ-discrete k 32) [
+all-rows w k h e = elim (ℕ-discrete k w) [
   | yes t ↦ t
-  | no t ↦ absurd (let m : 2 ^ k ≤ 2 ^ 31 = pow-mono {i = k} {j = 31} (omega arith) in omega arith)
+  | no t ↦ absurd (omega (arith, pow-lt {i = k} {j = w} (omega arith), pow-pos k))
 ]
 
-module _ (R o n : ℕ) (within : o + n ≤ segmentCount 32 R) where
+module _ (F : Format) (R o n : ℕ) (within : o + n ≤ segmentCount (width F) R) where
+  abbrev pos : 0 < width F
+  pos = width-pos F
+
   -- the word of a segment without pad bits
-  whole : (i x : ℕ) → rowsIn 32 R i ≡ 32 → x < 2 ^ 32 → kind 32 x ≡ kind (rowsIn 32 R i) (x % 2 ^ rowsIn 32 R i)
+  whole : (i x : ℕ) → rowsIn (width F) R i ≡ width F → x < 2 ^ width F
+      → kind (width F) x ≡ kind (rowsIn (width F) R i) (x % 2 ^ rowsIn (width F) R i)
   whole i x e h = rw (e, mod-eq-of-lt h)
 
   -- as those before the last are
-  inner : (i : ℕ) → suc i < n → rowsIn 32 R (o + i) ≡ 32
-  inner i h = rows-inside 32 (omega arith) R (o + i) (omega arith)
+  inner : (i : ℕ) → suc i < n → rowsIn (width F) R (o + i) ≡ width F
+  inner i h = rows-inside (width F) pos R (o + i) (omega arith)
 
   module _ (z : List ℕ) (count : ℕ) (even : Bool) where
     -- a block without pad bits
-    pub spelled-same : allSet (rowsIn 32 R (o + n - 1)) ≡ 4294967295 → Spelled R o n even z count z
+    pub spelled-same : allSet (rowsIn (width F) R (o + n - 1)) ≡ allSet (width F) → Spelled F R o n even z count z
     spelled-same e = record {
       long = refl;
       run = λ t. refl;
@@ -86,17 +96,18 @@ module _ (R o n : ℕ) (within : o + n ≤ segmentCount 32 R) where
       others = λ i h. refl;
     }
       where
-        rows : (i : ℕ) → i < n → rowsIn 32 R (o + i) ≡ 32
+        rows : (i : ℕ) → i < n → rowsIn (width F) R (o + i) ≡ width F
         rows i l = elim (ℕ-discrete (suc i) n) [
           | yes t ↦
               let s : o + n - 1 ≡ o + i = omega arith in
-              all-rows (rowsIn 32 R (o + i)) (rows-le 32 (omega arith) R (o + i)) (rw s at e)
+              all-rows (width F) (rowsIn (width F) R (o + i)) (rows-le (width F) pos R (o + i)) (rw s at e)
           | no t ↦ inner i (omega arith)
         ]
 
     -- and one with pad bits
     pub spelled-last : (z′ : List ℕ) (w mask : ℕ) → even ≡ false → 1 ≤ n → n ≤ blockSegments → w ≡ n - 1
-        → mask ≡ allSet (rowsIn 32 R (o + n - 1)) → WordsSpelled z count w mask z′ → Spelled R o n even z count z′
+        → mask ≡ allSet (rowsIn (width F) R (o + n - 1)) → WordsSpelled F z count w mask z′
+        → Spelled F R o n even z count z′
     spelled-last z′ w mask t some most p q g = record {
       long = g .long;
       run = λ e. absurd (true≢false (sym e ∙ t));
@@ -104,17 +115,17 @@ module _ (R o n : ℕ) (within : o + n ≤ segmentCount 32 R) where
       others = λ i h. g .others i (λ b l e. h b w l (omega arith) e);
     }
       where
-        block : (b i : ℕ) → b < count → i < n → getD z (b * blockSegments + i) 0 < 2 ^ 32
-            → kind 32 (getD z′ (b * blockSegments + i) 0)
-            ≡ kind (rowsIn 32 R (o + i)) (getD z (b * blockSegments + i) 0 % 2 ^ rowsIn 32 R (o + i))
+        block : (b i : ℕ) → b < count → i < n → getD z (b * blockSegments + i) 0 < 2 ^ width F
+            → kind (width F) (getD z′ (b * blockSegments + i) 0)
+            ≡ kind (rowsIn (width F) R (o + i)) (getD z (b * blockSegments + i) 0 % 2 ^ rowsIn (width F) R (o + i))
         block b i h l low = elim (ℕ-discrete (suc i) n) [
           | yes s ↦
               let e : o + n - 1 ≡ o + i = omega arith in
               let last : w ≡ i = omega arith in
               rw last at
-              (g .words b (rowsIn 32 R (o + i)) h (rows-some 32 (omega arith) R (o + i) (omega arith))
-              (rows-le 32 (omega arith) R (o + i)) (q ∙ ap (λ (k : ℕ). allSet (rowsIn 32 R k)) e))
+              (g .words b (rowsIn (width F) R (o + i)) h (rows-some (width F) pos R (o + i) (omega arith))
+              (rows-le (width F) pos R (o + i)) (q ∙ ap (λ (k : ℕ). allSet (rowsIn (width F) R k)) e))
           | no s ↦
-              ap (kind 32) (g .others (b * blockSegments + i) (λ k f q. absurd (omega arith)))
+              ap (kind (width F)) (g .others (b * blockSegments + i) (λ k f q. absurd (omega arith)))
               ∙ whole (o + i) (getD z (b * blockSegments + i) 0) (inner i (omega arith)) low
         ]

@@ -8,9 +8,10 @@ use lib.ListN.{length, getD, take, drop, length-map, drop-of-length-le}
 use lib.Seq.{take-all}
 use native.Mathlib.Numerals.{add-one}
 use native.Mathlib.Omega.{arith}
-use Rattle.meaning.specs.Limits.{mostSegments, headWords, entryWords, indexKind}
-use Rattle.meaning.specs.Canonical.{canonical}
-use Rattle.meaning.specs.Index.{rowCount}
+use Rattle.meaning.specs.Limits.{mostSegments, headWords, entryWords}
+use Rattle.meaning.specs.Format.{kindOf, canonical}
+use Rattle.meaning.specs.declared.Format.{Format}
+use Rattle.meaning.specs.Index.{formatOf, rowCount}
 use Rattle.meaning.specs.Question.{totalWords}
 use Rattle.meaning.specs.NewIndex.{contentsEnd, entriesOf, indexOf}
 use Rattle.meaning.specs.Column.{columnOf, sumValue}
@@ -39,7 +40,15 @@ pub none-stored : (index first second : List ℕ) (n : ℕ) (starts out : List �
     → (i : ℕ) → i ≤ n → length (bodyOf index first second n i) ≤ length (region starts out i)
 none-stored index first second n starts out e i h = absurd (true≢false (sym e))
 
+-- a head that is written by other names of the format, the buffer and the rows
+pub headed-as : {F G : Format} {old old′ : List ℕ} {rows rows′ : ℕ} (starts : List ℕ) (count : ℕ) (out : List ℕ) (m : ℕ)
+    → F ≡ G → old ≡ old′ → rows ≡ rows′ → Headed F old rows starts count out m → Headed G old′ rows′ starts count out m
+headed-as starts count out m e f g h = rw (← e, ← f, ← g) h
+
 module _ (index first second : List ℕ) (n : ℕ) (cs : Columns index first second n) where
+  abbrev F : Format
+  F = formatOf index
+
   abbrev R : ℕ
   R = rowCount index
 
@@ -47,20 +56,20 @@ module _ (index first second : List ℕ) (n : ℕ) (cs : Columns index first sec
   ps = pairColumn index sumValue n first second
 
   abbrev bs : List (List ℕ)
-  bs = map (canonical R) ps
+  bs = map (canonical F R) ps
 
   ps-length : length ps ≡ suc n
   unfolding pairColumn columnOf
   ps-length = ap suc (slices-length _ _ 0 n)
 
   bs-length : length bs ≡ suc n
-  bs-length = length-map ps (canonical R) ∙ ps-length
+  bs-length = length-map ps (canonical F R) ∙ ps-length
 
   body-is : (i : ℕ) → i ≤ n → bodyOf index first second n i ≡ getD bs i []
-  body-is i h = sym (at-map R ps i (omega (arith, ps-length)))
+  body-is i h = sym (at-map F R ps i (omega (arith, ps-length)))
 
   pub body-low : (i : ℕ) → length (bodyOf index first second n i) ≤ 2 * mostSegments
-  body-low i = omega (arith, canonical-words R (getD ps i none) (cs .facts .head .few-rows))
+  body-low i = omega (arith, canonical-words F R (getD ps i none) (cs .facts .head .few-rows))
 
   module _ (ws starts : List ℕ) (used : (i : ℕ) → i ≤ n → writerOf ws i .used ≡ length (bodyOf index first second n i))
       (st : StartsOf ws (n + 1) (headWords + entryWords * (n + 1)) starts) where
@@ -87,7 +96,7 @@ module _ (index first second : List ℕ) (n : ℕ) (cs : Columns index first sec
 
     pub need-is : getD starts (n + 1) 0 ≡ length (sumIndex index first second n)
     unfolding indexOf
-    need-is = end ∙ sym (length-is R bs)
+    need-is = end ∙ sym (length-is F R bs)
 
     steps : (k : ℕ) → k ≤ n → getD starts (k + 1) 0 ≡ getD starts k 0 + length (bodyOf index first second n k)
     steps k h = st .next k (omega arith) ∙ ap (λ (j : ℕ). getD starts k 0 + j) (used k h)
@@ -117,7 +126,7 @@ module _ (index first second : List ℕ) (n : ℕ) (cs : Columns index first sec
 
     -- ---- written
 
-    module _ (old mid out ws′ : List ℕ) (room : getD starts (n + 1) 0 ≤ length old) (hd : Headed old R starts (n + 1) mid (n + 1))
+    module _ (old mid out ws′ : List ℕ) (room : getD starts (n + 1) 0 ≤ length old) (hd : Headed (formatOf index) old (rowCount index) starts (n + 1) mid (n + 1))
         (ps′ : PassedTo index first second n starts mid out ws′ true) where
       parts : (k : ℕ) → k < length bs → region starts out k ≡ getD bs k []
       parts k h =
@@ -128,16 +137,16 @@ module _ (index first second : List ℕ) (n : ℕ) (cs : Columns index first sec
           ∙ append-nil (bodyOf index first second n k)
           ∙ body-is k l
 
-      front-is : take (contentsEnd (length bs)) out ≡ indexKind ∷ R ∷ length bs ∷ entriesOf (contentsEnd (length bs)) bs
+      front-is : take (contentsEnd (length bs)) out ≡ kindOf F ∷ R ∷ length bs ∷ entriesOf (contentsEnd (length bs)) bs
       front-is =
           let place : contentsEnd (length bs) ≡ getD starts 0 0 = unfold contentsEnd in omega (arith, st .first, bs-length) in
           let same : n + 1 ≡ length bs = omega (arith, bs-length) in
           ap (λ (k : ℕ). take k out) place ∙ ps′ .front ∙ ap (λ (k : ℕ). take k mid) (sym place)
-          ∙ contents-are old mid starts R bs (subst (λ (k : ℕ). Headed old R starts k mid k) same hd) (unfold contentsEnd in omega (arith, bs-length, contents-fit, room)) places
+          ∙ contents-are F old mid starts R bs (subst (λ (k : ℕ). Headed F old R starts k mid k) same hd) (unfold contentsEnd in omega (arith, bs-length, contents-fit, room)) places
 
       pub written : out ≡ sumIndex index first second n ++ drop (getD starts (n + 1) 0) old
       unfolding indexOf
       written =
-          assembled-out out starts bs (contentsEnd (length bs)) places parts R old refl front-is
+          assembled-out out starts bs (contentsEnd (length bs)) places parts F R old refl front-is
           (rw (sym end) (ps′ .back ∙ drop-more (headWords + entryWords * (n + 1)) (getD starts (n + 1) 0) mid old contents-fit (hd .behind)))
           ∙ ap (λ (k : ℕ). sumIndex index first second n ++ drop k old) (sym need-is)

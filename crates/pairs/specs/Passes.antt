@@ -6,8 +6,8 @@ use mathlib.Core.Path.{_≡_}
 use mathlib.Core.List.{List, _++_}
 use lib.ListN.{length, getD, take, drop}
 use Rattle.meaning.specs.Limits.{leastColumn, mostValueColumn, blockSegments, writersNumbers}
-use Rattle.meaning.specs.Canonical.{canonical}
-use Rattle.meaning.specs.Index.{rowCount}
+use Rattle.meaning.specs.Format.{canonical}
+use Rattle.meaning.specs.Index.{formatOf, rowCount}
 use Rattle.meaning.specs.Laws.{IndexFacts}
 use Rattle.meaning.specs.Column.{sumValue}
 use Rattle.meaning.specs.Columns.{pairColumn}
@@ -37,7 +37,8 @@ pub record Chosen (near S o n : ℕ) (even : Bool) : Type 0 where
 
 -- body i of the answer
 abbrev pub bodyOf : (index first second : List ℕ) (n i : ℕ) → List ℕ
-bodyOf index first second n i = canonical (rowCount index) (getD (pairColumn index sumValue n first second) i none)
+bodyOf index first second n i =
+    canonical (formatOf index) (rowCount index) (getD (pairColumn index sumValue n first second) i none)
 
 -- the words of each body are counted, and stand in their part of the buffer where they are stored; what lies before the first part
 -- and behind the last is as it was

@@ -30,11 +30,14 @@ pub fn pass(
     ensures { λ r. ⌜ PassedTo (now (index .entry)) (now (first .entry)) (now (second .entry)) n
         (now (starts .entry)) (now (out .entry)) (now (out .exit)) (r .numbers) store ⌝ }
 {
+    let format = contents::format(index);
     let rows = contents::rows(index);
-    let segments = rows::segment_count(rows);
-    let mut p = survey::open(index, first);
-    let mut q = survey::open(index, second);
-    let mut ws = writers::start();
+    let segments = rows::segments(format, rows);
+    let full = rows::full(format);
+    let last = rows::last_mask(format, rows);
+    let mut p = survey::open(format, index, first);
+    let mut q = survey::open(format, index, second);
+    let mut ws = writers::start(format);
     let mut x: [u32; BLOCK_WORDS] = [0; BLOCK_WORDS];
     let mut y: [u32; BLOCK_WORDS] = [0; BLOCK_WORDS];
     let mut z: [u32; BLOCK_WORDS] = [0; BLOCK_WORDS];
@@ -46,11 +49,23 @@ pub fn pass(
         let s = choose::choose(survey::smaller(near, close), o, segments, run);
         let m = s.n;
         let even = s.even;
-        gather::gather(index, first, &mut p.numbers, m, even, &mut x);
-        gather::gather(index, second, &mut q.numbers, m, even, &mut y);
+        let mask = rows::mask_before(full, last, segments, o + m);
+        gather::gather(format, index, first, &mut p.numbers, m, even, &mut x);
+        gather::gather(format, index, second, &mut q.numbers, m, even, &mut y);
         adder::sum(&x, &y, &mut z, n);
-        spell::spell(&mut z, n + 1, o, m, even, rows, segments);
-        writers::emit_all(out, starts, &mut ws.numbers, &z, n + 1, m, even, store);
+        spell::spell(&mut z, n + 1, m, even, mask, full);
+        writers::emit_all(
+            format,
+            out,
+            starts,
+            &mut ws.numbers,
+            &z,
+            n + 1,
+            m,
+            even,
+            mask,
+            store,
+        );
         run = even;
         o += m;
     }

@@ -23,7 +23,7 @@ pub fn sum(index: &[u32], first: &[u32], second: &[u32], n: usize, out: &mut [u3
         return need;
     }
     let rows = contents::rows(index);
-    layout::write_contents(out, rows, &starts, count);
+    layout::write_contents(contents::format(index), out, rows, &starts, count);
     pass::pass(index, first, second, n, out, &starts, true);
     need
 }

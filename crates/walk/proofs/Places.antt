@@ -7,14 +7,15 @@ use native.Mathlib.Nat.{le-refl}
 use native.Mathlib.Omega.{arith}
 use borrow.Author.Count.{below-more}
 use lib.ListN.{length, drop, length-take, length-drop}
-use Rattle.meaning.specs.Ewah.{pieces, segments}
-use Rattle.meaning.specs.Ahead.{advanced, firstSize}
+use Rattle.meaning.specs.Format.{piecesOf, segmentsOf}
+use Rattle.meaning.specs.declared.Format.{Format}
+use Rattle.meaning.specs.Ahead.{NoneEmpty, advanced, firstSize}
 use Rattle.meaning.specs.Index.{startOf, lengthOf, bodyAt}
 use Rattle.meaning.specs.Laws.{HeadFacts}
 use Rattle.meaning.proofs.Walked.{ahead-start, ahead-on, ahead-some, ahead-within}
 use Rattle.ewah.specs.declared.cursor.Cursor.{Cursor}
 use Rattle.ewah.specs.Cursors.{ValueLow, InOrder, Stands, leftOf, piecesFrom}
-use Rattle.ewah.proofs.Pieces.{first-left}
+use Rattle.bodies.proofs.Advancing.{first-left}
 use Rattle.walk.specs.declared.survey.Survey.{Survey}
 use Rattle.walk.specs.Queries.{cursorOf, Stored, CursorAt, placeBody, Standing}
 use Rattle.walk.specs.Surveys.{Weighed, Surveyed, Moved, MovedAll}
@@ -23,64 +24,71 @@ use Rattle.walk.proofs.Weighing.{surveyed-more, surveyed-same}
 -- ---- one cursor
 
 -- a word of a body has a number of 32 bits
-pub next-low : (index : List ℕ) (k : ℕ) (c : Cursor) → HeadFacts index → InOrder (bodyAt index k) c → c .next < 4294967296
+pub next-low : (F : Format) (index : List ℕ) (k : ℕ) (c : Cursor) → HeadFacts index → InOrder F (bodyAt index k) c
+    → c .next < 4294967296
 unfolding bodyAt
-next-low index k c h o = omega (arith, o .inside, h .few-words, length-take (lengthOf index k) (drop (startOf index k) index), length-drop (startOf index k) index)
+next-low F index k c h o =
+    let from = drop (startOf index k) index in
+    omega (arith, o .inside, h .few-words, length-take (lengthOf index k) from, length-drop (startOf index k) index)
 
-module _ (b : List ℕ) (c : Cursor) where
-  pub opened : Stands b c (pieces 0 b) → CursorAt b 0 c
-  opened s = record { in-order = s .in-order; ahead = rw (s .has) (ahead-start b); at-end = λ z. s .has ∙ s .at-end z }
+module _ (F : Format) (b : List ℕ) (c : Cursor) where
+  pub opened : NoneEmpty (piecesOf F b) → Stands F b c (piecesOf F b) → CursorAt F b 0 c
+  opened k s = record { in-order = s .in-order; ahead = rw (s .has) (ahead-start F b k); at-end = λ z. s .has ∙ s .at-end z }
 
-  pub gone-on : (o n : ℕ) (d : Cursor) → 1 ≤ n → n ≤ leftOf (c .piece) → Stands b d (advanced n (piecesFrom b c)) → CursorAt b o c → CursorAt b (o + n) d
+  pub gone-on : (o n : ℕ) (d : Cursor) → 1 ≤ n → n ≤ leftOf (c .piece) → Stands F b d (advanced n (piecesFrom F b c))
+      → CursorAt F b o c → CursorAt F b (o + n) d
   gone-on o n d g l s a =
       record {
         in-order = s .in-order;
-        ahead = rw (s .has) (ahead-on b o n (piecesFrom b c) (a .ahead) g (omega (arith, first-left b c (omega arith))));
+        ahead = rw (s .has) (ahead-on F b o n (piecesFrom F b c) (a .ahead) g (omega (arith, first-left F b c (omega arith))));
         at-end = λ z. s .has ∙ s .at-end z;
       }
 
 -- before the body's end something of the piece is left, and it lies within the body
-module _ (b : List ℕ) (o : ℕ) (c : Cursor) (a : CursorAt b o c) (h : o < length (segments b)) where
+module _ (F : Format) (b : List ℕ) (o : ℕ) (c : Cursor) (a : CursorAt F b o c) (h : o < length (segmentsOf F b)) where
   pub some-left : 1 ≤ leftOf (c .piece)
   some-left = go (leftOf (c .piece)) refl
     where
       go : (n : ℕ) → leftOf (c .piece) ≡ n → 1 ≤ leftOf (c .piece)
       go zero e =
-          let z : firstSize (piecesFrom b c) ≡ 0 = ap firstSize (a .at-end e) ∙ (unfold firstSize in refl) in
-          absurd (omega (arith, ahead-some b o (piecesFrom b c) (a .ahead) h))
+          let z : firstSize (piecesFrom F b c) ≡ 0 = ap firstSize (a .at-end e) ∙ (unfold firstSize in refl) in
+          absurd (omega (arith, ahead-some F b o (piecesFrom F b c) (a .ahead) h))
       go (suc n) e = omega arith
 
-  pub left-size : firstSize (piecesFrom b c) ≡ leftOf (c .piece)
-  left-size = first-left b c some-left
+  pub left-size : firstSize (piecesFrom F b c) ≡ leftOf (c .piece)
+  left-size = first-left F b c some-left
 
-  pub left-within : o + leftOf (c .piece) ≤ length (segments b)
-  left-within = omega (arith, left-size, ahead-within b o (piecesFrom b c) (a .ahead) (omega arith))
+  pub left-within : o + leftOf (c .piece) ≤ length (segmentsOf F b)
+  left-within = omega (arith, left-size, ahead-within F b o (piecesFrom F b c) (a .ahead) (omega arith))
 
 -- ---- one place
 
 -- the body and the cursor that the code has are those of the place
-module _ (b b′ ns : List ℕ) (i n : ℕ) (c : Cursor) (b-is : b′ ≡ b) (c-is : c ≡ cursorOf ns i) (g : 1 ≤ n) (l : n ≤ leftOf (cursorOf ns i .piece)) where
-  pub may-advance : InOrder b (cursorOf ns i) → InOrder b′ c × ((1 ≤ n) × (n ≤ leftOf (c .piece)))
+module _ (F : Format) (b b′ ns : List ℕ) (i n : ℕ) (c : Cursor) (b-is : b′ ≡ b) (c-is : c ≡ cursorOf ns i)
+    (g : 1 ≤ n) (l : n ≤ leftOf (cursorOf ns i .piece)) where
+  pub may-advance : InOrder F b (cursorOf ns i) → InOrder F b′ c × ((1 ≤ n) × (n ≤ leftOf (c .piece)))
   may-advance o = (rw (b-is, c-is) o, (g, rw c-is l))
 
-  pub moved : (ns′ : List ℕ) (s r : Survey) (d : Cursor) → Stands b′ d (advanced n (piecesFrom b′ c)) → Stored ns i d ns′ → Weighed s (d .piece) r → Moved b ns i n ns′ s r
+  pub moved : (ns′ : List ℕ) (s r : Survey) (d : Cursor) → Stands F b′ d (advanced n (piecesFrom F b′ c))
+      → Stored ns i d ns′ → Weighed s (d .piece) r → Moved F b ns i n ns′ s r
   moved ns′ s r d st put w =
       record {
         long = put .long;
         others = put .others;
         in-order = rw (put .here) (is .in-order);
-        on = λ o a. rw (put .here) (gone-on b (cursorOf ns i) o n d g l is a);
+        on = λ o a. rw (put .here) (gone-on F b (cursorOf ns i) o n d g l is a);
         weighed = rw (put .here) w;
       }
     where
-      is : Stands b d (advanced n (piecesFrom b (cursorOf ns i)))
+      is : Stands F b d (advanced n (piecesFrom F b (cursorOf ns i)))
       is = rw (b-is, c-is) at st
 
 -- ---- all places
 
-module _ (index list : List ℕ) where
+module _ (F : Format) (index list : List ℕ) where
   pub standing-more : (ns : List ℕ) (m o : ℕ) (c : Cursor) (ns′ : List ℕ)
-      → Standing index list ns m o → Stored ns m c ns′ → CursorAt (placeBody index list m) o c → Standing index list ns′ (m + 1) o
+      → Standing F index list ns m o → Stored ns m c ns′ → CursorAt F (placeBody index list m) o c
+      → Standing F index list ns′ (m + 1) o
   standing-more ns m o c ns′ st put a = below-more _ m (λ k l. rw (put .others k (omega arith)) (st k l)) (rw (put .here) a)
 
   -- the first m cursors went n segments on, and the others stay
@@ -88,7 +96,8 @@ module _ (index list : List ℕ) where
     pub long : length ns ≡ length was
     pub later : (k : ℕ) → m ≤ k → cursorOf ns k ≡ cursorOf was k
     pub low : (k : ℕ) → k < m → ValueLow (cursorOf ns k .piece)
-    pub on : (k : ℕ) → k < m → (o : ℕ) → CursorAt (placeBody index list k) o (cursorOf was k) → CursorAt (placeBody index list k) (o + n) (cursorOf ns k)
+    pub on : (k : ℕ) → k < m → (o : ℕ) → CursorAt F (placeBody index list k) o (cursorOf was k)
+        → CursorAt F (placeBody index list k) (o + n) (cursorOf ns k)
     pub surveyed : Surveyed ns m s
 
   module _ (was : List ℕ) (n : ℕ) where
@@ -96,7 +105,7 @@ module _ (index list : List ℕ) where
     going-none s a = record { long = refl; later = λ k l. refl; low = λ k l. absurd (omega arith); on = λ k l. absurd (omega arith); surveyed = a }
 
     module _ (ns : List ℕ) (s : Survey) (m : ℕ) (g : Going was n ns s m) where
-      pub going-more : (ns′ : List ℕ) (r : Survey) → Moved (placeBody index list m) ns m n ns′ s r → Going was n ns′ r (m + 1)
+      pub going-more : (ns′ : List ℕ) (r : Survey) → Moved F (placeBody index list m) ns m n ns′ s r → Going was n ns′ r (m + 1)
       going-more ns′ r h =
           record {
             long = h .long ∙ g .long;
@@ -106,7 +115,7 @@ module _ (index list : List ℕ) where
             surveyed = surveyed-more ns′ m s (surveyed-same ns m s (g .surveyed) ns′ (λ k l. h .others k (omega arith))) r (h .weighed);
           }
 
-      pub going-all : length list ≤ m → m ≤ length list → MovedAll index list was n ns s
+      pub going-all : length list ≤ m → m ≤ length list → MovedAll F index list was n ns s
       going-all h l =
           let e : m ≡ length list = omega arith in
           record { long = g .long; on = λ o st k i. g .on k (omega arith) o (st k i); surveyed = rw e at (g .surveyed) }

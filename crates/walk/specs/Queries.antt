@@ -7,6 +7,7 @@ use mathlib.Core.List.{List, []}
 use lib.Dec.{eqb}
 use lib.ListN.{length, getD}
 use Rattle.meaning.specs.Limits.{mostNamed, placeNumbers}
+use Rattle.meaning.specs.declared.Format.{Format}
 use Rattle.meaning.specs.Index.{bitmapCount, bodyAt}
 use Rattle.meaning.specs.Ahead.{Ahead}
 use Rattle.ewah.specs.declared.cursor.Cursor.{Cursor}
@@ -42,11 +43,11 @@ pub record Stored (ns : List ℕ) (i : ℕ) (c : Cursor) (ns′ : List ℕ) : Ty
   pub here : cursorOf ns′ i ≡ c
   pub others : (k : ℕ) → (k ≡ i → ⊥) → cursorOf ns′ k ≡ cursorOf ns k
 
--- a cursor stands at segment o of the body b
-pub record CursorAt (b : List ℕ) (o : ℕ) (c : Cursor) : Type 0 where
-  pub in-order : InOrder b c
-  pub ahead : Ahead b o (piecesFrom b c)
-  pub at-end : leftOf (c .piece) ≡ 0 → piecesFrom b c ≡ []
+-- a cursor stands at segment o of the body b, of the format F
+pub record CursorAt (F : Format) (b : List ℕ) (o : ℕ) (c : Cursor) : Type 0 where
+  pub in-order : InOrder F b c
+  pub ahead : Ahead F b o (piecesFrom F b c)
+  pub at-end : leftOf (c .piece) ≡ 0 → piecesFrom F b c ≡ []
 
 -- every number of the list names a bitmap, and there are at most as many as a query has places
 pub record Listed (index list : List ℕ) : Type 0 where
@@ -58,5 +59,5 @@ abbrev pub placeBody : (index list : List ℕ) → ℕ → List ℕ
 placeBody index list i = bodyAt index (getD list i 0)
 
 -- every cursor of the first m places stands at segment o of its body
-abbrev pub Standing : (index list ns : List ℕ) (m o : ℕ) → Type 0
-Standing index list ns m o = (i : ℕ) → i < m → CursorAt (placeBody index list i) o (cursorOf ns i)
+abbrev pub Standing : (F : Format) (index list ns : List ℕ) (m o : ℕ) → Type 0
+Standing F index list ns m o = (i : ℕ) → i < m → CursorAt F (placeBody index list i) o (cursorOf ns i)

@@ -7,6 +7,7 @@ use lib.ListN.{length}
 use Rattle.meaning.specs.Limits.{mostNamed, counterPlanes}
 use Rattle.meaning.specs.Rows.{sumBelow}
 use Rattle.meaning.specs.Segment.{bitAt}
+use Rattle.meaning.specs.declared.Format.{Format}
 use Rattle.ewah.specs.declared.cursor.Piece as code
 use Rattle.ewah.specs.declared.cursor.Piece.the-variants.{Clean, Dirty}
 use Rattle.ewah.specs.Cursors.{InOrder, leftOf}
@@ -58,15 +59,15 @@ pub record Surveyed (ns : List ℕ) (m : ℕ) (s : Survey) : Type 0 where
   pub counts : (j : ℕ) → j < 32 → countAt (s .planes) j ≡ sumBelow m (λ i. bitIn (cursorOf ns i .piece) j)
 
 -- the cursor at place i of a body b went n segments on, from any segment o, and its piece was counted in
-pub record Moved (b ns : List ℕ) (i n : ℕ) (ns′ : List ℕ) (s r : Survey) : Type 0 where
+pub record Moved (F : Format) (b ns : List ℕ) (i n : ℕ) (ns′ : List ℕ) (s r : Survey) : Type 0 where
   pub long : length ns′ ≡ length ns
   pub others : (k : ℕ) → (k ≡ i → ⊥) → cursorOf ns′ k ≡ cursorOf ns k
-  pub in-order : InOrder b (cursorOf ns′ i)
-  pub on : (o : ℕ) → CursorAt b o (cursorOf ns i) → CursorAt b (o + n) (cursorOf ns′ i)
+  pub in-order : InOrder F b (cursorOf ns′ i)
+  pub on : (o : ℕ) → CursorAt F b o (cursorOf ns i) → CursorAt F b (o + n) (cursorOf ns′ i)
   pub weighed : Weighed s (cursorOf ns′ i .piece) r
 
 -- all cursors of the list did
-pub record MovedAll (index list ns : List ℕ) (n : ℕ) (ns′ : List ℕ) (s : Survey) : Type 0 where
+pub record MovedAll (F : Format) (index list ns : List ℕ) (n : ℕ) (ns′ : List ℕ) (s : Survey) : Type 0 where
   pub long : length ns′ ≡ length ns
-  pub on : (o : ℕ) → Standing index list ns (length list) o → Standing index list ns′ (length list) (o + n)
+  pub on : (o : ℕ) → Standing F index list ns (length list) o → Standing F index list ns′ (length list) (o + n)
   pub surveyed : Surveyed ns′ (length list) s

@@ -4,15 +4,16 @@ ghost use mathlib.Core.List.{List};
 ghost use Prim.Native.Nat.{ℕ, _≤_, _<_, min};
 ghost use lib.ListN.{length, getD};
 ghost use Rattle.meaning.specs.Limits.{mostNamed, queryNumbers};
-ghost use Rattle.meaning.specs.Laws.{HeadFacts, EntryFacts};
-ghost use Rattle.meaning.specs.Index.{bitmapCount, bodyAt};
+ghost use Rattle.meaning.specs.Laws.{HeadFacts, EntryFacts, IndexFacts};
+ghost use Rattle.meaning.specs.Index.{formatOf, bitmapCount, bodyAt};
 ghost use Rattle.ewah.specs.Cursors.{ValueLow, InOrder, leftOf};
 ghost use Rattle.walk.specs.Queries.{cursorOf, Listed, Standing};
 ghost use Rattle.walk.specs.Surveys.{Room, Weighed, Surveyed, Moved, MovedAll};
 use crate::query;
 use crate::query::Query;
-use ewah::cursor;
+use bodies::cursor;
 use ewah::cursor::Piece;
+use meaning::Format;
 use meaning::PLANES;
 use meaning::QUERY_NUMBERS;
 use words::counters;
@@ -70,6 +71,7 @@ fn weigh(s: Survey, piece: Piece) -> Survey
 
 // Place i, whose bitmap is k: its cursor goes n segments on, and its piece is counted in.
 fn move_place(
+    format: Format,
     index: &[u32],
     k: u32,
     numbers: &mut [u32; QUERY_NUMBERS],
@@ -81,32 +83,39 @@ fn move_place(
     requires { ⌜ EntryFacts (now index) ⌝ }
     requires { ⌜ (k < bitmapCount (now index)) × (i < mostNamed) × (length (now numbers) ≡ queryNumbers)
         × (1 ≤ n) × (n ≤ leftOf (cursorOf (now numbers) i .piece)) ⌝ }
-    requires { ⌜ InOrder (bodyAt (now index) k) (cursorOf (now numbers) i) ⌝ }
+    requires { ⌜ InOrder format (bodyAt (now index) k) (cursorOf (now numbers) i) ⌝ }
     requires { ⌜ Room s ⌝ }
-    ensures { λ r. ⌜ Moved (bodyAt (now (index .entry)) k) (now (numbers .entry)) i n (now (numbers .exit)) s r ⌝ }
+    ensures { λ r. ⌜ Moved format (bodyAt (now (index .entry)) k) (now (numbers .entry)) i n (now (numbers .exit)) s r ⌝ }
 {
     let c = query::cursor_at(numbers, i);
-    let d = cursor::advance(contents::body(index, k), c, n);
+    let d = cursor::advance(format, contents::body(index, k), c, n);
     query::set_cursor(numbers, i, d);
     let piece = d.piece;
     weigh(s, piece)
 }
 
-// Every cursor goes n segments on.
-pub fn advance(index: &[u32], list: &[u32], numbers: &mut [u32; QUERY_NUMBERS], n: u32) -> Survey
+// Every cursor goes n segments on in its body, which has the index's format.
+pub fn advance(
+    format: Format,
+    index: &[u32],
+    list: &[u32],
+    numbers: &mut [u32; QUERY_NUMBERS],
+    n: u32,
+) -> Survey
+    requires { ⌜ format ≡ formatOf (now index) ⌝ }
     requires { ⌜ HeadFacts (now index) ⌝ }
     requires { ⌜ EntryFacts (now index) ⌝ }
     requires { ⌜ Listed (now index) (now list) ⌝ }
     requires { ⌜ (length (now numbers) ≡ queryNumbers) × (1 ≤ n) × ((i : ℕ) → i < length (now list)
         → (n ≤ leftOf (cursorOf (now numbers) i .piece))
-        × InOrder (bodyAt (now index) (getD (now list) i 0)) (cursorOf (now numbers) i)) ⌝ }
-    ensures { λ r. ⌜ MovedAll (now (index .entry)) (now (list .entry))
+        × InOrder (formatOf (now index)) (bodyAt (now index) (getD (now list) i 0)) (cursorOf (now numbers) i)) ⌝ }
+    ensures { λ r. ⌜ MovedAll (formatOf (now (index .entry))) (now (index .entry)) (now (list .entry))
         (now (numbers .entry)) n (now (numbers .exit)) r ⌝ }
 {
     let mut s = nothing();
     let mut i: usize = 0;
     while i < list.len() {
-        let r = move_place(index, list[i], numbers, i, n, s);
+        let r = move_place(format, index, list[i], numbers, i, n, s);
         s = r;
         i += 1;
     }
@@ -114,12 +123,13 @@ pub fn advance(index: &[u32], list: &[u32], numbers: &mut [u32; QUERY_NUMBERS], 
 }
 
 // A cursor for each place of the list, on the first piece of its body.
-pub fn open(index: &[u32], list: &[u32]) -> Query
-    requires { ⌜ HeadFacts (now index) ⌝ }
-    requires { ⌜ EntryFacts (now index) ⌝ }
+pub fn open(format: Format, index: &[u32], list: &[u32]) -> Query
+    requires { ⌜ format ≡ formatOf (now index) ⌝ }
+    requires { ⌜ IndexFacts (now index) ⌝ }
     requires { ⌜ Listed (now index) (now list) ⌝ }
     ensures { λ r. ⌜ (r .len ≡ length (now (list .entry))) × (length (r .numbers) ≡ queryNumbers)
-        × Standing (now (index .entry)) (now (list .entry)) (r .numbers) (length (now (list .entry))) 0 ⌝ }
+        × Standing (formatOf (now (index .entry))) (now (index .entry)) (now (list .entry)) (r .numbers)
+        (length (now (list .entry))) 0 ⌝ }
 {
     let mut q = Query {
         numbers: [0; QUERY_NUMBERS],
@@ -127,7 +137,7 @@ pub fn open(index: &[u32], list: &[u32]) -> Query
     };
     let mut i: usize = 0;
     while i < list.len() {
-        let c = cursor::open(contents::body(index, list[i]));
+        let c = cursor::open(format, contents::body(index, list[i]));
         query::set_cursor(&mut q.numbers, i, c);
         i += 1;
     }

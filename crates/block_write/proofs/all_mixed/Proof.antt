@@ -6,8 +6,8 @@ use mathlib.Core.Path.{_≡_, refl, sym, _∙_}
 use mathlib.Core.List.{map}
 use denote.Ref.{now}
 use lib.ListN.{length, take}
-use Rattle.meaning.specs.Segment.{mixed, kind}
-use Rattle.ewah_write.proofs.Growing.{kind-other}
+use Rattle.meaning.specs.Segment.{allSet, mixed, kind}
+use Rattle.meaning.proofs.Segments.{kind-mixed}
 use Rattle.block_write.proofs.Rowing.{first-all, agree-more}
 use borrow.Author.Needs.{needs}
 use native.Mathlib.Omega.{arith}
@@ -42,11 +42,12 @@ loop-less : tie.Need-loop-less Inv-loop μ-loop
 loop-less c = search needs
 
 loop-again : tie.Need-loop-again Inv-loop μ-loop
+unfolding allSet
 loop-again c =
     let l = c .before .before .before .before .loop in
     let words = now (c .before .before .before .before .before .args .words) in
     let h = c .before .before .before .loop-test .taken in
-    let next = kind-other (c .before .if1 .left) (c .if2 .left) in
+    let next = kind-mixed 32 _ (c .before .if1 .left) (c .if2 .left) in
     (omega arith, agree-more (kind 32) mixed words (l .i) h next (l .inv .1))
 
 returns-3 : tie.Need-returns-3 Inv-loop μ-loop

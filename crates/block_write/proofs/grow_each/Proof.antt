@@ -5,22 +5,23 @@ use mathlib.Core.List.{map}
 use denote.Ref.{now}
 use lib.ListN.{length, take}
 use Rattle.meaning.specs.Segment.{kind}
-use Rattle.ewah_write.specs.Drafts.{Grown}
-use Rattle.merge.proofs.Emitting.{still-writing}
-use Rattle.block_write.proofs.Rowing.{first-all, grown-next, used-first}
+use Rattle.meaning.specs.Format.{width}
+use Rattle.body_write.specs.Bodies.{Grown}
+use Rattle.block_write.proofs.Rowing.{first-all, grown-none, growing-next, grown-next}
 use borrow.Author.Needs.{needs}
 use native.Mathlib.Omega.{arith}
 use Rattle.block_write.proofs.grow_each.Statement.{statement}
 use Rattle.block_write.proofs.grow_each.Tie as tie
 
 abbrev Inv-loop : tie.InvT-loop
-Inv-loop words v₀ i₀ v i = (i ≤ length words) × Grown v₀ (map (kind 32) (take i words)) v
+Inv-loop format words v₀ i₀ v i =
+    (i ≤ length words) × Grown format v₀ (map (kind (width format)) (take i words)) v
 
 abbrev μ-loop : tie.MeasureT-loop
-μ-loop words v₀ i₀ v i = length words - i
+μ-loop format words v₀ i₀ v i = length words - i
 
 loop-holds : tie.Need-loop-holds Inv-loop μ-loop
-loop-holds c = (omega arith, λ d t. t)
+loop-holds c = (omega arith, grown-none)
 
 mul-grow-segment : tie.Need-mul-grow-segment Inv-loop μ-loop
 mul-grow-segment c = search needs
@@ -32,9 +33,7 @@ grow-segment-requires : tie.Need-grow-segment-requires Inv-loop μ-loop
 grow-segment-requires c κs =
     let l = c .before .before .loop in
     let s = c .before .before .before .before in
-    let words = now (s .args .words) in
-    let u = used-first words (l .i) (c .before .loop-test .taken) (s .pre .0) (l .inv .1) in
-    (still-writing (map (kind 32) (take (l .i) words)) (s .pre .0) (l .inv .1), omega (arith, u, s .pre .1))
+    growing-next (s .args .format) (now (s .args .words)) (l .i) (c .before .loop-test .taken) (s .pre) (l .inv .1)
 
 add-i : tie.Need-add-i Inv-loop μ-loop
 add-i c = search needs
@@ -45,14 +44,15 @@ loop-less c = search needs
 loop-again : tie.Need-loop-again Inv-loop μ-loop
 loop-again c =
     let l = c .before .before .before .loop in
-    let words = now (c .before .before .before .before .before .args .words) in
-    (omega arith, grown-next words (l .i) (c .before .before .loop-test .taken) (l .inv .1) (c .grow-segment .ensures))
+    let s = c .before .before .before .before .before in
+    let h = c .before .before .loop-test .taken in
+    (omega arith, grown-next (s .args .format) (now (s .args .words)) (l .i) h (l .inv .1) (c .grow-segment .ensures))
 
 returns : tie.Need-returns Inv-loop μ-loop
 returns c =
     let l = c .before .loop in
-    let words = now (c .before .before .before .args .words) in
-    rw (first-all (kind 32) words (l .i) (c .loop-test .left)) at (l .inv .1)
+    let s = c .before .before .before in
+    rw (first-all (kind (width (s .args .format))) (now (s .args .words)) (l .i) (c .loop-test .left)) at (l .inv .1)
 
 pub grow-each-spec : {M : Type 1} → statement M
 grow-each-spec =

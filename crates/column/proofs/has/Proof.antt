@@ -1,13 +1,13 @@
--- `column::has` meets its contract: the row lies in a segment of the body.
+-- `column::has` meets its contract: each body of the index is sound in its format.
 -- Assumes nothing.
-use mathlib.Core.Path.{ap, _∙_}
+use mathlib.Core.Path.{ap₂, _∙_}
 use mathlib.Core.List.{List}
 use Prim.Native.Nat.{ℕ}
 use borrow.Author.Needs.{needs}
 use denote.Ref.{now}
-use Rattle.meaning.specs.Index.{rowsAt}
-use Rattle.meaning.specs.Ewah.{rowsOf}
-use Rattle.column.proofs.Columns.{row-within}
+use Rattle.meaning.specs.Index.{rowCount, rowsAt}
+use Rattle.meaning.specs.Format.{rowsOf}
+use Rattle.meaning.specs.declared.Format.{Format}
 use Rattle.column.proofs.has.Statement.{statement}
 use Rattle.column.proofs.has.Tie as tie
 
@@ -18,11 +18,15 @@ row-requires : tie.Need-row-requires
 row-requires c κs =
     let s = c .before .before in
     let a = s .args in
-    rw (c .body .ensures .0) (s .pre .0 .bodies (a .k) (s .pre .1 .0) .ended, row-within (now (a .index)) (s .pre .0) (a .k) (s .pre .1 .0) (a .row) (s .pre .1 .1))
+    let p = s .pre .1 in
+    rw (c .body .ensures .0, p .0) (rowCount (now (a .index)), s .pre .0 .bodies (a .k) (p .1), p .2)
 
 returns : tie.Need-returns
 unfolding rowsAt
-returns c = c .row .ensures ∙ ap (λ (b : List ℕ). rowsOf b (c .before .before .before .args .row)) (c .before .body .ensures .0)
+returns c =
+    let s = c .before .before .before in
+    c .row .ensures
+    ∙ ap₂ (λ (F : Format) (b : List ℕ). rowsOf F b (s .args .row)) (s .pre .1 .0) (c .before .body .ensures .0)
 
 pub has-spec : {M : Type 1} → statement M
 has-spec = tie.close (tie.spec body-requires row-requires returns)

@@ -2,34 +2,34 @@
 -- Assumes nothing.
 use Prim.Native.Nat.{ℕ, _-_, _≤_, _<_}
 use mathlib.Core.Bool.{Bool}
-use mathlib.Core.Path.{_≡_, sym, ap, _∙_, subst, subst₂}
+use mathlib.Core.Path.{_≡_, sym, ap, _∙_, subst}
 use mathlib.Core.List.{List}
 use native.Mathlib.Omega.{arith}
 use borrow.Author.Needs.{needs}
 use denote.Ref.{now}
 use lib.ListN.{length, getD, drop}
-use Rattle.meaning.specs.Ewah.{segments}
-use Rattle.meaning.specs.Segment.{segmentCount}
-use Rattle.meaning.specs.Index.{rowCount, bitmapCount, rowsAt, bodyAt}
+use Rattle.meaning.specs.Index.{formatOf, rowCount, bitmapCount, rowsAt, bodyAt}
+use Rattle.meaning.specs.Laws.{SoundFacts}
 use Rattle.meaning.specs.Columns as meaning
 use Rattle.answers.specs.Told.{verdictOf, refusedBy}
 use Rattle.column.specs.Outside.{outside, FoundIn}
+use Rattle.column.proofs.Columns.{found-at, facts-at}
 use Rattle.column.proofs.Columns.{stray-none, stray-row, strays-first, strays-place, strays-end}
 use Rattle.column.proofs.strays.Statement.{statement}
 use Rattle.column.proofs.strays.Tie as tie
 
 abbrev Inv-loop : tie.InvT-loop
-Inv-loop index list rows exists i₀ i =
+Inv-loop index list format rows exists i₀ i =
     (1 ≤ i) × (i ≤ length list)
     × (meaning.strays index list ≡ meaning.straysIn index (rowsAt index (getD list 0 0)) (drop i list))
 
 abbrev μ-loop : tie.MeasureT-loop
-μ-loop index list rows exists i₀ i = length list - i
+μ-loop index list format rows exists i₀ i = length list - i
 
 -- slice i is about to be looked at
 module _ (b : tie.After-body2 Inv-loop μ-loop) where
   abbrev start : tie.Start Inv-loop μ-loop
-  start = b .before .before .before .before .before .before .before .before .before
+  start = b .before .before .before .before .before .before .before .before .before .before
 
   abbrev place : ℕ
   place = getD (now (start .args .list)) (b .before .before .before .loop .i) 0
@@ -37,25 +37,36 @@ module _ (b : tie.After-body2 Inv-loop μ-loop) where
   abbrev strayed : ℕ → Bool
   strayed =
       let index = now (start .args .index) in
-      outside (bodyAt index place) (bodyAt index (getD (now (start .args .list)) 0 0))
+      outside (formatOf index) (bodyAt index place) (bodyAt index (getD (now (start .args .list)) 0 0))
 
   place-low : place < bitmapCount (now (start .args .index))
   place-low = start .pre .1 .2 (b .before .before .before .loop .i) (b .before .before .loop-test .taken)
 
-  abbrev rows : ℕ
-  rows = b .before .before .before .before .before .before .rows .result
+  abbrev rows-read : tie.After-rows Inv-loop μ-loop
+  rows-read = b .before .before .before .before .before .before
 
-  rows-are : rows ≡ rowCount (now (start .args .index))
-  rows-are = b .before .before .before .before .before .before .rows .ensures
+  rows-are : rows-read .rows .result ≡ rowCount (now (start .args .index))
+  rows-are = rows-read .rows .ensures
+
+  format-is : rows-read .before .format .result ≡ formatOf (now (start .args .index))
+  format-is = rows-read .before .format .ensures
+
+  -- the facts of body k, where it is what was handed on
+  sound-body : (k : ℕ) (words : List ℕ) → words ≡ bodyAt (now (start .args .index)) k
+      → k < bitmapCount (now (start .args .index))
+      → SoundFacts (rows-read .before .format .result) (rows-read .rows .result) words
+  sound-body k words e h = facts-at _ _ _ _ _ _ format-is rows-are e (start .pre .0 .bodies k h)
 
 -- it was
 told : (t : tie.After-first Inv-loop μ-loop)
     → FoundIn (rowCount (now (start (t .before) .args .index))) (strayed (t .before)) (t .first .result)
 told t =
     let b = t .before in
-    subst (λ (n : ℕ). FoundIn n (strayed b) (t .first .result)) (rows-are b)
-    (subst₂ (λ (x y : List ℕ). FoundIn (rows b) (outside x y) (t .first .result)) (b .body2 .ensures .0)
-    (b .before .before .before .before .body .ensures .0) (t .first .ensures))
+    found-at _ _ _ _ _ _ _ _ (t .first .result) (format-is b) (b .body2 .ensures .0)
+    (b .before .before .before .before .body .ensures .0) (rows-are b) (t .first .ensures)
+
+format-requires : tie.Need-format-requires Inv-loop μ-loop
+format-requires c κs = search needs
 
 rows-requires : tie.Need-rows-requires Inv-loop μ-loop
 rows-requires c κs = search needs
@@ -65,12 +76,12 @@ shared-slice-read-body c = search needs
 
 body-requires : tie.Need-body-requires Inv-loop μ-loop
 body-requires c κs =
-    let p = c .before .before .before .before .pre in
+    let p = c .before .before .before .before .before .pre in
     (p .0 .head, (p .0 .entries, p .1 .2 0 (omega (arith, p .1 .0))))
 
 loop-holds : tie.Need-loop-holds Inv-loop μ-loop
 loop-holds c =
-    let s = c .before .before .before .before .before in
+    let s = c .before .before .before .before .before .before in
     let some : 1 ≤ length (now (s .args .list)) = omega (arith, s .pre .1 .0) in
     (omega arith, some, strays-first (now (s .args .index)) (now (s .args .list)) some)
 
@@ -82,20 +93,17 @@ shared-slice-read-k c = search needs
 
 body-requires-2 : tie.Need-body-requires-2 Inv-loop μ-loop
 body-requires-2 c κs =
-    let p = c .before .before .before .before .before .before .before .before .pre in
+    let p = c .before .before .before .before .before .before .before .before .before .pre in
     (p .0 .head, (p .0 .entries, p .1 .2 (c .before .before .loop .i) (c .before .loop-test .taken)))
 
 first-requires : tie.Need-first-requires Inv-loop μ-loop
 first-requires c κs =
     let s = start c in
-    let a = s .args in
-    let f = s .pre .0 in
-    let e = ap (segmentCount 32) (rows-are c) in (
-      omega (arith, rows-are c, f .head .few-rows),
-      ap (λ (b : List ℕ). length (segments b)) (c .body2 .ensures .0)
-          ∙ f .bodies (place c) (place-low c) .count ∙ sym e,
-      ap (λ (b : List ℕ). length (segments b)) (c .before .before .before .before .body .ensures .0)
-          ∙ f .bodies (getD (now (a .list)) 0 0) (s .pre .1 .2 0 (omega (arith, s .pre .1 .0))) .count ∙ sym e,
+    let p = s .pre .1 in
+    let exists = c .before .before .before .before .body .ensures .0 in (
+      omega (arith, rows-are c, s .pre .0 .head .few-rows),
+      sound-body c (place c) _ (c .body2 .ensures .0) (place-low c),
+      sound-body c (getD (now (s .args .list)) 0 0) _ exists (p .2 0 (omega (arith, p .0))),
     )
 
 enum-known-found : tie.Need-enum-known-found Inv-loop μ-loop
@@ -147,7 +155,7 @@ returns-2 : tie.Need-returns-2 Inv-loop μ-loop
 unfolding verdictOf
 returns-2 c =
     let l = c .before .loop in
-    let a = c .before .before .before .before .before .before .before .args in
+    let a = c .before .before .before .before .before .before .before .before .args in
     sym (l .inv .2 ∙ strays-end (now (a .index)) _ (now (a .list)) (l .i) (c .loop-test .left))
 
 pub strays-spec : {M : Type 1} → statement M
@@ -156,6 +164,7 @@ strays-spec =
     (tie.spec
     Inv-loop
     μ-loop
+    format-requires
     rows-requires
     shared-slice-read-body
     body-requires

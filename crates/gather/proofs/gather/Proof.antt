@@ -1,10 +1,12 @@
 -- `gather::gather` meets its contract. The invariant: the first k places are gathered.
 -- Assumes nothing.
 use Prim.Native.Nat.{_-_, _≤_}
-use mathlib.Core.Path.{_≡_}
+use mathlib.Core.Path.{_≡_, sym, subst}
 use native.Mathlib.Nat.{le-refl}
 use denote.Ref.{now}
 use lib.ListN.{length}
+use Rattle.meaning.specs.declared.Format.{Format}
+use Rattle.gather.specs.Gathered.{StandingBefore, Gathered}
 use Rattle.gather.proofs.Gathering.{Gathering, gathering-none, stands-before, gathering-more, gathering-all}
 use borrow.Author.Needs.{needs}
 use native.Mathlib.Omega.{arith}
@@ -12,17 +14,19 @@ use Rattle.gather.proofs.gather.Statement.{statement}
 use Rattle.gather.proofs.gather.Tie as tie
 
 abbrev Inv-loop : tie.InvT-loop
-Inv-loop index list numbers₀ n even x₀ k₀ numbers x k = (k ≤ length list) × Gathering index list numbers₀ n even x₀ k numbers x
+Inv-loop format index list numbers₀ n even x₀ k₀ numbers x k =
+    (k ≤ length list) × Gathering format index list numbers₀ n even x₀ k numbers x
 
 abbrev μ-loop : tie.MeasureT-loop
-μ-loop index list numbers₀ n even x₀ k₀ numbers x k = length list - k
+μ-loop format index list numbers₀ n even x₀ k₀ numbers x k = length list - k
 
 loop-holds : tie.Need-loop-holds Inv-loop μ-loop
 loop-holds c =
     let s = c .before .before in
     let a = s .args in
-    let p = s .pre .1 .1 .1 .1 in
-    (omega arith, gathering-none (now (a .index)) (now (a .list)) (now (a .numbers)) (a .n) (a .even) (now (a .x)) (p .0) (p .1))
+    let p = s .pre .1 .1 .1 .1 .1 in
+    let none = gathering-none (a .format) (now (a .index)) (now (a .list)) (now (a .numbers)) (a .n) (a .even) (now (a .x)) (p .0) (p .1) in
+    (omega arith, none)
 
 mul-take-place : tie.Need-mul-take-place Inv-loop μ-loop
 mul-take-place c = search needs
@@ -37,15 +41,17 @@ take-place-requires c κs =
     let s = c .before .before .before .before .before .before .before in
     let a = s .args in
     let g = l .inv .1 in
-    let li = s .pre .1 .1 .0 in
-    let p = s .pre .1 .1 .1 .1 in
+    let li = s .pre .1 .1 .1 .0 in
+    let p = s .pre .1 .1 .1 .1 .1 in
+    let before = subst (λ (F : Format). StandingBefore F (now (a .index)) (now (a .list)) (now (a .numbers)) (a .n))
+    (sym (s .pre .0)) (s .pre .1 .1 .1 .1 .0) in
     let same = g .later (l .k) (le-refl (l .k)) in (
-      s .pre .0,
+      s .pre .1 .0,
       (
-        s .pre .1 .0,
+        s .pre .1 .1 .0,
         (
-          stands-before (now (a .index)) (now (a .list)) (now (a .numbers)) (a .n) (a .even) (now (a .x)) (l .k) (l .numbers) (l .x) g t
-              (s .pre .1 .1 .1 .0),
+          stands-before (a .format) (now (a .index)) (now (a .list)) (now (a .numbers)) (a .n) (a .even) (now (a .x))
+              (l .k) (l .numbers) (l .x) g t before,
           (li .its (l .k) t, omega (arith, p .2, t), g .long, g .rows-long, p .3, λ e. rw same (p .4 e (l .k) t), p .5),
         ),
       ),
@@ -62,19 +68,23 @@ loop-again c =
     let l = c .before .before .before .before .before .loop in
     let s = c .before .before .before .before .before .before .before .before in
     let a = s .args in
-    let p = s .pre .1 .1 .1 .1 in
+    let p = s .pre .1 .1 .1 .1 .1 in
     let t = c .before .before .before .before .loop-test .taken in (
       omega (arith, t),
-      gathering-more (now (a .index)) (now (a .list)) (now (a .numbers)) (a .n) (a .even) (now (a .x)) (l .k) (l .numbers) (l .x) (l .inv .1)
-          (p .5) _ _ (c .take-place .ensures),
+      gathering-more (a .format) (now (a .index)) (now (a .list)) (now (a .numbers)) (a .n) (a .even) (now (a .x))
+          (l .k) (l .numbers) (l .x) (l .inv .1) (p .5) _ _ (c .take-place .ensures),
     )
 
 returns : tie.Need-returns Inv-loop μ-loop
 returns c =
     let l = c .before .loop in
-    let a = c .before .before .before .before .args in
+    let s = c .before .before .before .before in
+    let a = s .args in
     let e : l .k ≡ length (now (a .list)) = omega (arith, l .inv .0, c .loop-test .left) in
-    gathering-all (now (a .index)) (now (a .list)) (now (a .numbers)) (a .n) (a .even) (now (a .x)) (l .k) (l .numbers) (l .x) (l .inv .1) e
+    subst (λ (F : Format). Gathered F (now (a .index)) (now (a .list)) (now (a .numbers)) (a .n) (a .even) (now (a .x)) (l .numbers) (l .x))
+    (s .pre .0)
+    (gathering-all (a .format) (now (a .index)) (now (a .list)) (now (a .numbers)) (a .n) (a .even) (now (a .x))
+    (l .k) (l .numbers) (l .x) (l .inv .1) e)
 
 pub gather-spec : {M : Type 1} → statement M
 gather-spec =

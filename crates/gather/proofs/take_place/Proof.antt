@@ -38,7 +38,8 @@ set-cursor-requires c κs =
     let p = s .pre .1 .1 .1 in
     let o = c .before .take .ensures .goes .in-order in
     let b = c .before .before .before .body .ensures .0 in
-    (omega (arith, p .1), p .2, next-low (now (s .args .index)) (s .args .b) _ (s .pre .0) (rw b at o), o .value-low)
+    let low = next-low (s .args .format) (now (s .args .index)) (s .args .b) _ (s .pre .0) (rw b at o) in
+    (omega (arith, p .1), p .2, low, o .value-low)
 
 returns : tie.Need-returns
 returns c =
@@ -46,8 +47,8 @@ returns c =
     let at = c .before .before .before .before .before .cursor-at in
     let b = c .before .before .before .before .body in
     let t = c .before .before .take in
-    place-taken (bodyAt (now (a .index)) (a .b)) (now (a .numbers)) (a .k) (a .n) (a .even) (now (a .x)) _ _ (t .result)
-    (now (b .result)) (at .result) (b .ensures .0) (at .ensures) (t .ensures) (c .set-cursor .ensures)
+    place-taken (a .format) (bodyAt (now (a .index)) (a .b)) (now (a .numbers)) (a .k) (a .n) (a .even) (now (a .x)) _ _
+    (t .result) (now (b .result)) (at .result) (b .ensures .0) (at .ensures) (t .ensures) (c .set-cursor .ensures)
 
 pub take-place-spec : {M : Type 1} → statement M
 take-place-spec =

@@ -2,33 +2,41 @@
 -- before it is in the slice alone.
 -- Assumes nothing.
 use Prim.Native.Nat.{ℕ, _+_, _-_, _*_, _≤_}
-use mathlib.Core.Path.{_≡_, sym, _∙_}
+use mathlib.Core.Path.{_≡_, sym, ap, _∙_, subst}
 use mathlib.Core.List.{List}
+use native.Mathlib.Nat.{mul-le-mul-left, mul-le-mul-right}
 use native.Mathlib.Omega.{arith}
 use borrow.Author.Needs.{needs}
 use denote.Ref.{now}
 use lib.ListN.{length}
-use Rattle.meaning.specs.Limits.{mostSegments}
-use Rattle.meaning.specs.Segment.{segmentCount}
-use Rattle.meaning.specs.Ewah.{segments}
+use Rattle.meaning.specs.Limits.{mostSegments, wordBits}
+use Rattle.meaning.specs.Format.{width, piecesOf, segmentsOf}
+use Rattle.meaning.specs.declared.Format.{Format}
+use Rattle.meaning.specs.Ahead.{NoneEmpty}
+use Rattle.meaning.proofs.Formats.{width-pos, width-le, facts-some, facts-count}
 use Rattle.meaning.proofs.RowWords.{rows-fit}
-use Rattle.ewah.specs.Cursors.{behind}
+use Rattle.bodies.specs.Walks.{behind}
+use Rattle.bodies.proofs.Loading.{due-low}
 use Rattle.column.specs.Outside.{outside, Lowest, SeenIn}
-use Rattle.column.proofs.Going.{Going, going-first, some-left, pass-within}
+use Rattle.meaning.proofs.Formats.{segments-most}
+use Rattle.column.proofs.Going.{Going, stands-first, going-first, some-left, pass-within}
 use Rattle.column.proofs.Going.{going-row, clear-some, clear-few, going-on}
 use Rattle.column.proofs.outside.first.Statement.{statement}
 use Rattle.column.proofs.outside.first.Tie as tie
 
 abbrev Inv-loop : tie.InvT-loop
-Inv-loop slice exists rows count c₀ e₀ o₀ c e o = Going slice exists count c e o
+Inv-loop format slice exists rows width count c₀ e₀ o₀ c e o = Going format slice exists count c e o
 
 abbrev μ-loop : tie.MeasureT-loop
-μ-loop slice exists rows count c₀ e₀ o₀ c e o = count - o
+μ-loop format slice exists rows width count c₀ e₀ o₀ c e o = count - o
 
 -- the segments are counted
-module _ (s : tie.After-segment-count Inv-loop μ-loop) where
+module _ (s : tie.After-segments Inv-loop μ-loop) where
   abbrev start : tie.Start Inv-loop μ-loop
-  start = s .before .before .before
+  start = s .before .before .before .before
+
+  abbrev format : Format
+  format = start .args .format
 
   abbrev slice : List ℕ
   slice = now (start .args .slice)
@@ -37,23 +45,40 @@ module _ (s : tie.After-segment-count Inv-loop μ-loop) where
   exists = now (start .args .exists)
 
   abbrev total : ℕ
-  total = s .segment-count .result
+  total = s .segments .result
+
+  -- the rows of a segment, as the code has read them
+  abbrev wide : ℕ
+  wide = s .before .width .result
+
+  wide-is : wide ≡ width format
+  wide-is = s .before .width .ensures
 
   few : total ≤ mostSegments
-  unfolding segmentCount
-  few = omega (arith, s .segment-count .ensures, start .pre .0)
+  few = omega (arith, s .segments .ensures, segments-most format (start .args .rows) (start .pre .0))
 
-  slice-total : length (segments slice) ≡ total
-  slice-total = start .pre .1 ∙ sym (s .segment-count .ensures)
+  slice-some : NoneEmpty (piecesOf format slice)
+  slice-some = facts-some format (start .args .rows) slice (start .pre .1)
 
-  exists-total : length (segments exists) ≡ total
-  exists-total = start .pre .2 ∙ sym (s .segment-count .ensures)
+  exists-some : NoneEmpty (piecesOf format exists)
+  exists-some = facts-some format (start .args .rows) exists (start .pre .2)
 
-  rows-within : start .args .rows ≤ total * 32
-  rows-within = omega (arith, s .segment-count .ensures, rows-fit 32 (omega arith) (start .args .rows))
+  slice-total : length (segmentsOf format slice) ≡ total
+  slice-total = facts-count format (start .args .rows) slice (start .pre .1) ∙ sym (s .segments .ensures)
+
+  exists-total : length (segmentsOf format exists) ≡ total
+  exists-total = facts-count format (start .args .rows) exists (start .pre .2) ∙ sym (s .segments .ensures)
+
+  rows-within : start .args .rows ≤ total * width format
+  rows-within =
+      let counted = ap (λ (k : ℕ). k * width format) (s .segments .ensures) in
+      omega (arith, counted, rows-fit (width format) (width-pos format) (start .args .rows))
+
+  rows-low : total * width format ≤ mostSegments * wordBits
+  rows-low = omega (arith, few, mul-le-mul-left total (width-le format))
 
 -- they were, from the loop's test
-abbrev counted : tie.In-loop Inv-loop μ-loop → tie.After-segment-count Inv-loop μ-loop
+abbrev counted : tie.In-loop Inv-loop μ-loop → tie.After-segments Inv-loop μ-loop
 counted i = i .before .before .before .before
 
 -- n segments are to be looked at
@@ -80,20 +105,28 @@ module _ (w : tie.After-common Inv-loop μ-loop) where
 seen : (l : tie.After-look Inv-loop μ-loop)
     → let b = l .before .before .before .loop in
     let s = counted (l .before .before) in
-    SeenIn (n (l .before)) (λ k. outside (slice s) (exists s) (b .o * 32 + k)) (l .look .result)
+    SeenIn (width (format s)) (n (l .before))
+    (λ k. outside (format s) (slice s) (exists s) (b .o * width (format s) + k)) (l .look .result)
 seen l =
     let b = l .before .before .before .loop in
     l .look .ensures (b .o) (b .inv .slice-at .ahead) (b .inv .exists-at .ahead)
 
-row-found : (c : tie.After-known-told Inv-loop μ-loop)
-    → let l = c .before .before .before in
-    let s = counted (l .before .before) in
-    let b = l .before .before .before .loop in
-    Lowest (total s * 32) (outside (slice s) (exists s)) (b .o * 32 + c .before .seen .given .0 .0)
-row-found c =
-    let l = c .before .before .before in
-    let g = l .before .before .before .loop .inv in
-    going-row g _ (within (l .before)) (l .look .result) (seen l) _ (c .before .seen .given .1)
+module _ (c : tie.After-known-told Inv-loop μ-loop) where
+  abbrev looked : tie.After-look Inv-loop μ-loop
+  looked = c .before .before .before
+
+  abbrev counts : tie.After-segments Inv-loop μ-loop
+  counts = counted (looked .before .before)
+
+  row-found : Lowest (total counts * width (format counts)) (outside (format counts) (slice counts) (exists counts))
+      (looked .before .before .before .loop .o * wide counts + c .before .seen .given .0 .0)
+  row-found =
+      let g = looked .before .before .before .loop .inv in
+      subst
+      (λ (k : ℕ). Lowest (total counts * width (format counts)) (outside (format counts) (slice counts) (exists counts))
+      (looked .before .before .before .loop .o * k + c .before .seen .given .0 .0))
+      (sym (wide-is counts))
+      (going-row g _ (within (looked .before)) (looked .look .result) (seen looked) _ (c .before .seen .given .1))
 
 clear-size : (c : tie.After-known-told2 Inv-loop μ-loop)
     → let m = c .before .seen2 .given .0 .0 in (1 ≤ m) × (m ≤ n (c .before .before .before .before))
@@ -105,20 +138,25 @@ clear-size c =
       clear-few g _ (within (l .before)) (l .look .result) (seen l) _ t,
     )
 
-segment-count-requires : tie.Need-segment-count-requires Inv-loop μ-loop
-segment-count-requires c κs = search needs
+width-requires : tie.Need-width-requires Inv-loop μ-loop
+width-requires c κs = search needs
+
+segments-requires : tie.Need-segments-requires Inv-loop μ-loop
+segments-requires c κs = search needs
 
 open-requires : tie.Need-open-requires Inv-loop μ-loop
-open-requires c κs = search needs
+open-requires c κs = slice-some c
 
 open-requires-2 : tie.Need-open-requires-2 Inv-loop μ-loop
-open-requires-2 c κs = search needs
+open-requires-2 c κs = exists-some (c .before)
 
 loop-holds : tie.Need-loop-holds Inv-loop μ-loop
 loop-holds c =
     let s = c .before .before in
     let f = c .before .«open» in
-    going-first (slice s) (exists s) (total s) (f .result) (c .open2 .result) (f .ensures) (c .open2 .ensures)
+    going-first (format s) (slice s) (exists s) (total s) (f .result) (c .open2 .result)
+    (stands-first (format s) (slice s) (f .result) (slice-some s) (f .ensures))
+    (stands-first (format s) (exists s) (c .open2 .result) (exists-some s) (c .open2 .ensures))
 
 sub-common : tie.Need-sub-common Inv-loop μ-loop
 sub-common c = search needs
@@ -128,8 +166,8 @@ common-requires c κs =
     let g = c .before .loop .inv in
     let s = counted c in
     let t = c .loop-test .taken in (
-      g .slice-at .in-order .dirty-low,
-      g .exists-at .in-order .dirty-low,
+      omega (arith, g .slice-at .in-order .dirty-low, due-low (format s)),
+      omega (arith, g .exists-at .in-order .dirty-low, due-low (format s)),
       some-left (g .slice-at) (omega (arith, slice-total s, t)),
       some-left (g .exists-at) (omega (arith, exists-total s, t)),
       omega (arith, t),
@@ -157,12 +195,10 @@ enum-known-seen : tie.Need-enum-known-seen Inv-loop μ-loop
 enum-known-seen c = search needs
 
 mul-row-below : tie.Need-mul-row-below Inv-loop μ-loop
-mul-row-below c =
-    let i = c .before .before .before .before .before in
-    omega (arith, i .loop-test .taken, few (counted i))
+mul-row-below c = omega (arith, row-found c .below, rows-low (counts c))
 
 add-row-below : tie.Need-add-row-below Inv-loop μ-loop
-add-row-below c = omega (arith, row-found c .below, few (counted (c .before .before .before .before .before)))
+add-row-below c = omega (arith, row-found c .below, rows-low (counts c))
 
 row-below-requires : tie.Need-row-below-requires Inv-loop μ-loop
 row-below-requires c κs = search needs
@@ -211,7 +247,8 @@ returns-2 : tie.Need-returns-2 Inv-loop μ-loop
 returns-2 c =
     let l = c .before .loop in
     let s = c .before .before .before .before in
-    λ r h. l .inv .none r (omega (arith, rows-within s, c .loop-test .left))
+    let all = mul-le-mul-right (width (format s)) (c .loop-test .left) in
+    λ r h. l .inv .none r (omega (arith, rows-within s, all))
 
 pub first-spec : {M : Type 1} → statement M
 first-spec =
@@ -219,7 +256,8 @@ first-spec =
     (tie.spec
     Inv-loop
     μ-loop
-    segment-count-requires
+    width-requires
+    segments-requires
     open-requires
     open-requires-2
     loop-holds

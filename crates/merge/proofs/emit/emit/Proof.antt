@@ -9,21 +9,27 @@ use Rattle.merge.proofs.emit.emit.Tie as tie
 push-requires : tie.Need-push-requires
 push-requires c κs =
     let p = c .before .before .before .pre in
-    (p .1 .1 (c .before .if1 .taken), p .1 .0 .1)
+    (p .1 .1 (c .before .if1 .taken), p .1 .0)
 
 same-length : tie.Need-same-length
 same-length c = search needs
 
 returns : tie.Need-returns
-returns c =
-    let q = c .before .before .push .ensures in
-    record { grown = q .grown; stored = λ e. q; kept = λ e. absurd (true≢false (sym (c .before .before .before .before .if1 .taken) ∙ e)) }
+returns c = λ real m.
+    let q = c .before .before .push .ensures real m in
+    let t = c .before .before .before .before .if1 .taken in
+    record { grown = q .grown; stored = λ e. q; kept = λ e. absurd (true≢false (sym t ∙ e)) }
 
 grow-requires : tie.Need-grow-requires
 grow-requires c κs = search needs
 
 returns-2 : tie.Need-returns-2
-returns-2 c = record { grown = c .grow .ensures; stored = λ e. absurd (true≢false (sym e ∙ c .before .if1 .left)); kept = λ e. refl }
+returns-2 c = λ real m.
+    record {
+      grown = c .grow .ensures;
+      stored = λ e. absurd (true≢false (sym e ∙ c .before .if1 .left));
+      kept = λ e. refl;
+    }
 
 pub emit-spec : {M : Type 1} → statement M
 emit-spec = tie.close (tie.spec push-requires same-length returns grow-requires returns-2)

@@ -1,65 +1,110 @@
--- `merge::engine::merge` meets its contract. The invariant: the cursors are on their way at segment o, and the writer has put the
--- answer's first o segments.
+-- `merge::engine::merge` meets its contract. The invariant: the cursors are on their way at segment o, and the writer has
+-- put the answer's first o segments.
 -- Assumes nothing.
 use Prim.Native.Nat.{ℕ, _-_}
-use mathlib.Core.Path.{_≡_, ap, _∙_, subst}
+use mathlib.Core.Path.{subst}
+use mathlib.Core.List.{List, []}
 use denote.Ref.{now}
-use Rattle.meaning.specs.Segment.{segmentCount}
-use Rattle.meaning.specs.Index.{rowCount}
+use Rattle.meaning.specs.declared.Format.{Format}
+use Rattle.meaning.specs.Index.{formatOf}
+use Rattle.body_write.specs.Bodies.{Stands}
 use Rattle.walk.specs.Surveys.{Surveyed}
-use Rattle.merge.proofs.Along.{NextStretch, along-none, next-stretch}
-use Rattle.merge.proofs.Merging.{Merging, merging-none, merging-more, merging-all, used-low, steps-low, part-low, room}
+use Rattle.merge.proofs.Along.{Laid, laid, NextStretch, along-none, next-stretch, mask-of}
+use Rattle.merge.proofs.Merging.{Merging, merging-none, merging-more, merging-all, steps-low, may-emit}
 use borrow.Author.Needs.{needs}
 use native.Mathlib.Omega.{arith}
 use Rattle.merge.proofs.engine.merge.Statement.{statement}
 use Rattle.merge.proofs.engine.merge.Tie as tie
 
 abbrev Inv-loop : tie.InvT-loop
-Inv-loop index list op table out₀ store rows segments q₀ s₀ w₀ o₀ stretches₀ out q s w o stretches = Merging index list op table out₀ store out (q .numbers) s w o stretches
+Inv-loop index list op table out₀ store format rows segments full last q₀ s₀ w₀ o₀ stretches₀ out q s w o stretches =
+    Merging index list op table out₀ store out (q .numbers) s w o stretches
 
 abbrev μ-loop : tie.MeasureT-loop
-μ-loop index list op table out₀ store rows segments q₀ s₀ w₀ o₀ stretches₀ out q s w o stretches = segments - o
+μ-loop index list op table out₀ store format rows segments full last q₀ s₀ w₀ o₀ stretches₀ out q s w o stretches =
+    segments - o
 
--- at the loop's test: the call, and how many segments there are
+-- at the loop's test: the call, and the index's rows in segments
 module _ (t : tie.At-loop Inv-loop μ-loop) where
+  abbrev last : tie.After-last-mask Inv-loop μ-loop
+  last = t .before .before .before .before
+
+  abbrev format : tie.After-format Inv-loop μ-loop
+  format = last .before .before .before .before
+
   abbrev call : tie.Start Inv-loop μ-loop
-  call = t .before .before .before .before .before .before .before .before .before .before
+  call = format .before .before .before .before .before
 
-  total : t .before .before .before .before .segment-count .result ≡ segmentCount 32 (rowCount (now (call .args .index)))
-  total = t .before .before .before .before .segment-count .ensures ∙ ap (segmentCount 32) (t .before .before .before .before .before .rows .ensures)
+  abbrev index : List ℕ
+  index = now (call .args .index)
 
--- in its body: the next stretch
-next : (i : tie.In-loop Inv-loop μ-loop) → NextStretch (now (call (i .before) .args .index)) (now (call (i .before) .args .list)) (i .before .loop .q .numbers) (i .before .loop .s) (i .before .loop .o)
-next i = next-stretch (i .before .loop .inv .along) (call (i .before) .pre .0 .walkable) (omega (arith, i .loop-test .taken, total (i .before)))
+  layout : Laid index (format .format .result) (last .before .before .segments .result) (last .before .full .result)
+      (last .last-mask .result)
+  layout =
+      laid index (format .format .ensures) (last .before .before .before .rows .ensures)
+      (last .before .before .segments .ensures) (last .before .full .ensures) (last .last-mask .ensures)
+
+  -- the next stretch
+  abbrev Next : Type 0
+  Next = NextStretch index (now (call .args .list)) (t .loop .q .numbers) (t .loop .s) (t .loop .o)
+
+-- in its body
+next : (i : tie.In-loop Inv-loop μ-loop) → Next (i .before)
+next i =
+    let t = i .before in
+    next-stretch (t .loop .inv .along) (call t .pre .0 .walkable)
+    (omega (arith, i .loop-test .taken, layout t .total))
+
+format-requires : tie.Need-format-requires Inv-loop μ-loop
+format-requires c κs = c .before .before .before .before .pre .0 .walkable .facts .head .head
 
 rows-requires : tie.Need-rows-requires Inv-loop μ-loop
-rows-requires c κs = c .before .before .before .before .pre .0 .walkable .facts .head .head
+rows-requires c κs = c .before .before .before .before .before .pre .0 .walkable .facts .head .head
 
-segment-count-requires : tie.Need-segment-count-requires Inv-loop μ-loop
-segment-count-requires c κs = omega (arith, c .rows .ensures, c .before .before .before .before .before .pre .0 .walkable .facts .head .few-rows)
+segments-requires : tie.Need-segments-requires Inv-loop μ-loop
+segments-requires c κs =
+    let s = c .before .before .before .before .before .before in
+    omega (arith, c .rows .ensures, s .pre .0 .walkable .facts .head .few-rows)
+
+full-requires : tie.Need-full-requires Inv-loop μ-loop
+full-requires c κs = search needs
+
+last-mask-requires : tie.Need-last-mask-requires Inv-loop μ-loop
+last-mask-requires c κs = search needs
 
 open-requires : tie.Need-open-requires Inv-loop μ-loop
-open-requires c κs = let w = c .before .before .before .before .before .before .pre .0 .walkable in (w .facts .head, (w .facts .entries, w .listed))
+open-requires c κs =
+    let f = c .before .before .before .before in
+    let w = f .before .before .before .before .before .pre .0 .walkable in
+    (f .format .ensures, (w .facts, w .listed))
 
 all-requires : tie.Need-all-requires Inv-loop μ-loop
 all-requires c κs =
-    let s = c .before .before .before .before .before .before .before in
-    let e = c .«open» .ensures in
-    (omega (arith, e .0, s .pre .0 .walkable .listed .most), e .1, λ i h. e .2 i (omega (arith, e .0)) .in-order .value-low)
+    let s = c .before .before .before .before .before .before .before .before .before .before in
+    let e = c .«open» .ensures in (
+      omega (arith, e .0, s .pre .0 .walkable .listed .most),
+      e .1,
+      λ i h. e .2 i (omega (arith, e .0)) .in-order .value-low,
+    )
 
 start-requires : tie.Need-start-requires Inv-loop μ-loop
 start-requires c κs = search needs
 
 loop-holds : tie.Need-loop-holds Inv-loop μ-loop
 loop-holds c =
-    let e = c .before .before .«open» .ensures in
-    merging-none (along-none (e .2) (e .1) (subst (λ (m : ℕ). Surveyed (c .before .before .«open» .result .numbers) m (c .before .all .result)) (e .0) (c .before .all .ensures))) (c .start .ensures)
+    let a = c .before in
+    let q = a .before .«open» .result in
+    let e = a .before .«open» .ensures in
+    let f = a .before .before .before .before .before .before .format .ensures in
+    merging-none
+    (along-none (e .2) (e .1) (subst (λ (m : ℕ). Surveyed (q .numbers) m (a .all .result)) (e .0) (a .all .ensures)))
+    (subst (λ (F : Format). Stands F (c .start .result) []) f (c .start .ensures))
 
 add-mask-before : tie.Need-add-mask-before Inv-loop μ-loop
-add-mask-before c = omega (arith, next c .end-fits)
+add-mask-before c = omega (arith, next c .few)
 
 mask-before-requires : tie.Need-mask-before-requires Inv-loop μ-loop
-mask-before-requires c κs = (c .before .before .before .before .before .segment-count .ensures, omega (arith, next c .is .some), omega (arith, next c .is .within, total (c .before)))
+mask-before-requires c κs = search needs
 
 evaluate-requires : tie.Need-evaluate-requires Inv-loop μ-loop
 evaluate-requires c κs =
@@ -69,26 +114,30 @@ evaluate-requires c κs =
 
 emit-requires : tie.Need-emit-requires Inv-loop μ-loop
 emit-requires c κs =
-    let i = c .before .before .before in
-    let g = i .before .loop .inv in
-    let m = rw (i .before .before .before .before .before .before .rows .ensures) at (c .before .before .mask-before .ensures) in
-    let e = c .before .evaluate .ensures in
-    ((_, g .tracks), ((omega (arith, used-low g, next i .end-fits), part-low g (next i) m e), room g (next i) m e (call (i .before) .pre .1)))
+    let e = c .before in
+    let i = e .before .before in
+    let t = i .before in
+    let d = layout t in
+    may-emit (t .loop .inv) (next i) (mask-of (next i) d (e .before .mask-before .ensures))
+    (e .evaluate .ensures (formatOf (index t)) (d .full-is)) (d .format-is) (call t .pre .1)
 
 advance-requires : tie.Need-advance-requires Inv-loop μ-loop
 advance-requires c κs =
     let i = c .before .before .before .before .before .before .before in
     let w = call (i .before) .pre .0 .walkable in
     let a = i .before .loop .inv .along in
-    (w .facts .head, (w .facts .entries, (w .listed, (a .long, next i .is .some, λ k h. (next i .left-each k h, a .standing k h .in-order)))))
+    let n = next i in (
+      layout (i .before) .format-is,
+      (w .facts .head, (w .facts .entries, (w .listed, (a .long, n .is .some, λ k h. (n .left-each k h, a .standing k h .in-order))))),
+    )
 
 add-o : tie.Need-add-o Inv-loop μ-loop
-add-o c = omega (arith, next (c .before .before .before .before .before .before .before .before) .end-fits)
+add-o c = omega (arith, next (c .before .before .before .before .before .before .before .before) .few)
 
 add-stretches : tie.Need-add-stretches Inv-loop μ-loop
 add-stretches c =
     let i = c .before .before .before .before .before .before .before .before in
-    omega (arith, steps-low (i .before .loop .inv), next i .end-fits)
+    omega (arith, steps-low (i .before .loop .inv), next i .few)
 
 loop-less : tie.Need-loop-less Inv-loop μ-loop
 loop-less c =
@@ -100,14 +149,17 @@ loop-again c =
     let w = c .before .before .before .before in
     let e = w .before .before in
     let i = e .before .before in
-    let m = rw (i .before .before .before .before .before .before .rows .ensures) at (e .before .mask-before .ensures) in
-    merging-more (i .before .loop .inv) (next i) m (e .evaluate .ensures) (w .emit .ensures) (w .emit .kept .0) (c .advance .ensures)
+    let t = i .before in
+    let d = layout t in
+    merging-more (t .loop .inv) (next i) (mask-of (next i) d (e .before .mask-before .ensures))
+    (e .evaluate .ensures (formatOf (index t)) (d .full-is)) (d .format-is)
+    (w .emit .ensures) (w .emit .kept .1 .0) (c .advance .ensures)
 
 same-length : tie.Need-same-length Inv-loop μ-loop
 same-length c = c .before .loop .inv .same
 
 returns : tie.Need-returns Inv-loop μ-loop
-returns c = merging-all (c .before .loop .inv) (omega (arith, total (c .before), c .loop-test .left))
+returns c = merging-all (c .before .loop .inv) (omega (arith, layout (c .before) .total, c .loop-test .left))
 
 pub merge-spec : {M : Type 1} → statement M
 merge-spec =
@@ -115,8 +167,11 @@ merge-spec =
     (tie.spec
     Inv-loop
     μ-loop
+    format-requires
     rows-requires
-    segment-count-requires
+    segments-requires
+    full-requires
+    last-mask-requires
     open-requires
     all-requires
     start-requires

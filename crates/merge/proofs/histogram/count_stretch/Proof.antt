@@ -1,7 +1,10 @@
 -- `merge::histogram::count_stretch` meets its contract: each way is a law of `Histograms`.
 -- Assumes nothing.
+use Prim.Native.Nat.{_-_, _*_, _≤_}
+use native.Mathlib.Nat.{mul-le-mul}
 use borrow.Author.Needs.{needs}
 use native.Mathlib.Omega.{arith}
+use Rattle.meaning.specs.Limits.{mostSegments}
 use Rattle.meaning.specs.Segment.{isSet}
 use Rattle.meaning.proofs.Counting.{count-le}
 use Rattle.merge.proofs.Histograms.{clean-counted, mixed-counted}
@@ -12,9 +15,10 @@ add-to-histogram-requires : tie.Need-add-to-histogram-requires
 add-to-histogram-requires c κs = search needs
 
 returns : tie.Need-returns
-returns c =
+returns c = λ F w-is.
     let s = c .before .before .before in
-    mixed-counted (s .args .counts) (s .args .s) (s .args .mask) (λ z. omega arith) _ (c .add-to-histogram .ensures .0) (c .add-to-histogram .ensures .1)
+    let r = c .add-to-histogram .ensures in
+    mixed-counted F (s .args .counts) (s .args .s) (s .args .mask) (λ z. omega arith) _ (r .0) (r .1)
 
 cast-k : tie.Need-cast-k
 cast-k c = search needs
@@ -28,19 +32,31 @@ array-read-r c = search needs
 sub-r : tie.Need-sub-r
 sub-r c = search needs
 
+-- the segments before the last have no more rows than there can be
+whole-most : (s : tie.Start) → (s .args .s .least - 1) * s .args .width ≤ mostSegments * 32
+whole-most s = let few : s .args .s .least - 1 ≤ mostSegments = omega (arith, s .pre .2) in mul-le-mul few (s .pre .3)
+
 mul-r-2 : tie.Need-mul-r-2
-mul-r-2 c = search needs
+mul-r-2 c = omega (arith, whole-most (c .before))
 
 count-requires : tie.Need-count-requires
 count-requires c κs = search needs
 
 add-r : tie.Need-add-r
-add-r c = omega (arith, c .count .ensures, count-le 32 (isSet (c .before .before .args .mask)))
+add-r c =
+    let s = c .before .before in
+    omega (arith, whole-most s, c .count .ensures, count-le 32 (isSet (s .args .mask)))
 
 add-r-2 : tie.Need-add-r-2
 add-r-2 c =
     let s = c .before .before in
-    omega (arith, c .count .ensures, count-le 32 (isSet (s .args .mask)), s .pre .3 (s .args .s .ones) (omega arith))
+    omega (
+      arith,
+      whole-most s,
+      c .count .ensures,
+      count-le 32 (isSet (s .args .mask)),
+      s .pre .4 (s .args .s .ones) (omega arith),
+    )
 
 mul-r-3 : tie.Need-mul-r-3
 mul-r-3 c = search needs
@@ -49,9 +65,11 @@ array-write-r : tie.Need-array-write-r
 array-write-r c = search needs
 
 returns-2 : tie.Need-returns-2
-returns-2 c =
+returns-2 c = λ F w-is.
     let s = c .before .before in
-    rw (c .count .ensures) (clean-counted (s .args .counts) (s .args .s) (s .args .mask) (search needs) (omega (arith, s .pre .0)) (omega arith))
+    let a = s .args in
+    rw (c .count .ensures, w-is)
+    (clean-counted F (a .counts) (a .s) (a .mask) (search needs) (omega (arith, s .pre .0)) (omega arith))
 
 pub count-stretch-spec : {M : Type 1} → statement M
 count-stretch-spec =

@@ -1,94 +1,145 @@
--- `merge::histogram::histogram` meets its contract. The invariant: the cursors are on their way at segment o, and the counts are
--- the histogram of the first o segments.
+-- `merge::histogram::histogram` meets its contract. The invariant: the cursors are on their way at segment o, and the
+-- counts are the histogram of the first o segments.
 -- Assumes nothing.
 use Prim.Native.Nat.{ℕ, _-_}
 use mathlib.Core.Path.{_≡_, ap, _∙_, subst}
+use mathlib.Core.List.{List}
 use lib.ListN.{length-replicate, getD-replicate}
 use denote.Ref.{now}
 use Rattle.meaning.specs.Limits.{histogramCounts}
-use Rattle.meaning.specs.Segment.{segmentCount}
-use Rattle.meaning.specs.Index.{rowCount}
+use Rattle.meaning.specs.Format as format
+use Rattle.meaning.specs.Index.{formatOf}
+use Rattle.meaning.proofs.Formats.{width-le}
 use Rattle.walk.specs.Surveys.{Surveyed}
-use Rattle.merge.proofs.Along.{NextStretch, along-none, next-stretch}
+use Rattle.merge.proofs.Along.{Laid, laid, NextStretch, along-none, next-stretch, mask-of}
 use Rattle.merge.proofs.Histograms.{Counting, counting-none, counting-more, counting-all, entries-low}
+use borrow.Author.Needs.{needs}
 use native.Mathlib.Omega.{arith}
 use Rattle.merge.proofs.histogram.histogram.Statement.{statement}
 use Rattle.merge.proofs.histogram.histogram.Tie as tie
 
 abbrev Inv-loop : tie.InvT-loop
-Inv-loop index list rows segments q₀ s₀ counts₀ o₀ q s counts o = Counting index list (q .numbers) s counts o
+Inv-loop index list format rows segments width full last q₀ s₀ counts₀ o₀ q s counts o =
+    Counting index list (q .numbers) s counts o
 
 abbrev μ-loop : tie.MeasureT-loop
-μ-loop index list rows segments q₀ s₀ counts₀ o₀ q s counts o = segments - o
+μ-loop index list format rows segments width full last q₀ s₀ counts₀ o₀ q s counts o = segments - o
 
--- at the loop's test: the call, and how many segments there are
+-- at the loop's test: the call, and the index's rows in segments
 module _ (t : tie.At-loop Inv-loop μ-loop) where
+  abbrev last : tie.After-last-mask Inv-loop μ-loop
+  last = t .before .before .before
+
+  abbrev rows : tie.After-rows Inv-loop μ-loop
+  rows = last .before .before .before .before
+
   abbrev call : tie.Start Inv-loop μ-loop
-  call = t .before .before .before .before .before .before .before
+  call = rows .before .before .before .before
 
-  total : t .before .before .before .segment-count .result ≡ segmentCount 32 (rowCount (now (call .args .index)))
-  total = t .before .before .before .segment-count .ensures ∙ ap (segmentCount 32) (t .before .before .before .before .rows .ensures)
+  abbrev index : List ℕ
+  index = now (call .args .index)
 
--- in its body: the next stretch
-next : (i : tie.In-loop Inv-loop μ-loop) → NextStretch (now (call (i .before) .args .index)) (now (call (i .before) .args .list)) (i .before .loop .q .numbers) (i .before .loop .s) (i .before .loop .o)
-next i = next-stretch (i .before .loop .inv .along) (call (i .before) .pre) (omega (arith, i .loop-test .taken, total (i .before)))
+  layout : Laid index (rows .before .format .result) (last .before .before .before .segments .result)
+      (last .before .full .result) (last .last-mask .result)
+  layout =
+      laid index (rows .before .format .ensures) (rows .rows .ensures) (last .before .before .before .segments .ensures)
+      (last .before .full .ensures) (last .last-mask .ensures)
+
+  width-is : last .before .before .width .result ≡ format.width (formatOf index)
+  width-is = last .before .before .width .ensures ∙ ap format.width (layout .format-is)
+
+  -- the next stretch
+  abbrev Next : Type 0
+  Next = NextStretch index (now (call .args .list)) (t .loop .q .numbers) (t .loop .s) (t .loop .o)
+
+-- in its body
+next : (i : tie.In-loop Inv-loop μ-loop) → Next (i .before)
+next i =
+    let t = i .before in
+    next-stretch (t .loop .inv .along) (call t .pre) (omega (arith, i .loop-test .taken, layout t .total))
+
+format-requires : tie.Need-format-requires Inv-loop μ-loop
+format-requires c κs = c .before .before .pre .facts .head .head
 
 rows-requires : tie.Need-rows-requires Inv-loop μ-loop
-rows-requires c κs = c .before .before .pre .facts .head .head
+rows-requires c κs = c .before .before .before .pre .facts .head .head
 
-segment-count-requires : tie.Need-segment-count-requires Inv-loop μ-loop
-segment-count-requires c κs = omega (arith, c .rows .ensures, c .before .before .before .pre .facts .head .few-rows)
+segments-requires : tie.Need-segments-requires Inv-loop μ-loop
+segments-requires c κs = omega (arith, c .rows .ensures, c .before .before .before .before .pre .facts .head .few-rows)
+
+width-requires : tie.Need-width-requires Inv-loop μ-loop
+width-requires c κs = search needs
+
+full-requires : tie.Need-full-requires Inv-loop μ-loop
+full-requires c κs = search needs
+
+last-mask-requires : tie.Need-last-mask-requires Inv-loop μ-loop
+last-mask-requires c κs = search needs
 
 open-requires : tie.Need-open-requires Inv-loop μ-loop
-open-requires c κs = let w = c .before .before .before .before .pre in (w .facts .head, (w .facts .entries, w .listed))
+open-requires c κs =
+    let f = c .before .before .before .before .before in
+    let w = f .before .before .before .pre in
+    (f .format .ensures, (w .facts, w .listed))
 
 all-requires : tie.Need-all-requires Inv-loop μ-loop
 all-requires c κs =
-    let s = c .before .before .before .before .before in
+    let s = c .before .before .before .before .before .before .before .before .before in
     let e = c .«open» .ensures in
     (omega (arith, e .0, s .pre .listed .most), e .1, λ i h. e .2 i (omega (arith, e .0)) .in-order .value-low)
 
 loop-holds : tie.Need-loop-holds Inv-loop μ-loop
 loop-holds c =
+    let q = c .before .«open» .result in
     let e = c .before .«open» .ensures in
     counting-none
-    (along-none (e .2) (e .1) (subst (λ (m : ℕ). Surveyed (c .before .«open» .result .numbers) m (c .all .result)) (e .0) (c .all .ensures)))
+    (along-none (e .2) (e .1) (subst (λ (m : ℕ). Surveyed (q .numbers) m (c .all .result)) (e .0) (c .all .ensures)))
     (length-replicate {A = ℕ} histogramCounts 0) (λ k h. getD-replicate {A = ℕ} histogramCounts k 0 0 h)
 
 add-mask-before : tie.Need-add-mask-before Inv-loop μ-loop
-add-mask-before c = omega (arith, next c .end-fits)
+add-mask-before c = omega (arith, next c .few)
 
 mask-before-requires : tie.Need-mask-before-requires Inv-loop μ-loop
-mask-before-requires c κs = (c .before .before .before .before .segment-count .ensures, omega (arith, next c .is .some), omega (arith, next c .is .within, total (c .before)))
+mask-before-requires c κs = search needs
 
 count-stretch-requires : tie.Need-count-stretch-requires Inv-loop μ-loop
 count-stretch-requires c κs =
     let n = next (c .before) in
-    let t = c .before .before in
-    (n .held-low, n .is .some, n .clean-low, entries-low (t .loop .inv) (call t .pre .facts .head .few-rows), n .counts-low)
+    let t = c .before .before in (
+      n .held-low,
+      n .is .some,
+      omega (arith, n .few),
+      omega (arith, width-is t, width-le (formatOf (index t))),
+      entries-low (t .loop .inv) (call t .pre .facts .head .few-rows),
+      n .counts-low,
+    )
 
 advance-requires : tie.Need-advance-requires Inv-loop μ-loop
 advance-requires c κs =
     let i = c .before .before .before in
     let w = call (i .before) .pre in
     let a = i .before .loop .inv .along in
-    (w .facts .head, (w .facts .entries, (w .listed, (a .long, next i .is .some, λ k h. (next i .left-each k h, a .standing k h .in-order)))))
+    let n = next i in (
+      layout (i .before) .format-is,
+      (w .facts .head, (w .facts .entries, (w .listed, (a .long, n .is .some, λ k h. (n .left-each k h, a .standing k h .in-order))))),
+    )
 
 add-o : tie.Need-add-o Inv-loop μ-loop
-add-o c = omega (arith, next (c .before .before .before .before) .end-fits)
+add-o c = omega (arith, next (c .before .before .before .before) .few)
 
 loop-less : tie.Need-loop-less Inv-loop μ-loop
 loop-less c = let i = c .before .before .before .before in omega (arith, next i .is .some, i .loop-test .taken)
 
 loop-again : tie.Need-loop-again Inv-loop μ-loop
 loop-again c =
-    let k = c .before .before in
-    let i = k .before .before in
-    let m = rw (i .before .before .before .before .before .rows .ensures) at (k .before .mask-before .ensures) in
-    counting-more (i .before .loop .inv) (next i) m (k .count-stretch .ensures) (c .advance .ensures)
+    let d = c .before .before in
+    let i = d .before .before in
+    let t = i .before in
+    counting-more (t .loop .inv) (next i) (mask-of (next i) (layout t) (d .before .mask-before .ensures))
+    (d .count-stretch .ensures (formatOf (index t)) (width-is t)) (c .advance .ensures)
 
 returns : tie.Need-returns Inv-loop μ-loop
-returns c = counting-all (c .before .loop .inv) (omega (arith, total (c .before), c .loop-test .left))
+returns c = counting-all (c .before .loop .inv) (omega (arith, layout (c .before) .total, c .loop-test .left))
 
 pub histogram-spec : {M : Type 1} → statement M
 histogram-spec =
@@ -96,8 +147,12 @@ histogram-spec =
     (tie.spec
     Inv-loop
     μ-loop
+    format-requires
     rows-requires
-    segment-count-requires
+    segments-requires
+    width-requires
+    full-requires
+    last-mask-requires
     open-requires
     all-requires
     loop-holds

@@ -1,13 +1,14 @@
 -- `new_index::writers::emit_all` meets its contract: by `going-more`, each round puts one row more to its body's part.
 -- Assumes nothing.
-use Prim.Native.Nat.{ℕ, _+_, _-_, _^_, _≤_, _<_}
+use Prim.Native.Nat.{ℕ, _+_, _-_, _≤_, _<_}
 use mathlib.Core.Bool.{Bool}
 use mathlib.Core.Path.{_≡_, _∙_}
 use mathlib.Core.List.{List}
 use denote.Ref.{now}
 use lib.ListN.{length, getD}
 use Rattle.meaning.specs.Limits.{mostValueColumn, blockSegments, writersNumbers}
-use Rattle.ewah_write.specs.Drafts.{Writing}
+use Rattle.meaning.specs.declared.Format.{Format}
+use Rattle.body_write.specs.Bodies.{Growing}
 use Rattle.new_index.specs.Writers.{writerOf, Laid, region, rowLength, rowOf}
 use Rattle.new_index.proofs.Regions.{Going, going-none, going-more, going-all}
 use Rattle.new_index.proofs.RowParts.{row-low, row-is, row-first, row-each}
@@ -17,16 +18,19 @@ use Rattle.new_index.proofs.writers.emit_all.Statement.{statement}
 use Rattle.new_index.proofs.writers.emit_all.Tie as tie
 
 abbrev Inv-loop : tie.InvT-loop
-Inv-loop out₀ starts numbers₀ rows count n even store long words i₀ out numbers i =
-    (i ≤ count) × Going starts out₀ numbers₀ count (rowOf rows n even) store out numbers i
+Inv-loop format out₀ starts numbers₀ rows count n even mask store long words i₀ out numbers i =
+    (i ≤ count) × Going format mask starts out₀ numbers₀ count (rowOf format rows n even) store out numbers i
 
 abbrev μ-loop : tie.MeasureT-loop
-μ-loop out₀ starts numbers₀ rows count n even store long words i₀ out numbers i = count - i
+μ-loop format out₀ starts numbers₀ rows count n even mask store long words i₀ out numbers i = count - i
 
 -- at the loop's test: the next body's part, its writer and its row
 module _ (i : tie.In-loop Inv-loop μ-loop) where
   abbrev call : tie.Start Inv-loop μ-loop
   call = i .before .before .before .before .before .before
+
+  abbrev F : Format
+  F = call .args .format
 
   abbrev starts : List ℕ
   starts = now (call .args .starts)
@@ -70,8 +74,8 @@ module _ (i : tie.In-loop Inv-loop μ-loop) where
   same-writer : writerOf numbers k ≡ writerOf (now (call .args .numbers)) k
   same-writer = i .before .loop .inv .1 .ahead k (omega arith)
 
-  writing : Writing (writerOf numbers k) × (writerOf numbers k .used < 2 ^ 60)
-  writing = rw same-writer (call .pre .1 .1 .0 k inside)
+  growing : Growing F (writerOf numbers k) n
+  growing = rw same-writer (call .pre .1 .1 .0 k inside)
 
   -- its place is one that the numbers have
   place : (k < mostValueColumn) × (length numbers ≡ writersNumbers)
@@ -90,7 +94,7 @@ row-length-requires : tie.Need-row-length-requires Inv-loop μ-loop
 row-length-requires c κs = search needs
 
 loop-holds : tie.Need-loop-holds Inv-loop μ-loop
-loop-holds c = (omega arith, going-none _ _ _ _ _ _)
+loop-holds c = (omega arith, going-none _ _ _ _ _ _ _ _)
 
 mul-from : tie.Need-mul-from Inv-loop μ-loop
 mul-from c = search needs
@@ -111,7 +115,7 @@ mul-row : tie.Need-mul-row Inv-loop μ-loop
 mul-row c = search needs
 
 writer-at-requires : tie.Need-writer-at-requires Inv-loop μ-loop
-writer-at-requires c κs = let i = c .before .before .before in (place i, writing i .0)
+writer-at-requires c κs = let i = c .before .before .before in (place i, (F i, n i, growing i))
 
 mul-emit-row : tie.Need-mul-emit-row Inv-loop μ-loop
 mul-emit-row c = let i = c .before .before .before .before in omega (arith, in-order i, within i)
@@ -145,17 +149,18 @@ emit-row-requires c κs =
     let i = c .before .before .before .before .before .before in
     let p = call i .pre in
     let w = c .before .before .writer-at .ensures in
-    let few = place i .0 in (
-      rw w (writing i .0),
+    let few = place i .0 in
+    let is = row-is (F i) (rows i) (n i) (even i) (k i) (long i) (long-is i) in (
+      rw w (growing i),
       (
         (
-          rw w (writing i .1),
           p .0 .3,
           p .0 .4,
-          λ t. row-first (rows i) (n i) (even i) (k i) (long i) (long-is i) (p .0 .2) few (long-low i) t (p .1 .1 .1 .0 t (k i) (inside i)),
-          λ t. row-each (rows i) (n i) (even i) (k i) (long i) (long-is i) (p .0 .2) few (long-low i) t (p .0 .5 t),
+          λ t. row-first (F i) (rows i) (n i) (even i) (k i) (long i) (long-is i) (p .0 .2) few (long-low i) t
+              (p .1 .1 .1 .0 t (k i) (inside i)),
+          λ t. row-each (F i) (rows i) (n i) (even i) (k i) (long i) (long-is i) (p .0 .2) few (long-low i) t,
         ),
-        λ t. rw (w, same-writer i, row-is (rows i) (n i) (even i) (k i) (long i) (long-is i), same-part i) (p .1 .1 .1 .1 t (k i) (inside i)),
+        λ t. rw (w, same-writer i, is, same-part i) (p .1 .1 .1 .1 t (k i) (inside i)),
       ),
     )
 
@@ -175,9 +180,11 @@ loop-again c =
     let e = c .before .before .before .before .emit-row in
     let w = c .before .before .before .before .before .before .before .writer-at .ensures in (
       omega (arith, inside i),
-      going-more (starts i) (now (a .out)) (now (a .numbers)) (count i) (rowOf (rows i) (n i) (even i)) (a .store) (laid i)
-          (out i) (numbers i) (k i) (i .before .loop .inv .1) (inside i) (e .last .0) (e .result) (e .kept .0)
-          (rw (w, row-is (rows i) (n i) (even i) (k i) (long i) (long-is i)) at (e .ensures)) (c .set-writer .last .0) (c .set-writer .ensures),
+      going-more (F i) (a .mask) (starts i) (now (a .out)) (now (a .numbers)) (count i) (rowOf (F i) (rows i) (n i) (even i))
+          (a .store) (laid i) (out i) (numbers i) (k i) (i .before .loop .inv .1) (inside i) (e .last .1 .0) (e .result)
+          (e .kept .1 .0)
+          (λ real f. rw (w, row-is (F i) (rows i) (n i) (even i) (k i) (long i) (long-is i)) at (e .ensures real f))
+          (c .set-writer .last .0) (c .set-writer .ensures),
     )
 
 same-length : tie.Need-same-length Inv-loop μ-loop
@@ -188,7 +195,7 @@ returns c =
     let l = c .before .loop in
     let s = c .before .before .before .before .before .before in
     let a = s .args in
-    going-all (now (a .starts)) (now (a .out)) (now (a .numbers)) (a .count) _ (a .store) (s .pre .1 .0)
+    going-all (a .format) (a .mask) (now (a .starts)) (now (a .out)) (now (a .numbers)) (a .count) _ (a .store) (s .pre .1 .0)
     (l .out) (l .numbers) (l .i) (l .inv .1) (omega (arith, c .loop-test .left, l .inv .0))
 
 pub emit-all-spec : {M : Type 1} → statement M

@@ -2,10 +2,10 @@
 -- Assumes nothing.
 use Prim.Native.Nat.{ℕ, _-_, _≤_, _<_}
 use mathlib.Core.Path.{_≡_, refl, _∙_}
+use mathlib.Core.List.{[]}
 use lib.ListN.{length}
 use Rattle.meaning.specs.Limits.{mostValueColumn, writersNumbers}
-use Rattle.meaning.specs.Canonical.{blank}
-use Rattle.ewah_write.specs.Drafts.{Tracks}
+use Rattle.body_write.specs.Bodies.{Stands}
 use Rattle.new_index.specs.Writers.{writerOf}
 use Rattle.new_index.proofs.Numbers.{started-more}
 use borrow.Author.Needs.{needs}
@@ -14,11 +14,11 @@ use Rattle.new_index.proofs.writers.start.Statement.{statement}
 use Rattle.new_index.proofs.writers.start.Tie as tie
 
 abbrev Inv-loop : tie.InvT-loop
-Inv-loop ws₀ i₀ ws i =
-    (i ≤ mostValueColumn) × (length (ws .numbers) ≡ writersNumbers) × ((k : ℕ) → k < i → Tracks (writerOf (ws .numbers) k) blank)
+Inv-loop format ws₀ i₀ ws i =
+    (i ≤ mostValueColumn) × (length (ws .numbers) ≡ writersNumbers) × ((k : ℕ) → k < i → Stands format (writerOf (ws .numbers) k) [])
 
 abbrev μ-loop : tie.MeasureT-loop
-μ-loop ws₀ i₀ ws i = mostValueColumn - i
+μ-loop format ws₀ i₀ ws i = mostValueColumn - i
 
 loop-holds : tie.Need-loop-holds Inv-loop μ-loop
 loop-holds c = (omega arith, refl, λ k h. absurd (omega arith))

@@ -2,65 +2,91 @@
 -- Assumes nothing.
 use Prim.Native.Nat.{ℕ, _+_, _-_, _≤_, _<_, min}
 use mathlib.Core.Bool.{Bool}
-use mathlib.Core.Path.{_≡_, refl, ap, _∙_, subst}
+use mathlib.Core.Path.{_≡_, refl, ap, ap₂, _∙_, subst}
 use mathlib.Core.List.{List}
 use lib.ListN.{length}
 use denote.Ref.{now}
 use native.Mathlib.Omega.{arith}
 use borrow.Author.Needs.{needs}
 use Rattle.meaning.specs.Limits.{mostSegments, blockWords}
-use Rattle.meaning.specs.Segment.{segmentCount}
-use Rattle.meaning.specs.Index.{rowCount}
+use Rattle.meaning.specs.Segment.{segmentCount, lastRows, allSet, rowsIn}
+use Rattle.meaning.specs.Format.{width}
+use Rattle.meaning.specs.declared.Format.{Format}
+use Rattle.meaning.specs.Index.{formatOf, rowCount}
 use Rattle.meaning.specs.Column.{sumValue}
+use Rattle.meaning.proofs.Formats.{segments-most}
 use Rattle.ewah.specs.Cursors.{leftOf}
 use Rattle.adder.specs.Digits.{Paired}
 use Rattle.walk.specs.Queries.{cursorOf}
-use Rattle.meaning.proofs.RowWords.{segments-few}
 use Rattle.pairs.specs.Passes.{Columns, Chosen}
 use Rattle.pairs.specs.Spellings.{Spelled}
 use Rattle.pairs.proofs.Rows.{BlockOf, Cleared, zeros}
-use Rattle.pairs.proofs.Passing.{before, walking-on, still-cleared, block-of, Passing, passing-none, used-low, writing, m-low, cleans, room, passing-more, passing-all}
+use Rattle.pairs.proofs.Passing.{before, walking-on, still-cleared, block-of}
+use Rattle.pairs.proofs.Passing.{Passing, passing-none, may-emit, passing-more, passing-all}
 use Rattle.pairs.proofs.pass.pass.Statement.{statement}
 use Rattle.pairs.proofs.pass.pass.Tie as tie
 
 abbrev Inv-loop : tie.InvT-loop
-Inv-loop index first second n out₀ starts store rows segments p₀ q₀ ws₀ x₀ y₀ z₀ run₀ o₀ out p q ws x y z run o =
-    Passing index first second n starts out₀ store out (p .numbers) (q .numbers) (ws .numbers) o × (length z ≡ blockWords) × Cleared first x × Cleared second y
+Inv-loop index first second n out₀ starts store format rows segments full last p₀ q₀ ws₀ x₀ y₀ z₀ run₀ o₀ out p q ws x y z run o =
+    Passing index first second n starts out₀ store out (p .numbers) (q .numbers) (ws .numbers) o
+    × (length z ≡ blockWords) × Cleared first x × Cleared second y
 
 abbrev μ-loop : tie.MeasureT-loop
-μ-loop index first second n out₀ starts store rows segments p₀ q₀ ws₀ x₀ y₀ z₀ run₀ o₀ out p q ws x y z run o = segments - o
+μ-loop index first second n out₀ starts store format rows segments full last p₀ q₀ ws₀ x₀ y₀ z₀ run₀ o₀ out p q ws x y z run o =
+    segments - o
 
--- ---- at the loop's test
-module _ (i : tie.In-loop Inv-loop μ-loop) where
+-- ---- where the format and the rows were read: the call, and the numbers that the loop goes by
+module _ (a : tie.After-last-mask Inv-loop μ-loop) where
   abbrev call : tie.Start Inv-loop μ-loop
-  call = i .before .before .before .before .before .before .before .before .before .before .before .before
+  call = a .before .before .before .before .before .before .before .before .before .before
 
   abbrev index : List ℕ
   index = now (call .args .index)
 
-  abbrev first : List ℕ
-  first = now (call .args .first)
-
-  abbrev second : List ℕ
-  second = now (call .args .second)
-
-  abbrev n : ℕ
-  n = call .args .n
-
-  abbrev old : List ℕ
-  old = now (call .args .out)
-
-  abbrev starts : List ℕ
-  starts = now (call .args .starts)
-
-  abbrev store : Bool
-  store = call .args .store
+  abbrev F : Format
+  F = formatOf index
 
   abbrev R : ℕ
   R = rowCount index
 
-  abbrev out : List ℕ
-  out = i .before .loop .out
+  cs : Columns index (now (call .args .first)) (now (call .args .second)) (call .args .n)
+  cs = call .pre .0
+
+  format-is : a .before .before .before .before .format .result ≡ F
+  format-is = a .before .before .before .before .format .ensures
+
+  rows-are : a .before .before .before .rows .result ≡ R
+  rows-are = a .before .before .before .rows .ensures
+
+  total : a .before .before .segments .result ≡ segmentCount (width F) R
+  total =
+      a .before .before .segments .ensures
+      ∙ ap₂ (λ (G : Format) (r : ℕ). segmentCount (width G) r) format-is rows-are
+
+  full-is : a .before .full .result ≡ allSet (width F)
+  full-is = a .before .full .ensures ∙ ap (λ (G : Format). allSet (width G)) format-is
+
+  last-is : 1 ≤ R → a .last-mask .result ≡ allSet (lastRows (width F) R)
+  last-is h =
+      a .last-mask .ensures (omega (arith, h, rows-are))
+      ∙ ap₂ (λ (G : Format) (r : ℕ). allSet (lastRows (width G) r)) format-is rows-are
+
+  few : segmentCount (width F) R ≤ mostSegments
+  few = segments-most F R (cs .facts .head .few-rows)
+
+-- ---- at the loop's test
+module _ (i : tie.In-loop Inv-loop μ-loop) where
+  abbrev read : tie.After-last-mask Inv-loop μ-loop
+  read = i .before .before .before .before .before
+
+  abbrev first : List ℕ
+  first = now (call read .args .first)
+
+  abbrev second : List ℕ
+  second = now (call read .args .second)
+
+  abbrev n : ℕ
+  n = call read .args .n
 
   abbrev ns1 : List ℕ
   ns1 = i .before .loop .p .numbers
@@ -68,34 +94,22 @@ module _ (i : tie.In-loop Inv-loop μ-loop) where
   abbrev ns2 : List ℕ
   ns2 = i .before .loop .q .numbers
 
-  abbrev ws : List ℕ
-  ws = i .before .loop .ws .numbers
-
   abbrev o : ℕ
   o = i .before .loop .o
 
-  cs : Columns index first second n
-  cs = call .pre .0
-
-  g : Passing index first second n starts old store out ns1 ns2 ws o
+  g :
+      let s = call read .args in
+      Passing (index read) first second n (now (s .starts)) (now (s .out)) (s .store)
+      (i .before .loop .out) ns1 ns2 (i .before .loop .ws .numbers) o
   g = i .before .loop .inv .0
-
-  rows-are : i .before .before .before .before .before .before .rows .result ≡ R
-  rows-are = i .before .before .before .before .before .before .rows .ensures
-
-  total : i .before .before .before .before .before .segment-count .result ≡ segmentCount 32 R
-  total = i .before .before .before .before .before .segment-count .ensures ∙ ap (segmentCount 32) rows-are
-
-  few : segmentCount 32 R ≤ mostSegments
-  few = segments-few R (cs .facts .head .few-rows)
-
-  inside : o < segmentCount 32 R
-  inside = omega (arith, i .loop-test .taken, total)
 
 -- ---- at a block that was chosen
 module _ (w : tie.After-choose Inv-loop μ-loop) where
   abbrev here : tie.In-loop Inv-loop μ-loop
   here = w .before .before .before .before .before .before .before .before
+
+  abbrev a : tie.After-last-mask Inv-loop μ-loop
+  a = read here
 
   abbrev m : ℕ
   m = w .choose .result .n
@@ -106,8 +120,8 @@ module _ (w : tie.After-choose Inv-loop μ-loop) where
   abbrev near : ℕ
   near = w .before .smaller .result
 
-  ch : Chosen near (segmentCount 32 (R here)) (o here) m even
-  ch = subst (λ (k : ℕ). Chosen near k (o here) m even) (total here) (w .choose .ensures)
+  ch : Chosen near (segmentCount (width (F a)) (R a)) (o here) m even
+  ch = subst (λ (k : ℕ). Chosen near k (o here) m even) (total a) (w .choose .ensures)
 
   near-is : near ≡ min (w .before .before .before .before .before .nearest .result) (w .before .before .nearest2 .result)
   near-is = w .before .smaller .ensures
@@ -119,7 +133,16 @@ module _ (w : tie.After-choose Inv-loop μ-loop) where
   near2 k h = omega (arith, near-is, w .before .before .nearest2 .ensures k h)
 
   end-fits : o here + m < 4294967296
-  end-fits = omega (arith, ch .within, few here)
+  end-fits = omega (arith, ch .within, few a)
+
+-- its last segment's rows
+mask-is : (k : tie.After-mask-before Inv-loop μ-loop)
+    → let w = k .before in
+    k .mask-before .result ≡ allSet (rowsIn (width (F (a w))) (R (a w)) (o (here w) + m w - 1))
+mask-is k =
+    let w = k .before in
+    k .mask-before .ensures (F (a w)) (R (a w)) (full-is (a w)) (last-is (a w)) (total (a w))
+    (omega (arith, ch w .some)) (omega (arith, ch w .within, total (a w)))
 
 -- ---- where both columns are gathered and added, and the block is spelled
 module _ (s : tie.After-spell Inv-loop μ-loop) where
@@ -132,17 +155,20 @@ module _ (s : tie.After-spell Inv-loop μ-loop) where
   abbrev first-taken : tie.After-gather Inv-loop μ-loop
   first-taken = second-taken .before .before .before
 
+  abbrev masked : tie.After-mask-before Inv-loop μ-loop
+  masked = first-taken .before .before .before
+
   abbrev chosen : tie.After-choose Inv-loop μ-loop
-  chosen = first-taken .before .before .before
+  chosen = masked .before
 
   abbrev h : tie.In-loop Inv-loop μ-loop
   h = here chosen
 
   abbrev x : List ℕ
-  x = first-taken .gather .last .1 .1 .1 .1 .1 .0
+  x = first-taken .gather .last .1 .1 .1 .1 .1 .1 .0
 
   abbrev y : List ℕ
-  y = second-taken .gather2 .last .1 .1 .1 .1 .1 .0
+  y = second-taken .gather2 .last .1 .1 .1 .1 .1 .1 .0
 
   abbrev z : List ℕ
   z = added .sum .last .1 .1 .0
@@ -150,53 +176,66 @@ module _ (s : tie.After-spell Inv-loop μ-loop) where
   abbrev z′ : List ℕ
   z′ = s .spell .last .0
 
-  blocks1 : BlockOf (index h) (first h) (o h) (m chosen) (even chosen) x
+  blocks1 : BlockOf (index (read h)) (first h) (o h) (m chosen) (even chosen) x
   blocks1 = block-of (g h .first-walking) (first-taken .gather .ensures) (h .before .loop .inv .2)
 
-  blocks2 : BlockOf (index h) (second h) (o h) (m chosen) (even chosen) y
+  blocks2 : BlockOf (index (read h)) (second h) (o h) (m chosen) (even chosen) y
   blocks2 = block-of (g h .second-walking) (second-taken .gather2 .ensures) (h .before .loop .inv .3)
 
   sums : Paired sumValue x y (n h) z
   sums = added .sum .ensures
 
-  spelled : Spelled (R h) (o h) (m chosen) (even chosen) z (n h + 1) z′
-  spelled = subst (λ (r : ℕ). Spelled r (o h) (m chosen) (even chosen) z (n h + 1) z′) (rows-are h) (s .spell .ensures)
+  spelled : Spelled (F (read h)) (R (read h)) (o h) (m chosen) (even chosen) z (n h + 1) z′
+  spelled =
+      s .spell .ensures (F (read h)) (R (read h)) (o h) (full-is (read h)) (ch chosen .within) (mask-is masked)
+
+format-requires : tie.Need-format-requires Inv-loop μ-loop
+format-requires c κs = c .before .before .before .before .before .pre .0 .facts .head .head
 
 rows-requires : tie.Need-rows-requires Inv-loop μ-loop
-rows-requires c κs = c .before .before .before .before .before .pre .0 .facts .head .head
+rows-requires c κs = c .before .before .before .before .before .before .pre .0 .facts .head .head
 
-segment-count-requires : tie.Need-segment-count-requires Inv-loop μ-loop
-segment-count-requires c κs = omega (arith, c .rows .ensures, c .before .before .before .before .before .before .pre .0 .facts .head .few-rows)
+segments-requires : tie.Need-segments-requires Inv-loop μ-loop
+segments-requires c κs =
+    let s = c .before .before .before .before .before .before .before in
+    omega (arith, c .rows .ensures, s .pre .0 .facts .head .few-rows)
+
+full-requires : tie.Need-full-requires Inv-loop μ-loop
+full-requires c κs = search needs
+
+last-mask-requires : tie.Need-last-mask-requires Inv-loop μ-loop
+last-mask-requires c κs = search needs
 
 open-requires : tie.Need-open-requires Inv-loop μ-loop
-open-requires c κs = let a = c .before .before .before .before .before .before .before .pre .0 in (a .facts .head, (a .facts .entries, a .first-listed))
+open-requires c κs = (format-is c, (cs c .facts, cs c .first-listed))
 
 open-requires-2 : tie.Need-open-requires-2 Inv-loop μ-loop
-open-requires-2 c κs = let a = c .before .before .before .before .before .before .before .before .pre .0 in (a .facts .head, (a .facts .entries, a .second-listed))
+open-requires-2 c κs = let a = c .before in (format-is a, (cs a .facts, cs a .second-listed))
 
 start-requires : tie.Need-start-requires Inv-loop μ-loop
 start-requires c κs = search needs
 
 loop-holds : tie.Need-loop-holds Inv-loop μ-loop
 loop-holds c =
-    let t = c .before .before .before .before .before .before .before .before .before .before in
-    let a = t .args in
+    let a = c .before .before .before in
+    let s = call a .args in
     let e = c .before .before .«open» .ensures in
     let f = c .before .open2 .ensures in (
-      passing-none (now (a .index)) (now (a .first)) (now (a .second)) (a .n) (now (a .starts)) (now (a .out))
-          (a .store) _ _ _ (t .pre .0)
-          (record { standing = e .2; long = e .1 }) (record { standing = f .2; long = f .1 })
-          (c .start .ensures .0) (c .start .ensures .1),
+      passing-none (index a) (now (s .first)) (now (s .second)) (s .n) (now (s .starts)) (now (s .out)) (s .store)
+          _ _ _ (cs a) (record { standing = e .2; long = e .1 }) (record { standing = f .2; long = f .1 })
+          (c .start .ensures .0) (format-is a) (c .start .ensures .1),
       refl,
-      record { long = refl; past = λ i l. zeros blockWords i },
-      record { long = refl; past = λ i l. zeros blockWords i },
+      record { long = refl; past = λ i h. zeros blockWords i },
+      record { long = refl; past = λ i h. zeros blockWords i },
     )
 
 nearest-requires : tie.Need-nearest-requires Inv-loop μ-loop
-nearest-requires c κs = let i = c .before .before in (cs i .first-listed .most, g i .first-walking .long)
+nearest-requires c κs = let i = c .before .before in (cs (read i) .first-listed .most, g i .first-walking .long)
 
 nearest-requires-2 : tie.Need-nearest-requires-2 Inv-loop μ-loop
-nearest-requires-2 c κs = let i = c .before .before .before .before .before in (cs i .second-listed .most, g i .second-walking .long)
+nearest-requires-2 c κs =
+    let i = c .before .before .before .before .before in
+    (cs (read i) .second-listed .most, g i .second-walking .long)
 
 smaller-requires : tie.Need-smaller-requires Inv-loop μ-loop
 smaller-requires c κs = search needs
@@ -204,24 +243,34 @@ smaller-requires c κs = search needs
 choose-requires : tie.Need-choose-requires Inv-loop μ-loop
 choose-requires c κs = c .before .before .before .before .before .before .before .loop-test .taken
 
+add-mask-before : tie.Need-add-mask-before Inv-loop μ-loop
+add-mask-before c = omega (arith, end-fits c)
+
+mask-before-requires : tie.Need-mask-before-requires Inv-loop μ-loop
+mask-before-requires c κs = search needs
+
 gather-requires : tie.Need-gather-requires Inv-loop μ-loop
 gather-requires c κs =
-    let w = c .before .before in
-    let i = here w in (
-      cs i .facts .head,
+    let w = c .before .before .before in
+    let i = here w in
+    let s = cs (a w) in (
+      format-is (a w),
       (
-        cs i .facts .entries,
+        s .facts .head,
         (
-          cs i .first-listed,
+          s .facts .entries,
           (
-            before (g i .first-walking) (cs i .facts) (cs i .first-listed) (m w) (ch w .within),
+            s .first-listed,
             (
-              g i .first-walking .long,
-              i .before .loop .inv .2 .long,
-              omega (arith, cs i .first-fits, cs i .few),
-              ch w .some,
-              λ e k l. omega (arith, ch w .in-pieces e, near1 w k l),
-              ch w .in-block,
+              before (g i .first-walking) (s .facts) (s .first-listed) (m w) (ch w .within),
+              (
+                g i .first-walking .long,
+                i .before .loop .inv .2 .long,
+                omega (arith, s .first-fits, s .few),
+                ch w .some,
+                λ e k l. omega (arith, ch w .in-pieces e, near1 w k l),
+                ch w .in-block,
+              ),
             ),
           ),
         ),
@@ -230,22 +279,26 @@ gather-requires c κs =
 
 gather-requires-2 : tie.Need-gather-requires-2 Inv-loop μ-loop
 gather-requires-2 c κs =
-    let w = c .before .before .before .before .before in
-    let i = here w in (
-      cs i .facts .head,
+    let w = c .before .before .before .before .before .before in
+    let i = here w in
+    let s = cs (a w) in (
+      format-is (a w),
       (
-        cs i .facts .entries,
+        s .facts .head,
         (
-          cs i .second-listed,
+          s .facts .entries,
           (
-            before (g i .second-walking) (cs i .facts) (cs i .second-listed) (m w) (ch w .within),
+            s .second-listed,
             (
-              g i .second-walking .long,
-              i .before .loop .inv .3 .long,
-              omega (arith, cs i .second-fits, cs i .few),
-              ch w .some,
-              λ e k l. omega (arith, ch w .in-pieces e, near2 w k l),
-              ch w .in-block,
+              before (g i .second-walking) (s .facts) (s .second-listed) (m w) (ch w .within),
+              (
+                g i .second-walking .long,
+                i .before .loop .inv .3 .long,
+                omega (arith, s .second-fits, s .few),
+                ch w .some,
+                λ e k l. omega (arith, ch w .in-pieces e, near2 w k l),
+                ch w .in-block,
+              ),
             ),
           ),
         ),
@@ -256,57 +309,44 @@ sum-requires : tie.Need-sum-requires Inv-loop μ-loop
 sum-requires c κs =
     let t2 = c .before .before .before in
     let t1 = t2 .before .before .before in
-    let i = here (t1 .before .before .before) in
-    (cs i .few, t1 .gather .ensures .rows-long, t2 .gather2 .ensures .rows-long, i .before .loop .inv .1)
+    let i = here (t1 .before .before .before .before) in
+    (cs (read i) .few, t1 .gather .ensures .rows-long, t2 .gather2 .ensures .rows-long, i .before .loop .inv .1)
 
 add-spell : tie.Need-add-spell Inv-loop μ-loop
 add-spell c =
-    let w = c .before .before .before .before .before .before .before .before .before .before .before in
-    omega (arith, cs (here w) .few)
+    let w = c .before .before .before .before .before .before .before .before .before .before .before .before in
+    omega (arith, cs (a w) .few)
 
 spell-requires : tie.Need-spell-requires Inv-loop μ-loop
 spell-requires c κs =
-    let w = c .before .before .before .before .before .before .before .before .before .before .before in
-    let i = here w in (
-      i .before .before .before .before .before .segment-count .ensures,
-      ch w .some,
-      omega (arith, ch w .within, total i),
-      c .before .sum .ensures .long,
-      omega (arith, cs i .few),
-      ch w .in-block,
-    )
+    let w = c .before .before .before .before .before .before .before .before .before .before .before .before in
+    (ch w .some, c .before .sum .ensures .long, omega (arith, cs (a w) .few), ch w .in-block)
 
 add-emit-all : tie.Need-add-emit-all Inv-loop μ-loop
-add-emit-all c = omega (arith, cs (h (c .before .before .before)) .few)
+add-emit-all c = omega (arith, cs (read (h (c .before .before .before))) .few)
 
 emit-all-requires : tie.Need-emit-all-requires Inv-loop μ-loop
 emit-all-requires c κs =
     let s = c .before .before .before in
     let w = chosen s in
     let i = h s in
-    let low = m-low (cs i) (g i) (ch w) (near1 w) (near2 w) in (
-      (omega (arith, cs i .few), g i .numbers-long, spelled s .long ∙ sums s .long, ch w .some, low, ch w .in-block),
-      (
-        rw (g i .long) (call i .pre .1 .0),
-        (
-          λ k l. (
-            writing (cs i) (g i) k (omega arith),
-            omega (arith, used-low (cs i) (g i) k (omega arith), inside i, few i),
-          ),
-          (
-            cleans (cs i) (g i) (ch w) (near1 w) (near2 w) (blocks1 s) (blocks2 s) (sums s) (spelled s),
-            room (cs i) (g i) (ch w) (near1 w) (near2 w) (blocks1 s) (blocks2 s) (sums s) (spelled s)
-                (call i .pre .1 .0) (call i .pre .1 .1),
-          ),
-        ),
-      ),
+    let t = call (read i) in
+    let a = read i in
+    let long = spelled s .long ∙ sums s .long in
+    let e =
+    may-emit (cs a) (g i) (ch w) (near1 w) (near2 w) (blocks1 s) (blocks2 s) (sums s) (spelled s) (format-is a)
+    (t .pre .1 .0) (t .pre .1 .1) in (
+      (omega (arith, cs a .few), g i .numbers-long, long, ch w .some, e .0, ch w .in-block),
+      (rw (g i .long) (t .pre .1 .0), (e .1, (e .2, e .3))),
     )
 
 add-o : tie.Need-add-o Inv-loop μ-loop
 add-o c = omega (arith, end-fits (chosen (c .before .before .before .before .before .before)))
 
 loop-less : tie.Need-loop-less Inv-loop μ-loop
-loop-less c = let w = chosen (c .before .before .before .before .before .before) in omega (arith, ch w .some, here w .loop-test .taken)
+loop-less c =
+    let w = chosen (c .before .before .before .before .before .before) in
+    omega (arith, ch w .some, here w .loop-test .taken)
 
 loop-again : tie.Need-loop-again Inv-loop μ-loop
 loop-again c =
@@ -315,9 +355,9 @@ loop-again c =
     let i = h s in
     let taken1 = first-taken s .gather .ensures in
     let taken2 = second-taken s .gather2 .ensures in (
-      passing-more (cs i) (g i) (ch w) (near1 w) (near2 w) (blocks1 s) (blocks2 s) (sums s) (spelled s)
-          (c .before .before .emit-all .ensures) (walking-on (g i .first-walking) taken1)
-          (walking-on (g i .second-walking) taken2),
+      passing-more (cs (read i)) (g i) (ch w) (near1 w) (near2 w) (blocks1 s) (blocks2 s) (sums s) (spelled s)
+          (format-is (read i)) (mask-is (masked s)) (c .before .before .emit-all .ensures)
+          (walking-on (g i .first-walking) taken1) (walking-on (g i .second-walking) taken2),
       spelled s .long ∙ sums s .long,
       still-cleared (g i .first-walking) taken1 (i .before .loop .inv .2),
       still-cleared (g i .second-walking) taken2 (i .before .loop .inv .3),
@@ -328,15 +368,8 @@ same-length c = let l = c .before .loop in l .inv .0 .long
 
 returns : tie.Need-returns Inv-loop μ-loop
 returns c =
-    let l = c .before .loop in
-    let counted = c .before .before .before .before .before in
-    passing-all (counted .before .before .before .before .before .before .before .pre .0) (l .inv .0)
-    (omega (
-      arith,
-      c .loop-test .left,
-      counted .segment-count .ensures,
-      ap (segmentCount 32) (counted .before .rows .ensures),
-    ))
+    let a = c .before .before .before .before .before in
+    passing-all (cs a) (c .before .loop .inv .0) (omega (arith, c .loop-test .left, total a))
 
 pub pass-spec : {M : Type 1} → statement M
 pass-spec =
@@ -344,8 +377,11 @@ pass-spec =
     (tie.spec
     Inv-loop
     μ-loop
+    format-requires
     rows-requires
-    segment-count-requires
+    segments-requires
+    full-requires
+    last-mask-requires
     open-requires
     open-requires-2
     start-requires
@@ -354,6 +390,8 @@ pass-spec =
     nearest-requires-2
     smaller-requires
     choose-requires
+    add-mask-before
+    mask-before-requires
     gather-requires
     gather-requires-2
     sum-requires

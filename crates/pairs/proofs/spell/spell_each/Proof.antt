@@ -1,23 +1,28 @@
 -- `pairs::spell::spell_each` meets its contract. The invariant: word w of the first i rows is spelled.
 -- Assumes nothing.
 use Prim.Native.Nat.{_-_, _≤_}
-use mathlib.Core.Path.{_≡_}
+use mathlib.Core.Path.{_≡_, refl}
 use denote.Ref.{now}
+use lib.ListN.{length, length-set}
 use native.Mathlib.Omega.{arith}
 use borrow.Author.Needs.{needs}
+use Rattle.meaning.specs.Segment.{allSet}
+use Rattle.meaning.specs.Format.{width}
+use Rattle.meaning.specs.declared.Format.{Format}
 use Rattle.pairs.specs.Spellings.{WordsSpelled}
 use Rattle.pairs.proofs.Spelling.{spelled-none, spelled-more}
 use Rattle.pairs.proofs.spell.spell_each.Statement.{statement}
 use Rattle.pairs.proofs.spell.spell_each.Tie as tie
 
 abbrev Inv-loop : tie.InvT-loop
-Inv-loop z₀ count w mask i₀ z i = (i ≤ count) × WordsSpelled z₀ i w mask z
+Inv-loop z₀ count w mask full i₀ z i =
+    (i ≤ count) × (length z ≡ length z₀) × ((F : Format) → full ≡ allSet (width F) → WordsSpelled F z₀ i w mask z)
 
 abbrev μ-loop : tie.MeasureT-loop
-μ-loop z₀ count w mask i₀ z i = count - i
+μ-loop z₀ count w mask full i₀ z i = count - i
 
 loop-holds : tie.Need-loop-holds Inv-loop μ-loop
-loop-holds c = (omega arith, spelled-none _ _ _)
+loop-holds c = (omega arith, refl, λ F f. spelled-none F _ _ _)
 
 mul-at : tie.Need-mul-at Inv-loop μ-loop
 mul-at c = search needs
@@ -51,15 +56,17 @@ loop-again c =
     let h = c .before .before .before .loop in
     let a = c .before .before .before .before .args in (
       omega arith,
-      spelled-more (now (a .z)) (a .w) (a .mask) (h .z) (h .i) _ (h .inv .1) (omega (arith, h .inv .1 .long))
-          (c .spelled .ensures),
+      simp length-set (h .inv .1),
+      λ F f.
+          spelled-more F (now (a .z)) (a .w) (a .mask) (h .z) (h .i) _ (h .inv .2 F f) (omega (arith, h .inv .1))
+          (λ real some most e. c .spelled .ensures (width F) real some most f e .0),
     )
 
 returns : tie.Need-returns Inv-loop μ-loop
-returns c =
+returns c = λ F f.
     let h = c .before .loop in
     let i-is : h .i ≡ c .before .before .args .count = omega arith in
-    rw i-is at (h .inv .1)
+    rw i-is at (h .inv .2 F f)
 
 pub spell-each-spec : {M : Type 1} → statement M
 spell-each-spec =

@@ -1,20 +1,20 @@
 -- `pairs::sum::sum` meets its contract: measured, laid out, and written where it fits.
 -- Assumes nothing.
 use Prim.Native.Nat.{ℕ, _+_, _*_, _≤_}
-use mathlib.Core.Path.{_≡_, ap, subst}
+use mathlib.Core.Path.{_≡_, ap}
 use mathlib.Core.List.{List}
 use lib.ListN.{length, getD, replicate}
 use denote.Ref.{now}
 use native.Mathlib.Omega.{arith}
 use borrow.Author.Needs.{needs}
 use Rattle.meaning.specs.Limits.{mostStarts, headWords, entryWords}
-use Rattle.meaning.specs.Index.{rowCount}
+use Rattle.meaning.specs.Index.{formatOf, rowCount}
 use Rattle.new_index.specs.Layouts.{StartsOf, Headed}
 use Rattle.new_index.specs.Writers.{writerOf, Laid}
 use Rattle.pairs.specs.Passes.{Columns, bodyOf}
 use Rattle.pairs.specs.Sums.{sumIndex}
 use Rattle.pairs.proofs.Rows.{zeros}
-use Rattle.pairs.proofs.Summing.{nowhere-laid, nothing-kept, none-stored, body-low, need-is, laid, contents-fit, small, exact, written}
+use Rattle.pairs.proofs.Summing.{nowhere-laid, nothing-kept, none-stored, headed-as, body-low, need-is, laid, contents-fit, small, exact, written}
 use Rattle.pairs.proofs.sum.sum.Statement.{statement}
 use Rattle.pairs.proofs.sum.sum.Tie as tie
 
@@ -112,13 +112,16 @@ returns c =
 rows-requires : tie.Need-rows-requires
 rows-requires c κs = search needs
 
+format-requires : tie.Need-format-requires
+format-requires c κs = cs (c .before .before) .facts .head .head
+
 slice-aggregate-write-contents : tie.Need-slice-aggregate-write-contents
 slice-aggregate-write-contents c = search needs
 
 write-contents-requires : tie.Need-write-contents-requires
 write-contents-requires c κs =
-    let s = c .before .before .before .before in
-    let fits = c .before .before .before .if1 .left in
+    let s = c .before .before .before .before .before in
+    let fits = c .before .before .before .before .if1 .left in
     let l = in-order s _ fits in (
       (
         omega (arith, cs s .few),
@@ -127,22 +130,49 @@ write-contents-requires c κs =
       ),
       λ i h. (
         l .rising i (i + 1) (omega arith) (omega arith),
-        omega (arith, small (index s) (first s) (second s) (n s) (cs s) (ws s) (starts s) (used s) (st s) (i + 1) (omega arith), cs s .few),
+        omega (
+          arith,
+          small (index s) (first s) (second s) (n s) (cs s) (ws s) (starts s) (used s) (st s) (i + 1) (omega arith),
+          cs s .few,
+        ),
       ),
     )
 
 slice-aggregate-pass-2 : tie.Need-slice-aggregate-pass-2
 slice-aggregate-pass-2 c = search needs
 
+-- ---- where the contents are written
+module _ (h : tie.After-write-contents) where
+  abbrev laid-out : tie.After-starts
+  laid-out = h .before .before .before .before .before .before
+
+  abbrev mid : List ℕ
+  mid = h .write-contents .last .1 .0
+
+  room : getD (starts laid-out) (n laid-out + 1) 0 ≤ length (old laid-out)
+  room = omega (arith, h .before .before .before .before .before .if1 .left, ap length (same laid-out))
+
+  headed :
+      let s = laid-out in
+      Headed (formatOf (index s)) (old s) (rowCount (index s)) (starts s) (n s + 1) mid (n s + 1)
+  headed =
+      let s = laid-out in
+      headed-as (starts s) (n s + 1) mid (n s + 1) (h .before .before .before .format .ensures) (same s)
+      (h .before .before .before .before .rows .ensures) (h .write-contents .ensures)
+
 pass-requires-2 : tie.Need-pass-requires-2
 pass-requires-2 c κs =
-    let s = c .before .before .before .before .before .before .before .before .before in
-    let hd = c .before .before .before .before .write-contents .ensures in
-    let room = c .before .before .before .before .before .before .before .before .if1 .left in (
+    let h = c .before .before .before .before in
+    let s = laid-out h in (
       cs s,
       (
-        in-order s _ (omega (arith, hd .long, room)),
-        λ e i h. omega (arith, exact (index s) (first s) (second s) (n s) (cs s) (ws s) (starts s) (used s) (st s) (c .before .before .before .before .write-contents .last .0) i (omega (arith, hd .long, room)) h),
+        in-order s _ (omega (arith, headed h .long, room h)),
+        λ e i l.
+            omega (
+              arith,
+              exact (index s) (first s) (second s) (n s) (cs s) (ws s) (starts s) (used s) (st s) (mid h) i
+                  (omega (arith, headed h .long, room h)) l,
+            ),
       ),
     )
 
@@ -151,14 +181,12 @@ same-length-2 c = search needs
 
 returns-2 : tie.Need-returns-2
 returns-2 c =
-    let s = c .before .before .before .before .before .before .before .before .before .before .before .before in
-    let room = c .before .before .before .before .before .before .before .before .before .before .before .if1 .left in
-    let out₁ = c .before .before .before .before .before .before .before .write-contents .last .0 in
-    let hd : Headed (s .before .before .before .before .before .pass .last .1 .1 .1 .1 .0) (rowCount (index s)) (starts s) (n s + 1) out₁ (n s + 1) =
-    subst (λ (r : ℕ). Headed (s .before .before .before .before .before .pass .last .1 .1 .1 .1 .0) r (starts s) (n s + 1) out₁ (n s + 1)) (c .before .before .before .before .before .before .before .before .before .before .rows .ensures) (c .before .before .before .before .before .before .before .write-contents .ensures) in
-    let out = written (index s) (first s) (second s) (n s) (cs s) (ws s) (starts s) (used s) (st s) (old s) out₁ _ _ (omega (arith, room, ap length (same s)))
-    (subst (λ (l : List ℕ). Headed l (rowCount (index s)) (starts s) (n s + 1) out₁ (n s + 1)) (same s) hd) (c .before .before .pass2 .ensures) in
-    record { need-is = need s; fits = λ h. out; lacks = λ h. absurd (omega (arith, room, ap length (same s))) }
+    let h = c .before .before .before .before .before .before .before in
+    let s = laid-out h in
+    let out =
+    written (index s) (first s) (second s) (n s) (cs s) (ws s) (starts s) (used s) (st s) (old s) (mid h) _ _ (room h)
+    (headed h) (c .before .before .pass2 .ensures) in
+    record { need-is = need s; fits = λ l. out; lacks = λ l. absurd (omega (arith, room h)) }
 
 pub sum-spec : {M : Type 1} → statement M
 sum-spec =
@@ -175,6 +203,7 @@ sum-spec =
     same-length
     returns
     rows-requires
+    format-requires
     slice-aggregate-write-contents
     write-contents-requires
     slice-aggregate-pass-2

@@ -17,7 +17,9 @@ advance-requires : tie.Need-advance-requires
 advance-requires c κs =
     let s = c .before .before .before .before in
     let p = s .pre .1 .1 in
-    may-advance (bodyAt (now (s .args .index)) (s .args .k)) (now (c .body .result)) (now (s .args .numbers)) (s .args .i) (s .args .n) (c .before .cursor-at .result) (c .body .ensures .0) (c .before .cursor-at .ensures)
+    let k = bodyAt (now (s .args .index)) (s .args .k) in
+    may-advance (s .args .format) k (now (c .body .result)) (now (s .args .numbers)) (s .args .i) (s .args .n)
+    (c .before .cursor-at .result) (c .body .ensures .0) (c .before .cursor-at .ensures)
     (p .0 .3) (p .0 .4) (p .1 .0)
 
 set-cursor-requires : tie.Need-set-cursor-requires
@@ -26,7 +28,8 @@ set-cursor-requires c κs =
     let b = c .before .before .body .ensures .0 in
     let s = c .before .before .before .before .before .before in
     let p = s .pre .1 .1 in
-    (p .0 .1, p .0 .2, next-low (now (s .args .index)) (s .args .k) (c .before .advance .result) (s .pre .0) (rw b at a), a .value-low)
+    let low = next-low (s .args .format) (now (s .args .index)) (s .args .k) (c .before .advance .result) (s .pre .0) (rw b at a) in
+    (p .0 .1, p .0 .2, low, a .value-low)
 
 weigh-requires : tie.Need-weigh-requires
 weigh-requires c κs =
@@ -39,8 +42,11 @@ returns c =
     let b = a .before in
     let s = b .before .before .before .before in
     let p = s .pre .1 .1 in
-    moved (bodyAt (now (s .args .index)) (s .args .k)) (now (b .body .result)) (now (s .args .numbers)) (s .args .i) (s .args .n) (b .before .cursor-at .result) (b .body .ensures .0) (b .before .cursor-at .ensures)
-    (p .0 .3) (p .0 .4) (c .before .set-cursor .last .0) (s .args .s) (c .weigh .result) (a .advance .result) (a .advance .ensures) (c .before .set-cursor .ensures) (c .weigh .ensures)
+    let k = bodyAt (now (s .args .index)) (s .args .k) in
+    moved (s .args .format) k (now (b .body .result)) (now (s .args .numbers)) (s .args .i) (s .args .n)
+    (b .before .cursor-at .result) (b .body .ensures .0) (b .before .cursor-at .ensures)
+    (p .0 .3) (p .0 .4) (c .before .set-cursor .last .0) (s .args .s) (c .weigh .result) (a .advance .result)
+    (a .advance .ensures) (c .before .set-cursor .ensures) (c .weigh .ensures)
 
 pub move-place-spec : {M : Type 1} → statement M
 move-place-spec =

@@ -1,10 +1,15 @@
 -- `walk::survey::open` meets its contract. The invariant: the first i cursors stand on the first piece of their bodies.
 -- Assumes nothing.
-use mathlib.Core.Path.{_≡_, refl, _∙_}
-use Prim.Native.Nat.{_-_, _≤_}
+use mathlib.Core.Path.{_≡_, refl, sym, _∙_, subst}
+use Prim.Native.Nat.{ℕ, _-_, _≤_, _<_}
 use denote.Ref.{now}
 use lib.ListN.{length, getD}
 use Rattle.meaning.specs.Limits.{queryNumbers}
+use Rattle.meaning.specs.Format.{piecesOf}
+use Rattle.meaning.specs.declared.Format.{Format}
+use Rattle.meaning.specs.Ahead.{NoneEmpty}
+use Rattle.meaning.specs.Index.{formatOf, rowCount, bodyAt}
+use Rattle.meaning.proofs.Formats.{facts-some}
 use Rattle.walk.specs.Queries.{Standing, placeBody}
 use Rattle.walk.proofs.Places.{next-low, opened, standing-more}
 use borrow.Author.Needs.{needs}
@@ -13,10 +18,11 @@ use Rattle.walk.proofs.survey.open.Statement.{statement}
 use Rattle.walk.proofs.survey.open.Tie as tie
 
 abbrev Inv-loop : tie.InvT-loop
-Inv-loop index list q₀ i₀ q i = (i ≤ length list) × (q .len ≡ length list) × (length (q .numbers) ≡ queryNumbers) × Standing index list (q .numbers) i 0
+Inv-loop format index list q₀ i₀ q i =
+    (i ≤ length list) × (q .len ≡ length list) × (length (q .numbers) ≡ queryNumbers) × Standing format index list (q .numbers) i 0
 
 abbrev μ-loop : tie.MeasureT-loop
-μ-loop index list q₀ i₀ q i = length list - i
+μ-loop format index list q₀ i₀ q i = length list - i
 
 loop-holds : tie.Need-loop-holds Inv-loop μ-loop
 loop-holds c = (omega arith, refl, refl, λ k h. absurd (omega arith))
@@ -30,10 +36,22 @@ shared-slice-read-body c = search needs
 body-requires : tie.Need-body-requires Inv-loop μ-loop
 body-requires c κs =
     let s = c .before .before .before .before .before in
-    (s .pre .0, (s .pre .1 .0, s .pre .1 .1 .its (c .before .before .loop .i) (c .before .loop-test .taken)))
+    (s .pre .1 .0 .head, (s .pre .1 .0 .entries, s .pre .1 .1 .its (c .before .before .loop .i) (c .before .loop-test .taken)))
+
+-- no piece of a body that the list names is empty
+no-empty : (s : tie.Start Inv-loop μ-loop) (i : ℕ) → i < length (now (s .args .list))
+    → NoneEmpty (piecesOf (s .args .format) (placeBody (now (s .args .index)) (now (s .args .list)) i))
+no-empty s i h =
+    let index = now (s .args .index) in
+    let k = getD (now (s .args .list)) i 0 in
+    let some = facts-some (formatOf index) (rowCount index) (bodyAt index k) (s .pre .1 .0 .bodies k (s .pre .1 .1 .its i h)) in
+    subst (λ (F : Format). NoneEmpty (piecesOf F (bodyAt index k))) (sym (s .pre .0)) some
 
 open-requires : tie.Need-open-requires Inv-loop μ-loop
-open-requires c κs = search needs
+open-requires c κs =
+    let l = c .before .before .before .loop in
+    let s = c .before .before .before .before .before .before in
+    rw (c .body .ensures .0) (no-empty s (l .i) (c .before .before .loop-test .taken))
 
 set-cursor-requires : tie.Need-set-cursor-requires Inv-loop μ-loop
 set-cursor-requires c κs =
@@ -41,7 +59,10 @@ set-cursor-requires c κs =
     let b = c .before .before .body .ensures .0 in
     let l = c .before .before .before .before .before .loop in
     let s = c .before .before .before .before .before .before .before .before in
-    (omega arith, l .inv .2, next-low (now (s .args .index)) (getD (now (s .args .list)) (l .i) 0) (c .before .«open» .result) (s .pre .0) (rw b at (o .in-order)), o .in-order .value-low)
+    let k = getD (now (s .args .list)) (l .i) 0 in
+    let r = c .before .«open» .result in
+    let low = next-low (s .args .format) (now (s .args .index)) k r (s .pre .1 .0 .head) (rw b at (o .in-order)) in
+    (omega arith, l .inv .2, low, o .in-order .value-low)
 
 add-i : tie.Need-add-i Inv-loop μ-loop
 add-i c = search needs
@@ -57,17 +78,25 @@ loop-again c =
     let l = c .before .before .before .before .before .before .loop in
     let s = c .before .before .before .before .before .before .before .before .before in
     let index = now (s .args .index) in
-    let list = now (s .args .list) in (
+    let list = now (s .args .list) in
+    let r = c .before .before .«open» .result in
+    let here = opened (s .args .format) (placeBody index list (l .i)) r (no-empty s (l .i) (omega arith)) (rw b at o) in (
       omega arith,
       l .inv .1,
       p .long ∙ l .inv .2,
-      standing-more index list (l .q .numbers) (l .i) 0 (c .before .before .«open» .result) (c .set-cursor .last .0) (l .inv .3) p (opened (placeBody index list (l .i)) (c .before .before .«open» .result) (rw b at o)),
+      standing-more (s .args .format) index list (l .q .numbers) (l .i) 0 r (c .set-cursor .last .0) (l .inv .3) p here,
     )
 
 returns : tie.Need-returns Inv-loop μ-loop
 returns c =
     let l = c .before .loop in
-    (l .inv .1, l .inv .2, λ k h. l .inv .3 k (omega arith))
+    let s = c .before .before .before .before in
+    let index = now (s .args .index) in
+    let list = now (s .args .list) in (
+      l .inv .1,
+      l .inv .2,
+      subst (λ (F : Format). Standing F index list (l .q .numbers) (length list) 0) (s .pre .0) (λ k h. l .inv .3 k (omega arith)),
+    )
 
 pub open-spec : {M : Type 1} → statement M
 open-spec =
