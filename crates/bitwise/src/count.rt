@@ -5,8 +5,8 @@ ghost use lib.ListN.{length};
 ghost use Rattle.meaning.specs.Limits.{mostRows, mostSegments};
 ghost use Rattle.meaning.specs.Rows.{countBelow};
 ghost use Rattle.meaning.specs.Segment.{ones, isSet};
-ghost use Rattle.meaning.specs.Ewah.{rowsOf};
-ghost use Rattle.meaning.specs.Laws.{SoundFacts};
+ghost use Rattle.meaning.specs.Ewah.{ewahRows};
+ghost use Rattle.meaning.specs.Laws.{EwahFacts};
 use ewah::marker;
 use ewah_read::count::count_run;
 use ewah_read::count::pads_set;
@@ -44,8 +44,8 @@ pub fn count_words(ws: &[u32]) -> u32
 
 // How many rows are set. The walk ends with the marker of the last segment.
 pub fn count(body: &[u32], rows: u32) -> u32
-    requires { ⌜ (rows ≤ mostRows) × SoundFacts rows (now body) ⌝ }
-    ensures { λ r. ⌜ r ≡ countBelow rows (rowsOf (now (body .entry))) ⌝ }
+    requires { ⌜ (rows ≤ mostRows) × EwahFacts rows (now body) ⌝ }
+    ensures { λ r. ⌜ r ≡ countBelow rows (ewahRows (now (body .entry))) ⌝ }
 {
     let mut n = 0;
     let mut at = 0;

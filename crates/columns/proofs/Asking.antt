@@ -10,7 +10,7 @@ use lib.Dec.{leb, ltb}
 use lib.ListN.{length, getD, drop}
 use Rattle.meaning.specs.Limits.{leastColumn, mostColumn, mostValueColumn}
 use Rattle.meaning.specs.Refusal.{Outcome, answer, refuseIf, _then_}
-use Rattle.meaning.specs.Index.{rowCount, bitmapCount}
+use Rattle.meaning.specs.Index.{formatOf, rowCount, bitmapCount}
 use Rattle.meaning.specs.Laws.{IndexFacts}
 use Rattle.meaning.specs.NewIndex.{indexOf, writeIndex}
 use Rattle.meaning.specs.Column.{sumValue}
@@ -115,7 +115,7 @@ module _ (index first second : List ℕ) where
 
   -- what is left where both lists are good, and no row strays
   abbrev pub writing : (room : ℕ) → Outcome (List ℕ)
-  writing room = writeIndex (rowCount index) (pairColumn index sumValue n first second) room
+  writing room = writeIndex (formatOf index) (rowCount index) (pairColumn index sumValue n first second) room
 
   module _ (old out : List ℕ) (m need : ℕ) (e : m ≡ wider first second) (w : SumWritten index first second (m + 1) old out need) where
     same : m + 1 ≡ n
@@ -126,11 +126,11 @@ module _ (index first second : List ℕ) where
 
     pub wrote-no-room : length old < need → (r : Refusal) → r ≡ refusal 9 need → Wrote (writing (length old)) (written.Refused r) old out
     unfolding writeIndex
-    wrote-no-room h r k = rw (k, w′ .lacks h) (wrote-none old (indexOf (rowCount index) (pairColumn index sumValue n first second)) need (w′ .need-is) h)
+    wrote-no-room h r k = rw (k, w′ .lacks h) (wrote-none old (indexOf (formatOf index) (rowCount index) (pairColumn index sumValue n first second)) need (w′ .need-is) h)
 
     pub wrote-sum : need ≤ length old → Wrote (writing (length old)) (written.Words need) old out
     unfolding writeIndex
-    wrote-sum h = wrote-words old (indexOf (rowCount index) (pairColumn index sumValue n first second)) need (w′ .need-is) out h (w′ .fits h ∙ ap (λ (k : ℕ). indexOf (rowCount index) (pairColumn index sumValue n first second) ++ drop k old) (w′ .need-is))
+    wrote-sum h = wrote-words old (indexOf (formatOf index) (rowCount index) (pairColumn index sumValue n first second)) need (w′ .need-is) out h (w′ .fits h ∙ ap (λ (k : ℕ). indexOf (formatOf index) (rowCount index) (pairColumn index sumValue n first second) ++ drop k old) (w′ .need-is))
 
   module _ (out : List ℕ) where
     pub sum-bad-first : badColumn index mostColumn first ≡ true → (r : Refusal) → r ≡ refusal 8 0

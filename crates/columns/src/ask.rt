@@ -4,7 +4,7 @@ ghost use Prim.Native.Nat.{ℕ, suc, _≤_, _<_};
 ghost use lib.ListN.{length};
 ghost use mathlib.Core.Bool.{false};
 ghost use Rattle.meaning.specs.Limits.{headWords, mostColumn, mostValueColumn};
-ghost use Rattle.meaning.specs.Index.{rowCount};
+ghost use Rattle.meaning.specs.Index.{formatOf, rowCount};
 ghost use Rattle.meaning.specs.Laws.{IndexFacts};
 ghost use Rattle.meaning.specs.NewIndex.{writeIndex};
 ghost use Rattle.meaning.specs.Column.{sumValue};
@@ -81,7 +81,7 @@ fn write_sum(index: &[u32], first: &[u32], second: &[u32], out: &mut [u32]) -> W
     requires { ⌜ IndexFacts (now index) ⌝ }
     requires { ⌜ meaning.badColumn (now index) mostColumn (now first) ≡ false ⌝ }
     requires { ⌜ meaning.badColumn (now index) mostColumn (now second) ≡ false ⌝ }
-    ensures { λ r. ⌜ Wrote (writeIndex (rowCount (now (index .entry)))
+    ensures { λ r. ⌜ Wrote (writeIndex (formatOf (now (index .entry))) (rowCount (now (index .entry)))
         (meaning.pairColumn (now (index .entry)) sumValue (suc (meaning.wider (now (first .entry)) (now (second .entry))))
         (now (first .entry)) (now (second .entry))) (length (now (out .entry))))
         r (now (out .entry)) (now (out .exit)) ⌝ }
@@ -100,7 +100,7 @@ fn sum_second(index: &[u32], first: &[u32], second: &[u32], out: &mut [u32]) -> 
     requires { ⌜ meaning.badColumn (now index) mostColumn (now first) ≡ false ⌝ }
     requires { ⌜ meaning.badColumn (now index) mostColumn (now second) ≡ false ⌝ }
     ensures { λ r. ⌜ Wrote (meaning.strays (now (index .entry)) (now (second .entry)) then
-        writeIndex (rowCount (now (index .entry)))
+        writeIndex (formatOf (now (index .entry))) (rowCount (now (index .entry)))
         (meaning.pairColumn (now (index .entry)) sumValue (suc (meaning.wider (now (first .entry)) (now (second .entry))))
         (now (first .entry)) (now (second .entry))) (length (now (out .entry))))
         r (now (out .entry)) (now (out .exit)) ⌝ }

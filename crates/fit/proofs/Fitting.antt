@@ -1,26 +1,23 @@
 -- The words that an answer over a list can have at most.
 -- Assumes nothing.
-use Prim.Native.Nat.{ℕ, suc, _+_, _*_, _/_, _≤_, _<_}
+use Prim.Native.Nat.{ℕ, suc, _+_, _*_, _≤_, _<_}
 use mathlib.Core.Bool.{Bool, true, false, false≢true}
-use mathlib.Core.Path.{_≡_, sym, _∙_, subst}
+use mathlib.Core.Path.{_≡_, sym, subst}
 use mathlib.Core.List.{List}
 use native.Mathlib.Omega.{arith}
 use native.Mathlib.Numerals.{add-one}
 use lib.ListN.{length, drop, getD, drop-of-length-le}
 use lib.Seq.{drop-cons}
-use Rattle.meaning.specs.Limits.{mostDirty}
-use Rattle.meaning.specs.Segment.{segmentCount}
-use Rattle.meaning.specs.Canonical.{canonical}
-use Rattle.meaning.specs.Index.{rowCount, lengthOf, bodyAt}
+use Rattle.meaning.specs.Format.{canonical}
+use Rattle.meaning.specs.Index.{formatOf, rowCount, lengthOf, bodyAt}
 use Rattle.meaning.specs.Question.{held, totalWords, stretches}
-use Rattle.meaning.specs.Ahead.{answerRows, answerSegments}
+use Rattle.meaning.specs.Ahead.{answerRows}
 use Rattle.meaning.specs.Answer.{named, namedBodies}
 use Rattle.meaning.specs.Laws.{EntryFacts}
 use Rattle.meaning.proofs.Demanded.{named-is, twice-stretches}
 use Rattle.meaning.proofs.IndexSound.{index-means}
 use Rattle.meaning.proofs.Stretches.{stretches-le}
-use Rattle.meaning.proofs.Evaluated.{answer-length, answer-canonical}
-use Rattle.meaning.proofs.Least.{most-words-div}
+use Rattle.meaning.proofs.Enough.{mostWords, most-words}
 use Rattle.contents.proofs.Places.{body-length}
 use Rattle.merge.specs.declared.evaluate.Operation.{Operation}
 use Rattle.merge.specs.Operations.{chosen}
@@ -50,25 +47,23 @@ module _ (index list : List ℕ) where
 
   module _ (op : Operation) (table : List ℕ) where
     -- as a body of the index's rows
-    pub body-most : (n : ℕ) → n ≡ segmentCount 32 (rowCount index) → length (answerBody index list op table) ≤ n + n / mostDirty + 1
+    pub body-most : (n : ℕ) → n ≡ mostWords (formatOf index) (rowCount index)
+        → length (answerBody index list op table) ≤ n
     unfolding answerBody
     body-most n e =
-        let R = rowCount index in
-        let f = chosen op table in
-        let b = bodiesOf index list in
-        let t : length (answerSegments R f b) ≡ n = answer-length R f b ∙ sym e in
-        rw (answer-canonical R f b, ← t) (most-words-div (answerSegments R f b))
+        let F = formatOf index in
+        omega (arith, most-words F (rowCount index) (answerRows F (chosen op table) (bodiesOf index list)))
 
     -- as an answer over these bodies
     module _ (w : Walkable index list) where
-      twice-ends : length (answerBody index list op table) ≤ 2 * stretches (rowCount index) (namedBodies index list)
+      twice-ends : length (answerBody index list op table) ≤ 2 * stretches (formatOf index) (rowCount index) (namedBodies index list)
       unfolding answerBody answerRows named
       twice-ends =
-          subst (λ (ps : List (ℕ → Bool)). length (canonical (rowCount index) (λ (r : ℕ). chosen op table (held ps r))) ≤ 2 * stretches (rowCount index) (namedBodies index list)) (named-is index list)
+          subst (λ (ps : List (ℕ → Bool)). length (canonical (formatOf index) (rowCount index) (λ (r : ℕ). chosen op table (held ps r))) ≤ 2 * stretches (formatOf index) (rowCount index) (namedBodies index list)) (named-is index list)
           (twice-stretches index list (chosen op table) (index-means index .1 (w .facts)) (w .some) (w .listed .its))
 
       pub twice-most : length (answerBody index list op table) ≤ 2 * totalWords (namedBodies index list)
-      twice-most = omega (arith, twice-ends, stretches-le (rowCount index) (namedBodies index list))
+      twice-most = omega (arith, twice-ends, stretches-le (formatOf index) (rowCount index) (namedBodies index list))
 
 -- a pass that only measures asks for no room
 pub not-stored : (index list : List ℕ) (op : Operation) (table out : List ℕ) → false ≡ true → length (answerBody index list op table) ≤ length out

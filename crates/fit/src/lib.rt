@@ -13,6 +13,7 @@ ghost use Rattle.merge.specs.Merges.{Walkable, Mergeable, answerBody};
 ghost use Rattle.answers.specs.Told.{Reported};
 use answers::answer;
 use answers::answer::Answered;
+use meaning::Format;
 use meaning::MOST_DIRTY;
 use merge::engine;
 use merge::evaluate::Operation;
@@ -35,14 +36,19 @@ fn named_words(index: &[u32], list: &[u32]) -> usize
     total
 }
 
-// The most words that a body of the index's rows can have.
+// The most words that a body of the index's rows can have: in EWAH a word for each segment and for each marker, in WAH a word for each
+// segment.
 fn most_words(index: &[u32]) -> usize
     requires { ⌜ IndexFacts (now index) ⌝ }
     ensures { λ r. ⌜ ((list table : List ℕ) (op : Operation)
         → length (answerBody (now (index .entry)) list op table) ≤ r) ⌝ }
 {
-    let segments = contents::wide(rows::segment_count(contents::rows(index)));
-    segments + segments / MOST_DIRTY as usize + 1
+    let format = contents::format(index);
+    let segments = contents::wide(rows::segments(format, contents::rows(index)));
+    match format {
+        Format::Ewah => segments + segments / MOST_DIRTY as usize + 1,
+        Format::Wah => segments,
+    }
 }
 
 // Whether a buffer surely has room for the answer, whatever is asked of the list: for any body of the index's rows, or for two

@@ -11,9 +11,8 @@ use lib.Dec.{eqb, leb, ltb}
 use lib.ListN.{length, drop, getD, drop-of-length-le}
 use lib.Seq.{drop-cons}
 use Rattle.meaning.specs.Refusal.{Outcome, answer, refuseIf}
-use Rattle.meaning.specs.Ewah.{rowsOf}
-use Rattle.meaning.specs.Canonical.{canonical}
-use Rattle.meaning.specs.Index.{rowCount, rowsAt}
+use Rattle.meaning.specs.Format.{rowsOf, canonical}
+use Rattle.meaning.specs.Index.{formatOf, rowCount, rowsAt}
 use Rattle.meaning.specs.Question.{held, atLeast, byTable, histogramOf}
 use Rattle.meaning.specs.Ahead.{answerRows}
 use Rattle.meaning.specs.Answer.{named, rightRows, badEntry, write, fits, histogramReported}
@@ -57,13 +56,13 @@ module _ (index list out : List ℕ) (rest : Outcome (List ℕ)) (a b c : Bool) 
 -- ---- the body of the answer
 
 module _ (index list : List ℕ) where
-  pub threshold-body : (t room : ℕ) (table : List ℕ) → fits room (answerBody index list (operation.AtLeast t) table) ≡ write (rowCount index) (rightRows index list t) room
+  pub threshold-body : (t room : ℕ) (table : List ℕ) → fits room (answerBody index list (operation.AtLeast t) table) ≡ write (formatOf index) (rowCount index) (rightRows index list t) room
   unfolding answerBody answerRows chosen rightRows atLeast named write
-  threshold-body t room table = ap (λ (ps : List (ℕ → Bool)). fits room (canonical (rowCount index) (λ (r : ℕ). leb t (held ps r)))) (sym (named-is index list))
+  threshold-body t room table = ap (λ (ps : List (ℕ → Bool)). fits room (canonical (formatOf index) (rowCount index) (λ (r : ℕ). leb t (held ps r)))) (sym (named-is index list))
 
-  pub symmetric-body : (room : ℕ) (table : List ℕ) → fits room (answerBody index list operation.Table table) ≡ write (rowCount index) (byTable table (named index list)) room
+  pub symmetric-body : (room : ℕ) (table : List ℕ) → fits room (answerBody index list operation.Table table) ≡ write (formatOf index) (rowCount index) (byTable table (named index list)) room
   unfolding answerBody answerRows chosen byTable named write
-  symmetric-body room table = ap (λ (ps : List (ℕ → Bool)). fits room (canonical (rowCount index) (λ (r : ℕ). eqb (getD table (held ps r) 0) 1))) (sym (named-is index list))
+  symmetric-body room table = ap (λ (ps : List (ℕ → Bool)). fits room (canonical (formatOf index) (rowCount index) (λ (r : ℕ). eqb (getD table (held ps r) 0) 1))) (sym (named-is index list))
 
 module _ (index list : List ℕ) (b : Bool) where
   abbrev counted : Outcome (List ℕ)
@@ -73,7 +72,7 @@ module _ (index list : List ℕ) (b : Bool) where
   unfolding refuseIf
   counted-refused h r e g w = rw h (rw e at w)
 
-  pub counted-sound : b ≡ false → (counts : List ℕ) → counts ≡ histogramOf (rowCount index) (map rowsOf (bodiesOf index list)) → Counted counted (record { checked = checked.Sound; counts = counts })
+  pub counted-sound : b ≡ false → (counts : List ℕ) → counts ≡ histogramOf (rowCount index) (map (rowsOf (formatOf index)) (bodiesOf index list)) → Counted counted (record { checked = checked.Sound; counts = counts })
   unfolding refuseIf histogramTold histogramReported named
   counted-sound h counts e =
       let is : counts ≡ histogramOf (rowCount index) (map (rowsAt index) list) = e ∙ ap (histogramOf (rowCount index)) (sym (named-is index list)) in

@@ -9,13 +9,13 @@ use lib.ListN.{length}
 use Rattle.meaning.specs.Limits.{mostNamed}
 use Rattle.meaning.specs.Rows.{bit}
 use Rattle.meaning.specs.Refusal.{Outcome, refused, refuseIf}
-use Rattle.meaning.specs.Canonical.{canonical}
-use Rattle.meaning.specs.Index.{rowCount, rowsAt}
+use Rattle.meaning.specs.Format.{canonical}
+use Rattle.meaning.specs.Index.{formatOf, rowCount, rowsAt}
 use Rattle.meaning.specs.Question.{held, intersection, union, symmetricDifference, difference, complement}
 use Rattle.meaning.specs.Ahead.{answerRows}
 use Rattle.meaning.specs.Answer.{badBitmap, anyBad, named, write, fits}
 use Rattle.meaning.proofs.Demanded.{named-is, good-each}
-use Rattle.meaning.proofs.CanonicalBody.{canonical-ext}
+use Rattle.meaning.proofs.Formats.{canonical-ext}
 use Rattle.merge.specs.declared.evaluate.Operation.{Operation}
 use Rattle.merge.specs.declared.evaluate.Operation.the-variants as operation
 use Rattle.merge.specs.Operations.{chosen}
@@ -43,11 +43,11 @@ module _ (index list : List ℕ) (o : Outcome (List ℕ)) (out out′ : List ℕ
 -- ---- the rows chosen, by any name
 
 pub chosen-body : (index list : List ℕ) (op : Operation) (room : ℕ) (p : ℕ → Bool) → ((i : ℕ) → chosen op [] (held (named index list) i) ≡ p i)
-    → fits room (answerBody index list op []) ≡ write (rowCount index) p room
+    → fits room (answerBody index list op []) ≡ write (formatOf index) (rowCount index) p room
 unfolding answerBody answerRows named write
 chosen-body index list op room p h =
-    ap (λ (ps : List (ℕ → Bool)). fits room (canonical (rowCount index) (λ (r : ℕ). chosen op [] (held ps r)))) (sym (named-is index list))
-    ∙ ap (fits room) (canonical-ext (rowCount index) (λ (r : ℕ). chosen op [] (held (map (rowsAt index) list) r)) p (λ r g. h r))
+    ap (λ (ps : List (ℕ → Bool)). fits room (canonical (formatOf index) (rowCount index) (λ (r : ℕ). chosen op [] (held ps r)))) (sym (named-is index list))
+    ∙ ap (fits room) (canonical-ext (formatOf index) (rowCount index) (λ (r : ℕ). chosen op [] (held (map (rowsAt index) list) r)) p (λ r g. h r))
 
 -- one, two or three bitmaps
 module _ (index : List ℕ) (j k : ℕ) where

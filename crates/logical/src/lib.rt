@@ -6,7 +6,7 @@ ghost use Prim.Native.Nat.{ℕ, _≤_};
 ghost use lib.ListN.{length};
 ghost use Rattle.meaning.specs.Limits.{mostNamed};
 ghost use Rattle.meaning.specs.Refusal.{Outcome, refuseIf};
-ghost use Rattle.meaning.specs.Index.{rowCount};
+ghost use Rattle.meaning.specs.Index.{formatOf, rowCount};
 ghost use Rattle.meaning.specs.Question.{held, intersection, union, symmetricDifference, difference};
 ghost use Rattle.meaning.specs.Laws.{IndexFacts};
 ghost use Rattle.meaning.specs.Answer as meaning;
@@ -37,7 +37,7 @@ fn ask_list(index: &[u32], list: &[u32], op: Operation, out: &mut [u32]) -> Writ
     ensures { λ r. ⌜ ((p : ℕ → Bool) (bad : Bool)
         → meaning.anyBad (now (index .entry)) (now (list .entry)) ≡ bad
         → ((i : ℕ) → chosen op [] (held (meaning.named (now (index .entry)) (now (list .entry))) i) ≡ p i)
-        → Wrote (refuseIf bad 8 0 0 (meaning.write (rowCount (now (index .entry))) p (length (now (out .entry)))))
+        → Wrote (refuseIf bad 8 0 0 (meaning.write (formatOf (now (index .entry))) (rowCount (now (index .entry))) p (length (now (out .entry)))))
         r (now (out .entry)) (now (out .exit))) ⌝ }
 {
     if ask::names_missing(index, list) {

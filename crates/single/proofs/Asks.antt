@@ -1,7 +1,7 @@
 -- Questions on a sound body: what is refused, with 8 or 9, and the answers.
 -- Assumes nothing.
-use Prim.Native.Nat.{ℕ, _*_, _≤_, _<_}
-use mathlib.Core.Bool.{Bool}
+use Prim.Native.Nat.{ℕ, _≤_, _<_}
+use mathlib.Core.Bool.{Bool, true, false, false≢true}
 use mathlib.Core.Path.{_≡_, sym, ap, _∙_}
 use mathlib.Core.List.{List, _++_}
 use native.Mathlib.Omega.{arith}
@@ -9,10 +9,10 @@ use borrow.Author.Tests.{le-leb, lt-leb}
 use lib.ListN.{length, drop}
 use Rattle.meaning.specs.Segment.{segmentCount, fromRows}
 use Rattle.meaning.specs.Refusal.{refused, answer, refuseIf}
-use Rattle.meaning.specs.Ewah.{segments}
-use Rattle.meaning.specs.Laws.{SoundFacts}
-use Rattle.meaning.specs.Answer.{askRow, askPlain}
-use Rattle.meaning.proofs.RowWords.{rows-fit, from-length}
+use Rattle.meaning.specs.Format.{canonical}
+use Rattle.meaning.specs.declared.Format.{Format}
+use Rattle.meaning.specs.Answer.{askRow, askPlain, write}
+use Rattle.meaning.proofs.RowWords.{from-length}
 use Rattle.answers.specs.declared.refusal.Refusal.{Refusal}
 use Rattle.answers.specs.declared.answer.Written.the-variants as written
 use Rattle.answers.specs.Told.{refusal, Wrote}
@@ -25,10 +25,6 @@ row-past R p r h = rw (le-leb R r h)
 pub row-here : (R : ℕ) (p : ℕ → Bool) (r : ℕ) (x : Bool) → r < R → x ≡ p r → answer x ≡ askRow R p r
 unfolding askRow refuseIf
 row-here R p r x h e = rw (lt-leb R r h, e)
-
--- a row lies in a segment
-pub row-within : (R : ℕ) (b : List ℕ) → SoundFacts R b → (r : ℕ) → r < R → r < length (segments b) * 32
-row-within R b f r h = rw (f .count) (omega (arith, rows-fit 32 (omega arith) R))
 
 -- the plain words of the rows p into a buffer: n of them, too many or not
 module _ (R : ℕ) (p : ℕ → Bool) (out : List ℕ) (n : ℕ) (is : n ≡ segmentCount 32 R) where
@@ -46,3 +42,35 @@ module _ (R : ℕ) (p : ℕ → Bool) (out : List ℕ) (n : ℕ) (is : n ≡ seg
   plain-words out′ h e =
       wrote-words out (fromRows 32 R p) n (is ∙ long) out′ h
       (e ∙ ap (λ (k : ℕ). fromRows 32 R p ++ drop k out) long)
+
+-- a body that is only measured asks for no room
+pub not-stored : (F : Format) (R : ℕ) (p : ℕ → Bool) (out : List ℕ) → false ≡ true → length (canonical F R p) ≤ length out
+not-stored F R p out e = absurd (false≢true e)
+
+-- the canonical body of the rows p, of n words, into a buffer
+module _ (F : Format) (R : ℕ) (p : ℕ → Bool) (out : List ℕ) (n : ℕ) (is : n ≡ length (canonical F R p)) where
+  pub write-none : (r : Refusal) → r ≡ refusal 9 n → length out < n
+      → Wrote (write F R p (length out)) (written.Refused r) out out
+  unfolding write
+  write-none r e h = rw e (wrote-none out (canonical F R p) n is h)
+
+  pub write-words : (out′ : List ℕ) → n ≤ length out → out′ ≡ canonical F R p ++ drop (length (canonical F R p)) out
+      → Wrote (write F R p (length out)) (written.Words n) out out′
+  unfolding write
+  write-words out′ h e = wrote-words out (canonical F R p) n is out′ h e
+
+  -- where another count of the words was told
+  pub write-told : (m : ℕ) (out′ : List ℕ) → n ≤ length out → m ≡ length (canonical F R p) → out′ ≡ canonical F R p ++ drop m out
+      → Wrote (write F R p (length out)) (written.Words m) out out′
+  unfolding write
+  write-told m out′ h e g =
+      wrote-words out (canonical F R p) m e out′ (omega arith) (g ∙ ap (λ (k : ℕ). canonical F R p ++ drop k out) e)
+
+  -- where the buffer was measured first, as `mid`, and is as it was
+  pub write-kept : (mid : List ℕ) (r : Refusal) → mid ≡ out → r ≡ refusal 9 n → length mid < n
+      → Wrote (write F R p (length out)) (written.Refused r) out mid
+  write-kept mid r k e h = rw k (write-none r e (rw k at h))
+
+  pub write-anew : (mid out′ : List ℕ) → mid ≡ out → n ≤ length mid → out′ ≡ canonical F R p ++ drop (length (canonical F R p)) mid
+      → Wrote (write F R p (length out)) (written.Words n) out out′
+  write-anew mid out′ k h e = write-words out′ (rw k at h) (e ∙ ap (λ (l : List ℕ). canonical F R p ++ drop (length (canonical F R p)) l) k)

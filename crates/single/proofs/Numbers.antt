@@ -1,14 +1,17 @@
 -- A bitmap's number, and what holds of a bitmap that is there.
 -- Assumes nothing.
 use Prim.Native.Nat.{ℕ, _≤_, _<_}
-use mathlib.Core.Path.{_≡_}
+use mathlib.Core.Bool.{Bool}
+use mathlib.Core.Path.{_≡_, sym, ap, ap₂, _∙_, subst, subst₂}
 use mathlib.Core.List.{List}
 use borrow.Author.Tests.{le-leb, lt-leb}
 use Rattle.meaning.specs.Limits.{mostRows}
 use Rattle.meaning.specs.Refusal.{refused, sound, refuseIf}
-use Rattle.meaning.specs.Index.{rowCount, bitmapCount, bodyAt}
+use Rattle.meaning.specs.Format.{rowsOf}
+use Rattle.meaning.specs.declared.Format.{Format}
+use Rattle.meaning.specs.Index.{formatOf, rowCount, bitmapCount, bodyAt, rowsAt}
 use Rattle.meaning.specs.Answer.{badBitmap}
-use Rattle.meaning.specs.Laws.{SoundFacts, Known}
+use Rattle.meaning.specs.Laws.{SoundFacts, IndexFacts}
 
 module _ (index : List ℕ) (k n : ℕ) (is : n ≡ bitmapCount index) where
   pub number-bad : n ≤ k → refused 8 0 0 ≡ refuseIf (badBitmap index k) 8 0 0 sound
@@ -19,10 +22,20 @@ module _ (index : List ℕ) (k n : ℕ) (is : n ≡ bitmapCount index) where
   unfolding badBitmap refuseIf
   number-good h = rw (← is, lt-leb n k h)
 
--- the rows and the body as they were read
-module _ (index : List ℕ) (k : ℕ) (h : Known index k) where
+-- the format, the rows and the body as they were read
+module _ (index : List ℕ) (k : ℕ) (f : IndexFacts index) (below : k < bitmapCount index) where
   pub rows-as : (R : ℕ) → R ≡ rowCount index → R ≤ mostRows
-  rows-as R e = rw e (h .facts .head .few-rows)
+  rows-as R e = rw e (f .head .few-rows)
 
-  pub facts-as : (R : ℕ) (b : List ℕ) → R ≡ rowCount index → b ≡ bodyAt index k → SoundFacts R b
-  facts-as R b e f = rw (e, f) (h .facts .bodies k (h .below))
+  pub facts-as : (F : Format) (R : ℕ) (b : List ℕ) → F ≡ formatOf index → R ≡ rowCount index → b ≡ bodyAt index k → SoundFacts F R b
+  facts-as F R b e g h =
+      subst (λ (G : Format). SoundFacts G R b) (sym e)
+      (subst₂ (λ (n : ℕ) (l : List ℕ). SoundFacts (formatOf index) n l) (sym g) (sym h) (f .bodies k below))
+
+  -- so what is asked of them is asked of the bitmap
+  pub asked-as : (A : Type 0) (ask : ℕ → (ℕ → Bool) → A) (F : Format) (R : ℕ) (b : List ℕ)
+      → F ≡ formatOf index → R ≡ rowCount index → b ≡ bodyAt index k → ask R (rowsOf F b) ≡ ask (rowCount index) (rowsAt index k)
+  unfolding rowsAt
+  asked-as A ask F R b e g h =
+      ap (λ (G : Format). ask R (rowsOf G b)) e
+      ∙ ap₂ (λ (n : ℕ) (l : List ℕ). ask n (rowsOf (formatOf index) l)) g h

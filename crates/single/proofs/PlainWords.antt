@@ -3,25 +3,24 @@
 use Prim.Native.Nat.{ℕ, _-_, _^_, _≤_, _<_}
 use mathlib.Core.Bool.{Bool, true, false, not}
 use mathlib.Core.Path.{_≡_, refl, sym, ap, _∙_}
-use mathlib.Core.List.{List, [], _∷_, _++_}
+use mathlib.Core.List.{List, [], _∷_}
 use native.Mathlib.Omega.{arith}
 use borrow.Author.Tests.{lt-ltb, le-ltb, ltb-false, eq-eqb, ne-eqb, eqb-true, lt-leb, leb-false, not-false}
 use lib.Dec.{eqb, leb, ltb}
-use lib.ListN.{length, drop, getD}
+use lib.ListN.{length, getD}
 use lib.Pow.{pow-pos}
 use Rattle.meaning.specs.Limits.{mostRows}
 use Rattle.meaning.specs.Segment.{kinds, segmentCount, lastRows, lastLimit, lastOf, hasRow}
 use Rattle.meaning.specs.Refusal.{refused, sound, refuseIf, _then_}
-use Rattle.meaning.specs.Canonical.{canonicalOf, canonical}
+use Rattle.meaning.specs.Canonical.{ewahOf}
+use Rattle.meaning.specs.Format.{canonical}
+use Rattle.meaning.specs.declared.Format.the-variants.{Ewah}
 use Rattle.meaning.specs.Demands.{Words, PlainRows}
-use Rattle.meaning.specs.Answer.{rowsFault, plainFault, write}
+use Rattle.meaning.specs.Answer.{rowsFault, plainFault}
 use Rattle.meaning.proofs.RowWords.{rows-decide, last-getD}
 use Rattle.meaning.proofs.Segments.{encoded, canonical-is}
 use Rattle.meaning.proofs.Outcomes.{refuse-answer, then-answer}
-use Rattle.answers.specs.declared.refusal.Refusal.{Refusal}
 use Rattle.answers.specs.declared.answer.Written.the-variants as written
-use Rattle.answers.specs.Told.{refusal, Wrote}
-use Rattle.answers.proofs.Tells.{wrote-none, wrote-words}
 
 module _ (R : ℕ) (plain : List ℕ) where
   pub plain-over : mostRows < R → refused 3 0 1 ≡ plainFault R plain
@@ -75,24 +74,9 @@ module _ (R : ℕ) (plain : List ℕ) where
         pads = leb-false (lastLimit 32 R) (lastOf plain) (b .0);
       }
 
-  -- valid plain words are the segments of their rows
-  canonical-plain : PlainRows R plain → canonical R (hasRow 32 plain) ≡ canonicalOf (kinds 32 R plain)
+  -- valid plain words are the segments of their rows, as EWAH has them
+  pub canonical-plain : PlainRows R plain → canonical Ewah R (hasRow 32 plain) ≡ ewahOf (kinds 32 R plain)
   canonical-plain g =
       let p = hasRow 32 plain in
       let same = rows-decide 32 (omega arith) R p plain (g .count) (g .words) (g .pads) (λ r h. refl) in
       canonical-is R p ∙ ap (encoded R) (sym same) ∙ (unfold encoded in refl)
-
-  module _ (g : PlainRows R plain) (out : List ℕ) (n : ℕ) (is : n ≡ length (canonicalOf (kinds 32 R plain))) where
-    same-length : n ≡ length (canonical R (hasRow 32 plain))
-    same-length = is ∙ ap length (sym (canonical-plain g))
-
-    pub write-none : (r : Refusal) → r ≡ refusal 9 n → length out < n → Wrote (write R (hasRow 32 plain) (length out)) (written.Refused r) out out
-    unfolding write
-    write-none r e h = rw e (wrote-none out (canonical R (hasRow 32 plain)) n same-length h)
-
-    pub write-words : (out′ : List ℕ) → n ≤ length out → out′ ≡ canonicalOf (kinds 32 R plain) ++ drop n out
-        → Wrote (write R (hasRow 32 plain) (length out)) (written.Words n) out out′
-    unfolding write
-    write-words out′ h e =
-        wrote-words out (canonical R (hasRow 32 plain)) n same-length out′ h
-        (rw (canonical-plain g) (e ∙ ap (λ (k : ℕ). canonicalOf (kinds 32 R plain) ++ drop k out) is))

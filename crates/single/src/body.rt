@@ -1,9 +1,11 @@
 // Questions on a body that has no fault: what is left to be refused, and the answer.
 ghost use mathlib.Core.Path.{_≡_};
 ghost use Prim.Native.Nat.{_≤_};
-ghost use lib.ListN.{length};
+ghost use mathlib.Core.List.{_++_};
+ghost use lib.ListN.{length, drop};
 ghost use Rattle.meaning.specs.Limits.{mostRows};
-ghost use Rattle.meaning.specs.Ewah.{rowsOf};
+ghost use Rattle.meaning.specs.Segment.{segmentCount, fromRows};
+ghost use Rattle.meaning.specs.Format.{rowsOf};
 ghost use Rattle.meaning.specs.Laws.{SoundFacts};
 ghost use Rattle.meaning.specs.Answer as meaning;
 ghost use Rattle.answers.specs.Told.{flagOf, numberOf, Wrote};
@@ -11,47 +13,74 @@ use answers::answer;
 use answers::answer::Flag;
 use answers::answer::Number;
 use answers::answer::Written;
-use ewah_read::expand;
-use ewah_read::nth;
+use body_read::nth;
+use body_read::row;
 use ewah_read::nth::Found;
-use ewah_read::row;
+use meaning::Format;
 use words::rows;
 
 // Whether row r is set; 8 where there is none.
-pub fn row(body: &[u32], rows: u32, r: u32) -> Flag
-    requires { ⌜ SoundFacts rows (now body) ⌝ }
-    ensures { λ x. ⌜ flagOf x ≡ meaning.askRow rows (rowsOf (now (body .entry))) r ⌝ }
+pub fn row(format: Format, body: &[u32], rows: u32, r: u32) -> Flag
+    requires { ⌜ SoundFacts format rows (now body) ⌝ }
+    ensures { λ x. ⌜ flagOf x ≡ meaning.askRow rows (rowsOf format (now (body .entry))) r ⌝ }
 {
     if rows <= r {
         return Flag::Refused(answer::bad_argument());
     }
-    Flag::Is(row::row(body, r))
+    Flag::Is(row::row(format, body, r))
 }
 
 // The nth set row; 8 where there are not so many.
-pub fn nth(body: &[u32], rows: u32, n: u32) -> Number
+pub fn nth(format: Format, body: &[u32], rows: u32, n: u32) -> Number
     requires { ⌜ rows ≤ mostRows ⌝ }
-    requires { ⌜ SoundFacts rows (now body) ⌝ }
-    ensures { λ x. ⌜ numberOf x ≡ meaning.askNth rows (rowsOf (now (body .entry))) n ⌝ }
+    requires { ⌜ SoundFacts format rows (now body) ⌝ }
+    ensures { λ x. ⌜ numberOf x ≡ meaning.askNth rows (rowsOf format (now (body .entry))) n ⌝ }
 {
-    let found = nth::nth(body, rows, n);
+    let found = nth::nth(format, body, rows, n);
     match found {
         Found::Row(r) => Number::Is(r),
         Found::Past => Number::Refused(answer::bad_argument()),
     }
 }
 
+// The rows as plain words, into a buffer with room for them.
+fn expand(format: Format, body: &[u32], rows: u32, out: &mut [u32])
+    requires { ⌜ (rows ≤ mostRows) × SoundFacts format rows (now body) × (segmentCount 32 rows ≤ length (now out)) ⌝ }
+    ensures { λ _. ⌜ now (out .exit)
+        ≡ fromRows 32 rows (rowsOf format (now (body .entry))) ++ drop (segmentCount 32 rows) (now (out .entry)) ⌝ }
+{
+    match format {
+        Format::Ewah => ewah_read::expand::expand(body, rows, out),
+        Format::Wah => rewrite::expand::expand(body, rows, out),
+    }
+}
+
 // The plain words; 9 where they do not fit.
-pub fn plain(body: &[u32], rows: u32, out: &mut [u32]) -> Written
+pub fn plain(format: Format, body: &[u32], rows: u32, out: &mut [u32]) -> Written
     requires { ⌜ rows ≤ mostRows ⌝ }
-    requires { ⌜ SoundFacts rows (now body) ⌝ }
-    ensures { λ r. ⌜ Wrote (meaning.askPlain rows (rowsOf (now (body .entry))) (length (now (out .entry))))
+    requires { ⌜ SoundFacts format rows (now body) ⌝ }
+    ensures { λ r. ⌜ Wrote (meaning.askPlain rows (rowsOf format (now (body .entry))) (length (now (out .entry))))
         r (now (out .entry)) (now (out .exit)) ⌝ }
 {
     let need = rows::segment_count(rows) as usize;
     if out.len() < need {
         return Written::Refused(answer::no_room(need as u64));
     }
-    expand::expand(body, rows, out);
+    expand(format, body, rows, out);
+    Written::Words(need)
+}
+
+// The body in canonical form of the format `to`; 9 where it does not fit.
+pub fn rewrite(from: Format, to: Format, body: &[u32], rows: u32, out: &mut [u32]) -> Written
+    requires { ⌜ rows ≤ mostRows ⌝ }
+    requires { ⌜ SoundFacts from rows (now body) ⌝ }
+    ensures { λ r. ⌜ Wrote (meaning.write to rows (rowsOf from (now (body .entry))) (length (now (out .entry))))
+        r (now (out .entry)) (now (out .exit)) ⌝ }
+{
+    let need = rewrite::body::rewrite(from, to, body, rows, out, false);
+    if out.len() < need {
+        return Written::Refused(answer::no_room(need as u64));
+    }
+    rewrite::body::rewrite(from, to, body, rows, out, true);
     Written::Words(need)
 }

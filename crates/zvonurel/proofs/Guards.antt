@@ -1,15 +1,17 @@
 -- A call behind a check: where the check finds nothing it tells what the question behind it tells.
 -- Assumes nothing.
-use Prim.Native.Nat.{ℕ}
+use Prim.Native.Nat.{ℕ, _<_}
 use mathlib.Core.Path.{_≡_, sym, subst₂}
 use mathlib.Core.List.{List}
 use lib.ListN.{length}
 use Rattle.meaning.specs.Refusal.{Outcome, Verdict, _then_}
-use Rattle.meaning.specs.Answer.{check, threshold}
+use Rattle.meaning.specs.Index.{bitmapCount}
+use Rattle.meaning.specs.Answer.{check, bitmapRefusal, threshold}
 use Rattle.meaning.specs.Laws.{IndexFacts}
 use Rattle.meaning.specs.Demands.{Asked, ThresholdDemand}
 use Rattle.meaning.proofs.Demanded.{threshold-demand}
 use Rattle.meaning.proofs.IndexSound.{index-means}
+use Rattle.meaning.proofs.BitmapPart.{part-laws}
 use Rattle.meaning.proofs.Outcomes.{then-sound}
 use Rattle.answers.specs.declared.refusal.Checked.{Checked}
 use Rattle.answers.specs.declared.refusal.Checked.the-variants as checked
@@ -21,6 +23,11 @@ use Rattle.answers.specs.declared.answer.Answered.{Answered}
 pub checked-index : (k : Checked) (index : List ℕ) → verdictOf k ≡ check index → k ≡ checked.Sound → IndexFacts index
 unfolding check
 checked-index k index e h = index-means index .0 (sound-is k (check index) e h)
+
+-- a bitmap that is not refused
+pub known-index : (k : Checked) (index : List ℕ) (i : ℕ) → verdictOf k ≡ bitmapRefusal index i → k ≡ checked.Sound
+    → IndexFacts index × (i < bitmapCount index)
+known-index k index i e h = let p = part-laws .known index i (sound-is k (bitmapRefusal index i) e h) in (p .facts, p .below)
 
 pub reported-then : (index list : List ℕ) (k : Checked) (v : Verdict) (o : Outcome (List ℕ)) (r : Answered) (out out′ : List ℕ) → verdictOf k ≡ v → k ≡ checked.Sound → Reported index list o r out out′ → Reported index list (v then o) r out out′
 reported-then index list k v o r out out′ e h w = rw (then-sound v o (sound-is k v e h)) w

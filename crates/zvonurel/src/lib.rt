@@ -1,8 +1,8 @@
-// Zvonurel: EWAH bitmaps over lent slices of 32-bit words. Every public call is on this page.
+// Zvonurel: EWAH and WAH bitmaps over lent slices of 32-bit words. Every public call is on this page.
 //
 // A call asks nothing of its input: what is wrong with it is refused, with paper 01's three numbers. Each `ensures` settles
 // what is returned, and every word of a lent buffer afterwards, for every input. The outcomes that they name are defined in
-// `meaning`'s `specs/Answer.antt` and `specs/Columns.antt`; `answers`' `specs/Told.antt` says which outcome an answer tells.
+// `meaning`'s `specs/Answer.antt`, `specs/Columns.antt` and `specs/Rewriting.antt`; `answers`' `specs/Told.antt` says which outcome an answer tells.
 ghost use mathlib.Core.Path.{_≡_};
 ghost use Prim.Native.Nat.{_+_, _*_};
 ghost use lib.ListN.{length};
@@ -11,6 +11,7 @@ ghost use Rattle.meaning.specs.Refusal.{sound};
 ghost use Rattle.meaning.specs.Index.{startOf};
 ghost use Rattle.meaning.specs.Answer as meaning;
 ghost use Rattle.meaning.specs.Columns as columns;
+ghost use Rattle.meaning.specs.Rewriting as rewriting;
 ghost use Rattle.meaning.specs.Demands.{Asked, ThresholdDemand};
 ghost use Rattle.answers.specs.Told.{verdictOf, flagOf, numberOf, valueTold, answeredOf, Wrote, Reported, Counted};
 use answers::answer;
@@ -22,78 +23,91 @@ pub use answers::answer::Value;
 pub use answers::answer::Written;
 pub use answers::refusal::Checked;
 pub use answers::refusal::Refusal;
+pub use meaning::Format;
 use meaning::MOST_ROWS;
 
-// ---- one body alone: bitmap 0, with places counted in the body. More rows than the limit are refused first
+// ---- one body alone, of a format: bitmap 0, with places counted in the body. More rows than the limit are refused first
 
 // The first fault of a body of that many rows.
-pub fn check_body(body: &[u32], rows: u32) -> Checked
-    ensures { λ r. ⌜ verdictOf r ≡ meaning.checkBody rows (now (body .entry)) ⌝ }
+pub fn check_body(format: Format, body: &[u32], rows: u32) -> Checked
+    ensures { λ r. ⌜ verdictOf r ≡ meaning.checkBody format rows (now (body .entry)) ⌝ }
 {
     if MOST_ROWS < rows {
         return Checked::Refused(answer::too_many_rows());
     }
-    ewah::check::check(body, rows, 0, 0)
+    bodies::check::check(format, body, rows, 0, 0)
 }
 
 // Whether a row is set.
-pub fn body_row(body: &[u32], rows: u32, row: u32) -> Flag
-    ensures { λ r. ⌜ flagOf r ≡ meaning.bodyRow rows (now (body .entry)) row ⌝ }
+pub fn body_row(format: Format, body: &[u32], rows: u32, row: u32) -> Flag
+    ensures { λ r. ⌜ flagOf r ≡ meaning.bodyRow format rows (now (body .entry)) row ⌝ }
 {
-    let checked = check_body(body, rows);
+    let checked = check_body(format, body, rows);
     match checked {
         Checked::Refused(refusal) => Flag::Refused(refusal),
-        Checked::Sound => single::body::row(body, rows, row),
+        Checked::Sound => single::body::row(format, body, rows, row),
     }
 }
 
 // How many rows are set.
-pub fn body_count(body: &[u32], rows: u32) -> Number
-    ensures { λ r. ⌜ numberOf r ≡ meaning.bodyCount rows (now (body .entry)) ⌝ }
+pub fn body_count(format: Format, body: &[u32], rows: u32) -> Number
+    ensures { λ r. ⌜ numberOf r ≡ meaning.bodyCount format rows (now (body .entry)) ⌝ }
 {
-    let checked = check_body(body, rows);
+    let checked = check_body(format, body, rows);
     match checked {
         Checked::Refused(refusal) => Number::Refused(refusal),
-        Checked::Sound => Number::Is(ewah_read::count::count(body, rows)),
+        Checked::Sound => Number::Is(body_read::count::count(format, body, rows)),
     }
 }
 
 // The nth set row, counted from 0.
-pub fn body_nth(body: &[u32], rows: u32, n: u32) -> Number
-    ensures { λ r. ⌜ numberOf r ≡ meaning.bodyNth rows (now (body .entry)) n ⌝ }
+pub fn body_nth(format: Format, body: &[u32], rows: u32, n: u32) -> Number
+    ensures { λ r. ⌜ numberOf r ≡ meaning.bodyNth format rows (now (body .entry)) n ⌝ }
 {
-    let checked = check_body(body, rows);
+    let checked = check_body(format, body, rows);
     match checked {
         Checked::Refused(refusal) => Number::Refused(refusal),
-        Checked::Sound => single::body::nth(body, rows, n),
+        Checked::Sound => single::body::nth(format, body, rows, n),
     }
 }
 
 // The body's rows as plain words, 32 rows to a word, the lowest bit first.
-pub fn expand(body: &[u32], rows: u32, out: &mut [u32]) -> Written
-    ensures { λ r. ⌜ Wrote (meaning.expand rows (now (body .entry)) (length (now (out .entry))))
+pub fn expand(format: Format, body: &[u32], rows: u32, out: &mut [u32]) -> Written
+    ensures { λ r. ⌜ Wrote (meaning.expand format rows (now (body .entry)) (length (now (out .entry))))
         r (now (out .entry)) (now (out .exit)) ⌝ }
 {
-    let checked = check_body(body, rows);
+    let checked = check_body(format, body, rows);
     match checked {
         Checked::Refused(refusal) => Written::Refused(refusal),
-        Checked::Sound => single::body::plain(body, rows, out),
+        Checked::Sound => single::body::plain(format, body, rows, out),
     }
 }
 
 // Plain words as a body in canonical form.
-pub fn compress(rows: u32, plain: &[u32], out: &mut [u32]) -> Written
-    ensures { λ r. ⌜ Wrote (meaning.compress rows (now (plain .entry)) (length (now (out .entry))))
+pub fn compress(format: Format, rows: u32, plain: &[u32], out: &mut [u32]) -> Written
+    ensures { λ r. ⌜ Wrote (meaning.compress format rows (now (plain .entry)) (length (now (out .entry))))
         r (now (out .entry)) (now (out .exit)) ⌝ }
 {
     let checked = single::plain::check_plain(plain, rows);
     match checked {
         Checked::Refused(refusal) => Written::Refused(refusal),
-        Checked::Sound => single::plain::write_plain(plain, rows, out),
+        Checked::Sound => single::plain::write_plain(format, plain, rows, out),
     }
 }
 
-// ---- an index: the whole of it is checked, whatever is asked
+// A body written anew, in canonical form, in the format `to`.
+pub fn rewrite(from: Format, to: Format, body: &[u32], rows: u32, out: &mut [u32]) -> Written
+    ensures { λ r. ⌜ Wrote (rewriting.rewrite from to rows (now (body .entry)) (length (now (out .entry))))
+        r (now (out .entry)) (now (out .exit)) ⌝ }
+{
+    let checked = check_body(from, body, rows);
+    match checked {
+        Checked::Refused(refusal) => Written::Refused(refusal),
+        Checked::Sound => single::body::rewrite(from, to, body, rows, out),
+    }
+}
+
+// ---- an index, of bodies of the format that word 0 states: the whole of it is checked, whatever is asked
 
 // The first fault of an index.
 pub fn check(index: &[u32]) -> Checked
@@ -135,7 +149,7 @@ pub fn row(index: &[u32], k: u32, row: u32) -> Flag
     let checked = bitmap_refusal(index, k);
     match checked {
         Checked::Refused(refusal) => Flag::Refused(refusal),
-        Checked::Sound => single::body::row(contents::body(index, k), contents::rows(index), row),
+        Checked::Sound => single::bitmap::row(index, k, row),
     }
 }
 
@@ -146,10 +160,7 @@ pub fn count(index: &[u32], k: u32) -> Number
     let checked = bitmap_refusal(index, k);
     match checked {
         Checked::Refused(refusal) => Number::Refused(refusal),
-        Checked::Sound => {
-            let body = contents::body(index, k);
-            Number::Is(ewah_read::count::count(body, contents::rows(index)))
-        }
+        Checked::Sound => Number::Is(single::bitmap::count(index, k)),
     }
 }
 
@@ -160,7 +171,7 @@ pub fn nth(index: &[u32], k: u32, n: u32) -> Number
     let checked = bitmap_refusal(index, k);
     match checked {
         Checked::Refused(refusal) => Number::Refused(refusal),
-        Checked::Sound => single::body::nth(contents::body(index, k), contents::rows(index), n),
+        Checked::Sound => single::bitmap::nth(index, k, n),
     }
 }
 
@@ -172,11 +183,35 @@ pub fn expand_bitmap(index: &[u32], k: u32, out: &mut [u32]) -> Written
     let checked = bitmap_refusal(index, k);
     match checked {
         Checked::Refused(refusal) => Written::Refused(refusal),
-        Checked::Sound => single::body::plain(contents::body(index, k), contents::rows(index), out),
+        Checked::Sound => single::bitmap::plain(index, k, out),
     }
 }
 
-// ---- two bitmaps of an index, or one, as a body in canonical form
+// The rows of bitmap k as a body in canonical form of the format `to`.
+pub fn rewrite_bitmap(index: &[u32], k: u32, to: Format, out: &mut [u32]) -> Written
+    ensures { λ r. ⌜ Wrote (rewriting.rewriteBitmap (now (index .entry)) k to (length (now (out .entry))))
+        r (now (out .entry)) (now (out .exit)) ⌝ }
+{
+    let checked = bitmap_refusal(index, k);
+    match checked {
+        Checked::Refused(refusal) => Written::Refused(refusal),
+        Checked::Sound => single::bitmap::rewrite(index, k, to, out),
+    }
+}
+
+// All bitmaps, in their order, as a new index with bodies of the format `to`.
+pub fn rewrite_index(index: &[u32], to: Format, out: &mut [u32]) -> Written
+    ensures { λ r. ⌜ Wrote (rewriting.rewriteIndex (now (index .entry)) to (length (now (out .entry))))
+        r (now (out .entry)) (now (out .exit)) ⌝ }
+{
+    let checked = check(index);
+    match checked {
+        Checked::Refused(refusal) => Written::Refused(refusal),
+        Checked::Sound => archive::rewrite(index, to, out),
+    }
+}
+
+// ---- two bitmaps of an index, or one, as a body in canonical form, of the index's format
 
 // The rows that both have.
 pub fn and(index: &[u32], j: u32, k: u32, out: &mut [u32]) -> Written
@@ -293,7 +328,7 @@ pub fn value(index: &[u32], column: &[u32], row: u32) -> Value
     }
 }
 
-// The sum of two columns of up to `MOST_COLUMN` numbers each, as a new index: the rows that exist in both, then one slice more
+// The sum of two columns of up to `MOST_COLUMN` numbers each, as a new index of the same format: the rows that exist in both, then one slice more
 // than the wider has.
 pub fn sum(index: &[u32], first: &[u32], second: &[u32], out: &mut [u32]) -> Written
     ensures { λ r. ⌜ Wrote (columns.sum (now (index .entry)) (now (first .entry)) (now (second .entry))

@@ -3,6 +3,7 @@
 // A slice is a pointer and a number of words. Each `ensures` cites the same outcome as the public call's, and settles every field
 // of what is returned and every word of a lent buffer; `specs/Exported.antt` says how an outcome is told in numbers.
 ghost use lib.ListN.{length};
+ghost use Rattle.meaning.specs.declared.Format.the-variants.{Ewah};
 ghost use Rattle.meaning.specs.Answer as meaning;
 ghost use Rattle.meaning.specs.Columns as columns;
 ghost use Rattle.meaning.specs.Demands.{Asked, ThresholdDemand};
@@ -17,51 +18,55 @@ pub use replies::reply::ZvPart;
 pub use replies::reply::ZvValue;
 pub use replies::reply::ZvWritten;
 use zvonurel::Checked;
+use zvonurel::Format;
 
-// ---- one body alone: bitmap 0, with places counted in the body
+mod alone;
+mod rewriting;
+
+// ---- one EWAH body alone: bitmap 0, with places counted in the body
 
 #[no_mangle]
 pub extern "C" fn zv_check_body(body: &[u32], rows: u32) -> ZvChecked
-    ensures { λ r. ⌜ Checks (meaning.checkBody rows (now (body .entry))) r ⌝ }
+    ensures { λ r. ⌜ Checks (meaning.checkBody Ewah rows (now (body .entry))) r ⌝ }
 {
-    reply::checked(zvonurel::check_body(body, rows))
+    reply::checked(zvonurel::check_body(Format::Ewah, body, rows))
 }
 
 #[no_mangle]
 pub extern "C" fn zv_body_row(body: &[u32], rows: u32, row: u32) -> ZvFlag
-    ensures { λ r. ⌜ Flags (meaning.bodyRow rows (now (body .entry)) row) r ⌝ }
+    ensures { λ r. ⌜ Flags (meaning.bodyRow Ewah rows (now (body .entry)) row) r ⌝ }
 {
-    reply::flag(zvonurel::body_row(body, rows, row))
+    reply::flag(zvonurel::body_row(Format::Ewah, body, rows, row))
 }
 
 #[no_mangle]
 pub extern "C" fn zv_body_count(body: &[u32], rows: u32) -> ZvNumber
-    ensures { λ r. ⌜ Numbers (meaning.bodyCount rows (now (body .entry))) r ⌝ }
+    ensures { λ r. ⌜ Numbers (meaning.bodyCount Ewah rows (now (body .entry))) r ⌝ }
 {
-    reply::number(zvonurel::body_count(body, rows))
+    reply::number(zvonurel::body_count(Format::Ewah, body, rows))
 }
 
 #[no_mangle]
 pub extern "C" fn zv_body_nth(body: &[u32], rows: u32, n: u32) -> ZvNumber
-    ensures { λ r. ⌜ Numbers (meaning.bodyNth rows (now (body .entry)) n) r ⌝ }
+    ensures { λ r. ⌜ Numbers (meaning.bodyNth Ewah rows (now (body .entry)) n) r ⌝ }
 {
-    reply::number(zvonurel::body_nth(body, rows, n))
+    reply::number(zvonurel::body_nth(Format::Ewah, body, rows, n))
 }
 
 #[no_mangle]
 pub extern "C" fn zv_expand(body: &[u32], rows: u32, out: &mut [u32]) -> ZvWritten
-    ensures { λ r. ⌜ Writes (meaning.expand rows (now (body .entry)) (length (now (out .entry))))
+    ensures { λ r. ⌜ Writes (meaning.expand Ewah rows (now (body .entry)) (length (now (out .entry))))
         r (now (out .entry)) (now (out .exit)) ⌝ }
 {
-    reply::written(zvonurel::expand(body, rows, out))
+    reply::written(zvonurel::expand(Format::Ewah, body, rows, out))
 }
 
 #[no_mangle]
 pub extern "C" fn zv_compress(rows: u32, plain: &[u32], out: &mut [u32]) -> ZvWritten
-    ensures { λ r. ⌜ Writes (meaning.compress rows (now (plain .entry)) (length (now (out .entry))))
+    ensures { λ r. ⌜ Writes (meaning.compress Ewah rows (now (plain .entry)) (length (now (out .entry))))
         r (now (out .entry)) (now (out .exit)) ⌝ }
 {
-    reply::written(zvonurel::compress(rows, plain, out))
+    reply::written(zvonurel::compress(Format::Ewah, rows, plain, out))
 }
 
 // ---- an index

@@ -3,6 +3,7 @@
 -- Assumes nothing.
 use mathlib.Core.Path.{ap, _∙_}
 use denote.Ref.{now}
+use Rattle.meaning.specs.declared.Format.the-variants.{Ewah}
 use Rattle.meaning.specs.Answer as meaning
 use Rattle.replies.specs.Exported.{numberCode}
 use Rattle.meaning.proofs.Numbered as numbered
@@ -23,7 +24,7 @@ returns c =
     let a = k .before .before .args in
     let b = now (a .body) in
     let told = c .number .ensures ∙ ap numberCode (k .body-count .ensures) in
-    numbers (meaning.bodyCount (a .rows) b) (c .number .result) (numbered.body-count (a .rows) b) told
+    numbers (meaning.bodyCount Ewah (a .rows) b) (c .number .result) (numbered.body-count Ewah (a .rows) b) told
 
 pub zv-body-count-bitwise-spec : {M : Type 1} → statement M
 zv-body-count-bitwise-spec = tie.close (tie.spec body-count-requires number-requires returns)

@@ -1,4 +1,4 @@
--- `zvonurel::check_body` meets its contract: `rows-over` for too many rows; else `rows-fine`, of what `ewah::check::check` found. Assumes nothing.
+-- `zvonurel::check_body` meets its contract: `rows-over` for too many rows; else `rows-fine`, of what `bodies::check::check` found. Assumes nothing.
 use borrow.Author.Needs.{needs}
 use mathlib.Core.Path.{ap, _∙_}
 use denote.Ref.{now}
@@ -14,7 +14,7 @@ returns : tie.Need-returns
 unfolding verdictOf
 returns c =
     let a = c .before .before .before .args in
-    ap refusedBy (c .too-many-rows .ensures) ∙ rows-over (a .rows) (now (a .body)) (c .before .if1 .taken)
+    ap refusedBy (c .too-many-rows .ensures) ∙ rows-over (a .format) (a .rows) (now (a .body)) (c .before .if1 .taken)
 
 check-requires : tie.Need-check-requires
 check-requires c κs = search needs

@@ -33,7 +33,7 @@ unfolding compress
 returns c =
     let k = c .before .before .before in
     let a = k .before .before .before .args in
-    wrote-refused (now (a .out)) _ _ (refuses (k .check-plain .result) (plainFault (a .rows) (now (a .plain))) (k .check-plain .ensures) (write (a .rows) (hasRow 32 (now (a .plain))) (length (now (a .out)))) _ (c .before .checked .given .1))
+    wrote-refused (now (a .out)) _ _ (refuses (k .check-plain .result) (plainFault (a .rows) (now (a .plain))) (k .check-plain .ensures) (write (a .format) (a .rows) (hasRow 32 (now (a .plain))) (length (now (a .out)))) _ (c .before .checked .given .1))
 
 same-length : tie.Need-same-length
 same-length c = search needs
@@ -46,7 +46,7 @@ returns-2 c =
     let k = t .before .before in
     let a = k .before .before .before .args in
     let f = plainFault (a .rows) (now (a .plain)) in
-    wrote-then (k .check-plain .result) f (write (a .rows) (hasRow 32 (now (a .plain))) (length (now (a .out)))) (p .write-plain .result) (now (a .out)) (p .write-plain .last .1 .1 .0) (k .check-plain .ensures) (t .enum-told .given .1)
+    wrote-then (k .check-plain .result) f (write (a .format) (a .rows) (hasRow 32 (now (a .plain))) (length (now (a .out)))) (p .write-plain .result) (now (a .out)) (p .write-plain .last .1 .1 .1 .0) (k .check-plain .ensures) (t .enum-told .given .1)
     (p .write-plain .ensures)
 
 pub compress-spec : {M : Type 1} → statement M

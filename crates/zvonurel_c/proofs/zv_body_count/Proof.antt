@@ -1,6 +1,7 @@
 -- `zvonurel_c::zv_body_count` meets its contract: `numbers` of what `zvonurel::body_count` told; no refusal of it has number 0. Assumes nothing.
 use mathlib.Core.Path.{ap, _∙_}
 use denote.Ref.{now}
+use Rattle.meaning.specs.declared.Format.the-variants.{Ewah}
 use Rattle.meaning.specs.Answer as meaning
 use Rattle.replies.specs.Exported.{numberCode}
 use Rattle.meaning.proofs.Numbered as numbered
@@ -19,7 +20,7 @@ returns : tie.Need-returns
 returns c =
     let k = c .before in
     let a = k .before .before .args in
-    numbers (meaning.bodyCount (a .rows) (now (a .body))) (c .number .result) (numbered.body-count (a .rows) (now (a .body))) (c .number .ensures ∙ ap numberCode (k .body-count .ensures))
+    numbers (meaning.bodyCount Ewah (a .rows) (now (a .body))) (c .number .result) (numbered.body-count Ewah (a .rows) (now (a .body))) (c .number .ensures ∙ ap numberCode (k .body-count .ensures))
 
 pub zv-body-count-spec : {M : Type 1} → statement M
 zv-body-count-spec = tie.close (tie.spec body-count-requires number-requires returns)

@@ -1,6 +1,7 @@
 -- `zvonurel_c::zv_body_row` meets its contract: `flags` of what `zvonurel::body_row` told; no refusal of it has number 0. Assumes nothing.
 use mathlib.Core.Path.{ap, _∙_}
 use denote.Ref.{now}
+use Rattle.meaning.specs.declared.Format.the-variants.{Ewah}
 use Rattle.meaning.specs.Answer as meaning
 use Rattle.replies.specs.Exported.{flagCode}
 use Rattle.meaning.proofs.Numbered as numbered
@@ -19,7 +20,7 @@ returns : tie.Need-returns
 returns c =
     let k = c .before in
     let a = k .before .before .args in
-    flags (meaning.bodyRow (a .rows) (now (a .body)) (a .row)) (c .flag .result) (numbered.body-row (a .rows) (now (a .body)) (a .row)) (c .flag .ensures ∙ ap flagCode (k .body-row .ensures))
+    flags (meaning.bodyRow Ewah (a .rows) (now (a .body)) (a .row)) (c .flag .result) (numbered.body-row Ewah (a .rows) (now (a .body)) (a .row)) (c .flag .ensures ∙ ap flagCode (k .body-row .ensures))
 
 pub zv-body-row-spec : {M : Type 1} → statement M
 zv-body-row-spec = tie.close (tie.spec body-row-requires flag-requires returns)

@@ -1,6 +1,7 @@
 -- `zvonurel_c::zv_compress` meets its contract: `writes` of what `zvonurel::compress` told; no refusal of it has number 0. Assumes nothing.
 use denote.Ref.{now}
 use lib.ListN.{length}
+use Rattle.meaning.specs.declared.Format.the-variants.{Ewah}
 use Rattle.meaning.specs.Answer as meaning
 use Rattle.meaning.proofs.Numbered as numbered
 use Rattle.replies.proofs.Codes.{writes}
@@ -21,7 +22,7 @@ returns : tie.Need-returns
 returns c =
     let w = c .before .before .before in
     let a = w .before .before .before .before .args in
-    writes (meaning.compress (a .rows) (now (a .plain)) (length (now (a .out)))) (w .compress .result) (c .written .result) (now (a .out)) (w .compress .last .1 .1 .0) (numbered.compress (a .rows) (now (a .plain)) (length (now (a .out)))) (c .written .ensures) (w .compress .ensures)
+    writes (meaning.compress Ewah (a .rows) (now (a .plain)) (length (now (a .out)))) (w .compress .result) (c .written .result) (now (a .out)) (w .compress .last .1 .1 .1 .0) (numbered.compress Ewah (a .rows) (now (a .plain)) (length (now (a .out)))) (c .written .ensures) (w .compress .ensures)
 
 pub zv-compress-spec : {M : Type 1} → statement M
 zv-compress-spec = tie.close (tie.spec compress-requires written-requires same-length returns)

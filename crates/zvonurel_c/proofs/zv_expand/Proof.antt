@@ -1,6 +1,7 @@
 -- `zvonurel_c::zv_expand` meets its contract: `writes` of what `zvonurel::expand` told; no refusal of it has number 0. Assumes nothing.
 use denote.Ref.{now}
 use lib.ListN.{length}
+use Rattle.meaning.specs.declared.Format.the-variants.{Ewah}
 use Rattle.meaning.specs.Answer as meaning
 use Rattle.meaning.proofs.Numbered as numbered
 use Rattle.replies.proofs.Codes.{writes}
@@ -21,7 +22,7 @@ returns : tie.Need-returns
 returns c =
     let w = c .before .before .before in
     let a = w .before .before .before .before .args in
-    writes (meaning.expand (a .rows) (now (a .body)) (length (now (a .out)))) (w .expand .result) (c .written .result) (now (a .out)) (w .expand .last .1 .1 .0) (numbered.expand (a .rows) (now (a .body)) (length (now (a .out)))) (c .written .ensures) (w .expand .ensures)
+    writes (meaning.expand Ewah (a .rows) (now (a .body)) (length (now (a .out)))) (w .expand .result) (c .written .result) (now (a .out)) (w .expand .last .1 .1 .1 .0) (numbered.expand Ewah (a .rows) (now (a .body)) (length (now (a .out)))) (c .written .ensures) (w .expand .ensures)
 
 pub zv-expand-spec : {M : Type 1} → statement M
 zv-expand-spec = tie.close (tie.spec expand-requires written-requires same-length returns)

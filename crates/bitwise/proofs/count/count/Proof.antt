@@ -10,7 +10,7 @@ use denote.Ref.{now}
 use lib.ListN.{length}
 use Rattle.meaning.specs.Limits.{mostSegments}
 use Rattle.meaning.specs.Rows.{countBelow}
-use Rattle.meaning.specs.Ewah.{rowsOf}
+use Rattle.meaning.specs.Ewah.{ewahRows}
 use Rattle.ewah_read.proofs.Passing.{Passed, Read, none-passed, marker-there, marker-read, all-passed}
 use Rattle.ewah_read.proofs.Passing.{dirty-fit, part-few, segments-fit, at-most, passed-next}
 use Rattle.bitwise.proofs.count.count.Statement.{statement}
@@ -116,7 +116,7 @@ pads-set-requires c κs = search needs
 all : (c : tie.After-pads-set Inv-loop μ-loop)
     → let t = c .before .before in
     let a = call t .args in
-    t .loop .n ≡ countBelow (a .rows) (rowsOf (now (a .body))) + c .pads-set .result
+    t .loop .n ≡ countBelow (a .rows) (ewahRows (now (a .body))) + c .pads-set .result
 all c =
     let t = c .before .before in
     omega (arith, all-passed (t .loop .inv) (omega (arith, c .before .loop-test .left)), c .pads-set .ensures)

@@ -1,4 +1,4 @@
--- `single::body::nth` meets its contract: what `ewah_read::nth::nth` found, its row or 8. Assumes nothing.
+-- `single::body::nth` meets its contract: what `body_read::nth::nth` found, its row or 8. Assumes nothing.
 use borrow.Author.Needs.{needs}
 use mathlib.Core.Path.{sym, ap, _∙_}
 use Rattle.ewah_read.specs.Found.{foundOf}

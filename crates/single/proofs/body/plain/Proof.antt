@@ -2,7 +2,7 @@
 use borrow.Author.Needs.{needs}
 use native.Mathlib.Omega.{arith}
 use denote.Ref.{now}
-use Rattle.meaning.specs.Ewah.{rowsOf}
+use Rattle.meaning.specs.Format.{rowsOf}
 use Rattle.single.proofs.Asks.{plain-none, plain-words}
 use Rattle.single.proofs.body.plain.Statement.{statement}
 use Rattle.single.proofs.body.plain.Tie as tie
@@ -22,7 +22,7 @@ returns c =
     let s = k .before .before .before in
     let a = s .args in
     let need = k .segment-count .ensures in
-    plain-none (a .rows) (rowsOf (now (a .body))) (now (a .out)) _ need _ (c .no-room .ensures) (c .before .if1 .taken)
+    plain-none (a .rows) (rowsOf (a .format) (now (a .body))) (now (a .out)) _ need _ (c .no-room .ensures) (c .before .if1 .taken)
 
 expand-requires : tie.Need-expand-requires
 expand-requires c κs =
@@ -42,7 +42,7 @@ returns-2 c =
     let x = e .expand in
     let room = e .before .before .if1 .left in
     let need = k .segment-count .ensures in
-    plain-words (a .rows) (rowsOf (now (a .body))) (now (a .out)) _ need (x .last .1 .1 .0) room (x .ensures)
+    plain-words (a .rows) (rowsOf (a .format) (now (a .body))) (now (a .out)) _ need (x .last .1 .1 .1 .0) room (x .ensures)
 
 pub plain-spec : {M : Type 1} → statement M
 plain-spec =

@@ -1,10 +1,10 @@
--- `single::body::row` meets its contract: 8 by `row-past`; else by `row-within` the row lies in a segment of the body. Assumes nothing.
+-- `single::body::row` meets its contract: 8 by `row-past`; else what `body_read::row::row` found. Assumes nothing.
 use borrow.Author.Needs.{needs}
 use mathlib.Core.Path.{ap, _∙_}
 use denote.Ref.{now}
-use Rattle.meaning.specs.Ewah.{rowsOf}
+use Rattle.meaning.specs.Format.{rowsOf}
 use Rattle.answers.specs.Told.{refusedBy, flagOf}
-use Rattle.single.proofs.Asks.{row-past, row-here, row-within}
+use Rattle.single.proofs.Asks.{row-past, row-here}
 use Rattle.single.proofs.body.row.Statement.{statement}
 use Rattle.single.proofs.body.row.Tie as tie
 
@@ -15,18 +15,18 @@ returns : tie.Need-returns
 unfolding flagOf
 returns c =
     let a = c .before .before .before .args in
-    ap refusedBy (c .bad-argument .ensures) ∙ row-past (a .rows) (rowsOf (now (a .body))) (a .r) (c .before .if1 .taken)
+    ap refusedBy (c .bad-argument .ensures) ∙ row-past (a .rows) (rowsOf (a .format) (now (a .body))) (a .r) (c .before .if1 .taken)
 
 row-requires : tie.Need-row-requires
 row-requires c κs =
     let s = c .before .before in
-    (s .pre .ended, row-within (s .args .rows) (now (s .args .body)) (s .pre) (s .args .r) (c .if1 .left))
+    (s .args .rows, s .pre, c .if1 .left)
 
 returns-2 : tie.Need-returns-2
 unfolding flagOf
 returns-2 c =
     let a = c .before .before .before .args in
-    row-here (a .rows) (rowsOf (now (a .body))) (a .r) (c .row .result) (c .before .if1 .left) (c .row .ensures)
+    row-here (a .rows) (rowsOf (a .format) (now (a .body))) (a .r) (c .row .result) (c .before .if1 .left) (c .row .ensures)
 
 pub row-spec : {M : Type 1} → statement M
 row-spec = tie.close (tie.spec bad-argument-requires returns row-requires returns-2)

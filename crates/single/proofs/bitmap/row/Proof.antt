@@ -1,0 +1,34 @@
+-- `single::bitmap::row` meets its contract: `single::body::row` of the bitmap's body. Assumes nothing.
+use mathlib.Core.Bool.{Bool}
+use mathlib.Core.Path.{_∙_}
+use denote.Ref.{now}
+use Rattle.meaning.specs.Refusal.{Outcome}
+use Rattle.meaning.specs.Answer.{askRow}
+use Rattle.single.proofs.Numbers.{facts-as, asked-as}
+use borrow.Author.Needs.{needs}
+use Rattle.single.proofs.bitmap.row.Statement.{statement}
+use Rattle.single.proofs.bitmap.row.Tie as tie
+
+format-requires : tie.Need-format-requires
+format-requires c κs = c .before .pre .0 .head .head
+
+body-requires : tie.Need-body-requires
+body-requires c κs = let s = c .before .before in (s .pre .0 .head, (s .pre .0 .entries, s .pre .1))
+
+rows-requires : tie.Need-rows-requires
+rows-requires c κs = c .before .before .before .pre .0 .head .head
+
+row-requires : tie.Need-row-requires
+row-requires c κs =
+    let s = c .before .before .before .before in
+    facts-as (now (s .args .index)) (s .args .k) (s .pre .0) (s .pre .1) _ _ _ (c .before .before .format .ensures) (c .rows .ensures) (c .before .body .ensures .0)
+
+returns : tie.Need-returns
+returns c =
+    let s = c .before .before .before .before .before in
+    c .row .ensures
+    ∙ asked-as (now (s .args .index)) (s .args .k) (s .pre .0) (s .pre .1) (Outcome Bool) (λ R p. askRow R p (s .args .r)) _ _ _
+    (c .before .before .before .format .ensures) (c .before .rows .ensures) (c .before .before .body .ensures .0)
+
+pub row-spec : {M : Type 1} → statement M
+row-spec = tie.close (tie.spec format-requires body-requires rows-requires row-requires returns)
