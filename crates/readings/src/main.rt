@@ -3,6 +3,7 @@
 ghost use Prim.Native.Nat.{_≤_};
 ghost use mathlib.Core.Path.{_≡_};
 ghost use lib.ListN.{length};
+use zvonurel::Format;
 use zvonurel::Number;
 use zvonurel::Refusal;
 use zvonurel::Written;
@@ -36,7 +37,7 @@ fn words(body: &[u32], from: usize, to: usize) {
 
 // How many rows are set in a body.
 fn set(body: &[u32], rows: u32) {
-    match zvonurel::body_count(body, rows) {
+    match zvonurel::body_count(Format::Ewah, body, rows) {
         Number::Is(count) => number(b", set ", wide(count)),
         Number::Refused(r) => refusal(r),
     }
@@ -92,7 +93,7 @@ fn every_32nd(rows: u32, n: usize, from: usize, to: usize)
 {
     let plain = filled(1);
     let mut out = filled(0);
-    let written = zvonurel::compress(rows, &plain[0..n], &mut out);
+    let written = zvonurel::compress(Format::Ewah, rows, &plain[0..n], &mut out);
     reading(rows, written, &out, from, to);
 }
 

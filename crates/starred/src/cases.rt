@@ -4,35 +4,47 @@ ghost use lib.ListN.{length};
 ghost use Rattle.meaning.specs.Refusal.{refused, sound};
 ghost use Rattle.meaning.specs.Refusal as outcome;
 ghost use Rattle.meaning.specs.Answer as meaning;
+ghost use Rattle.meaning.specs.Rewriting as rewriting;
 ghost use Rattle.starred.specs.Reading.{Writes};
 use crate::told;
 use check::expect;
+use zvonurel::Format;
 
 // Plain words that give a body.
-pub fn compresses(rows: u32, plain: &[u32], words: usize, after: &[u32])
-    requires { ⌜ Writes (meaning.compress rows (now plain) 4) words (now after) ⌝ }
+pub fn compresses(format: Format, rows: u32, plain: &[u32], words: usize, after: &[u32])
+    requires { ⌜ Writes (meaning.compress format rows (now plain) 4) words (now after) ⌝ }
 {
     let mut out = [7; 4];
-    let w = zvonurel::compress(rows, plain, &mut out);
+    let w = zvonurel::compress(format, rows, plain, &mut out);
     expect(told::wrote(w, words));
     expect(told::same(&out, after));
 }
 
 // A sound body that gives plain words.
-pub fn expands(rows: u32, body: &[u32], words: usize, after: &[u32])
-    requires { ⌜ Writes (meaning.expand rows (now body) 4) words (now after) ⌝ }
+pub fn expands(format: Format, rows: u32, body: &[u32], words: usize, after: &[u32])
+    requires { ⌜ Writes (meaning.expand format rows (now body) 4) words (now after) ⌝ }
 {
     let mut out = [7; 4];
-    let w = zvonurel::expand(body, rows, &mut out);
+    let w = zvonurel::expand(format, body, rows, &mut out);
+    expect(told::wrote(w, words));
+    expect(told::same(&out, after));
+}
+
+// A body written anew.
+pub fn rewrites(from: Format, to: Format, rows: u32, body: &[u32], words: usize, after: &[u32])
+    requires { ⌜ Writes (rewriting.rewrite from to rows (now body) 4) words (now after) ⌝ }
+{
+    let mut out = [7; 4];
+    let w = zvonurel::rewrite(from, to, body, rows, &mut out);
     expect(told::wrote(w, words));
     expect(told::same(&out, after));
 }
 
 // A body that is refused.
-pub fn faulty(body: &[u32], rows: u32, number: u32, word: u64)
-    requires { ⌜ meaning.checkBody rows (now body) ≡ refused number 0 word ⌝ }
+pub fn faulty(format: Format, body: &[u32], rows: u32, number: u32, word: u64)
+    requires { ⌜ meaning.checkBody format rows (now body) ≡ refused number 0 word ⌝ }
 {
-    expect(told::faulty(zvonurel::check_body(body, rows), number, word));
+    expect(told::faulty(zvonurel::check_body(format, body, rows), number, word));
 }
 
 // A sound index.

@@ -1,6 +1,7 @@
 // The starred readings of paper 01 ("Readings to test by"), asked of the public calls. What a reading expects is computed from the
 // definitions; that the call gives it is proved of the call's contract alone; and the run tries it on the compiled code.
 use meaning::HISTOGRAM_COUNTS;
+use zvonurel::Format;
 
 mod cases;
 mod told;
@@ -8,19 +9,43 @@ mod told;
 // Bodies of 0 and 64 rows.
 fn short_bodies() {
     let none = [0];
-    cases::compresses(0, &none[0..0], 0, &[7, 7, 7, 7]);
-    cases::compresses(64, &[0, 0], 1, &[0x0000_0004, 7, 7, 7]);
-    cases::compresses(64, &[0xFFFF_FFFF, 0xFFFF_FFFF], 1, &[0x0000_0005, 7, 7, 7]);
+    cases::compresses(Format::Ewah, 0, &none[0..0], 0, &[7, 7, 7, 7]);
+    cases::compresses(Format::Ewah, 64, &[0, 0], 1, &[0x0000_0004, 7, 7, 7]);
+    cases::compresses(
+        Format::Ewah,
+        64,
+        &[0xFFFF_FFFF, 0xFFFF_FFFF],
+        1,
+        &[0x0000_0005, 7, 7, 7],
+    );
 }
 
 // Bodies of 40 rows: all set, written and read as a run, and read with the last segment as a dirty word; rows 0 and 39;
 // a pad bit.
 fn forty_rows() {
-    cases::compresses(40, &[0xFFFF_FFFF, 0xFF], 1, &[0x0000_0005, 7, 7, 7]);
-    cases::compresses(40, &[1, 0x80], 3, &[0x0004_0000, 1, 0x80, 7]);
-    cases::expands(40, &[0x0000_0005], 2, &[0xFFFF_FFFF, 0xFF, 7, 7]);
-    cases::expands(40, &[0x0002_0003, 0xFF], 2, &[0xFFFF_FFFF, 0xFF, 7, 7]);
-    cases::faulty(&[0x0002_0003, 0x1FF], 40, 7, 1);
+    cases::compresses(
+        Format::Ewah,
+        40,
+        &[0xFFFF_FFFF, 0xFF],
+        1,
+        &[0x0000_0005, 7, 7, 7],
+    );
+    cases::compresses(Format::Ewah, 40, &[1, 0x80], 3, &[0x0004_0000, 1, 0x80, 7]);
+    cases::expands(
+        Format::Ewah,
+        40,
+        &[0x0000_0005],
+        2,
+        &[0xFFFF_FFFF, 0xFF, 7, 7],
+    );
+    cases::expands(
+        Format::Ewah,
+        40,
+        &[0x0002_0003, 0xFF],
+        2,
+        &[0xFFFF_FFFF, 0xFF, 7, 7],
+    );
+    cases::faulty(Format::Ewah, &[0x0002_0003, 0x1FF], 40, 7, 1);
 }
 
 // Rows 5 and 64 of 96, in canonical form and wastefully.
@@ -28,9 +53,9 @@ fn ninety_six_rows() {
     let plain = [0x20, 0, 1];
     let body = [0x0002_0000, 0x20, 0x0002_0002, 1];
     let wasteful = [0x0006_0000, 0x20, 0, 1];
-    cases::compresses(96, &plain, 4, &body);
-    cases::expands(96, &body, 3, &[0x20, 0, 1, 7]);
-    cases::expands(96, &wasteful, 3, &[0x20, 0, 1, 7]);
+    cases::compresses(Format::Ewah, 96, &plain, 4, &body);
+    cases::expands(Format::Ewah, 96, &body, 3, &[0x20, 0, 1, 7]);
+    cases::expands(Format::Ewah, 96, &wasteful, 3, &[0x20, 0, 1, 7]);
 }
 
 // The LOOPED example of source document 003.
@@ -102,6 +127,66 @@ fn stretches() {
     cases::threshold(&index, &list, 1, 4, 3, &[0x0002_0000, 0x20, 0x0002_0002, 1]);
 }
 
+// WAH bodies: 62 rows with none set, single clean segments, 40 rows all set; a fill of no segments, a pad bit, a fill past
+// the end.
+fn wah_bodies() {
+    cases::compresses(Format::Wah, 62, &[0, 0], 1, &[0x8000_0002, 7, 7, 7]);
+    cases::compresses(Format::Wah, 31, &[0x7FFF_FFFF], 1, &[0x7FFF_FFFF, 7, 7, 7]);
+    cases::compresses(
+        Format::Wah,
+        40,
+        &[0xFFFF_FFFF, 0xFF],
+        1,
+        &[0xC000_0002, 7, 7, 7],
+    );
+    cases::expands(
+        Format::Wah,
+        40,
+        &[0x7FFF_FFFF, 0x1FF],
+        2,
+        &[0xFFFF_FFFF, 0xFF, 7, 7],
+    );
+    cases::faulty(Format::Wah, &[0x8000_0002, 0x8000_0000], 62, 10, 1);
+    cases::faulty(Format::Wah, &[0x7FFF_FFFF, 0x7FFF_FFFF], 40, 7, 1);
+    cases::faulty(Format::Wah, &[0x8000_0003], 62, 6, 0);
+}
+
+// Written anew: either way, and to the same format.
+fn rewriting() {
+    cases::rewrites(
+        Format::Wah,
+        Format::Ewah,
+        40,
+        &[0x7FFF_FFFF, 0x1FF],
+        1,
+        &[5, 7, 7, 7],
+    );
+    cases::rewrites(
+        Format::Ewah,
+        Format::Wah,
+        40,
+        &[5],
+        1,
+        &[0xC000_0002, 7, 7, 7],
+    );
+    cases::rewrites(
+        Format::Wah,
+        Format::Wah,
+        40,
+        &[0x7FFF_FFFF, 0x1FF],
+        1,
+        &[0xC000_0002, 7, 7, 7],
+    );
+}
+
+// LOOPED with WAH bodies.
+fn looped_wah() {
+    let index = [2, 4, 3, 9, 1, 10, 1, 11, 1, 3, 0xE, 8];
+    let list = [0, 1, 2];
+    cases::sound(&index);
+    cases::threshold(&index, &list, 2, 1, 1, &[0xA, 7, 7, 7]);
+}
+
 fn main() {
     short_bodies();
     forty_rows();
@@ -110,4 +195,7 @@ fn main() {
     eight_rows();
     parts();
     stretches();
+    wah_bodies();
+    rewriting();
+    looped_wah();
 }

@@ -3,20 +3,22 @@ ghost use mathlib.Core.Path.{_≡_};
 ghost use Prim.Native.Nat.{_+_, _*_, _/_, _≤_, _<_};
 ghost use lib.ListN.{length};
 ghost use Rattle.meaning.specs.Limits.{mostSegments};
-ghost use Rattle.meaning.specs.Ewah.{segments};
-ghost use Rattle.ewah.specs.Cursors.{ValueLow, leftOf};
-ghost use Rattle.text.specs.Listings.{wordIn, Covers, Standing, Stepped, Chunk};
+ghost use Rattle.meaning.specs.Format.{width, piecesOf, segmentsOf};
+ghost use Rattle.meaning.specs.Ahead.{NoneEmpty};
+ghost use Rattle.ewah.specs.Cursors.{leftOf};
+ghost use Rattle.text.specs.Listings.{Covers, Standing, Stepped, Chunk};
 use crate::lines;
-use ewah::cursor;
+use bodies::cursor;
 use ewah::cursor::Cursor;
-use ewah::cursor::Piece;
-use ewah::marker;
+use meaning::Format;
 use words::bits;
+use words::rows;
 
-// Where the listing stands: the next row, and the cursor at that row's segment.
+// Where the listing stands: the next row, which bit of its segment that is, and the cursor at the segment.
 pub struct Listing {
     pub cursor: Cursor,
     pub row: u32,
+    pub bit: u32,
 }
 
 // Where it stands after a chunk of so many bytes.
@@ -26,75 +28,75 @@ pub struct Filled {
 }
 
 // At row 0.
-pub fn open(body: &[u32]) -> Listing
-    requires { ⌜ length (segments (now body)) ≤ mostSegments ⌝ }
-    ensures { λ r. ⌜ Standing (now (body .entry)) r × (r .row ≡ 0) ⌝ }
+pub fn open(format: Format, body: &[u32]) -> Listing
+    requires { ⌜ NoneEmpty (piecesOf format (now body)) ⌝ }
+    requires { ⌜ length (segmentsOf format (now body)) ≤ mostSegments ⌝ }
+    ensures { λ r. ⌜ Standing format (now (body .entry)) r × (r .row ≡ 0) ⌝ }
 {
     Listing {
-        cursor: cursor::open(body),
+        cursor: cursor::open(format, body),
         row: 0,
-    }
-}
-
-// The word of each of a piece's segments.
-fn word(piece: Piece) -> u32
-    requires { ⌜ ValueLow piece ⌝ }
-    ensures { λ r. ⌜ r ≡ wordIn piece ⌝ }
-{
-    match piece {
-        Piece::Clean(value, _) => marker::segment(value),
-        Piece::Dirty(x) => x,
+        bit: 0,
     }
 }
 
 // At the first row behind the piece.
-fn skip(body: &[u32], s: Listing) -> Listing
-    requires { ⌜ Standing (now body) s × (s .row < length (segments (now body)) * 32) ⌝ }
-    ensures { λ r. ⌜ Standing (now (body .entry)) r × (r .row ≡ (s .row / 32 + leftOf (s .cursor .piece)) * 32) ⌝ }
+fn skip(format: Format, body: &[u32], s: Listing) -> Listing
+    requires { ⌜ Standing format (now body) s × (s .row < length (segmentsOf format (now body)) * width format) ⌝ }
+    ensures { λ r. ⌜ Standing format (now (body .entry)) r
+        × (r .row ≡ (s .row / width format + leftOf (s .cursor .piece)) * width format) ⌝ }
 {
     let c = s.cursor;
     let n = cursor::left(c);
+    let row = s.row - s.bit + n * rows::width(format);
     Listing {
-        cursor: cursor::advance(body, c, n),
-        row: (s.row / 32 + n) * 32,
+        cursor: cursor::advance(format, body, c, n),
+        row,
+        bit: 0,
     }
 }
 
 // At the next row.
-fn next(body: &[u32], s: Listing) -> Listing
-    requires { ⌜ Standing (now body) s × (s .row < length (segments (now body)) * 32) ⌝ }
-    ensures { λ r. ⌜ Standing (now (body .entry)) r × (r .row ≡ s .row + 1) ⌝ }
+fn next(format: Format, body: &[u32], s: Listing) -> Listing
+    requires { ⌜ Standing format (now body) s × (s .row < length (segmentsOf format (now body)) * width format) ⌝ }
+    ensures { λ r. ⌜ Standing format (now (body .entry)) r × (r .row ≡ s .row + 1) ⌝ }
 {
     let c = s.cursor;
     let row = s.row + 1;
-    if row % 32 != 0 {
-        return Listing { cursor: c, row };
+    let bit = s.bit + 1;
+    if bit < rows::width(format) {
+        return Listing {
+            cursor: c,
+            row,
+            bit,
+        };
     }
     Listing {
-        cursor: cursor::advance(body, c, 1),
+        cursor: cursor::advance(format, body, c, 1),
         row,
+        bit: 0,
     }
 }
 
 // Past a piece of zeros; else past one row, whose line is put behind the first `at` bytes if it is set.
-fn step(body: &[u32], s: Listing, out: &mut [u8], at: usize) -> Filled
-    requires { ⌜ Standing (now body) s × (s .row < length (segments (now body)) * 32) ⌝ }
+fn step(format: Format, body: &[u32], s: Listing, out: &mut [u8], at: usize) -> Filled
+    requires { ⌜ Standing format (now body) s × (s .row < length (segmentsOf format (now body)) * width format) ⌝ }
     requires { ⌜ at + 21 ≤ length (now out) ⌝ }
-    ensures { λ r. ⌜ Stepped (now (body .entry)) (now (out .entry)) at s (now (out .exit)) r ⌝ }
+    ensures { λ r. ⌜ Stepped format (now (body .entry)) (now (out .entry)) at s (now (out .exit)) r ⌝ }
 {
     let c = s.cursor;
     let piece = c.piece;
-    let x = word(piece);
+    let x = cursor::word(format, piece);
     if x == 0 {
-        let past = skip(body, s);
+        let past = skip(format, body, s);
         return Filled {
             state: past,
             bytes: at,
         };
     }
     let row = s.row;
-    let after = next(body, s);
-    if bits::has(x, row % 32) {
+    let after = next(format, body, s);
+    if bits::has(x, s.bit) {
         let end = lines::line(out, at, lines::wide(row));
         return Filled {
             state: after,
@@ -108,9 +110,9 @@ fn step(body: &[u32], s: Listing, out: &mut [u8], at: usize) -> Filled
 }
 
 // As many lines as fit.
-pub fn fill(body: &[u32], rows: u32, state: Listing, out: &mut [u8]) -> Filled
-    requires { ⌜ Standing (now body) state × Covers (now body) rows ⌝ }
-    ensures { λ r. ⌜ Chunk (now (body .entry)) rows state (now (out .entry)) (now (out .exit)) r ⌝ }
+pub fn fill(format: Format, body: &[u32], rows: u32, state: Listing, out: &mut [u8]) -> Filled
+    requires { ⌜ Standing format (now body) state × Covers format (now body) rows ⌝ }
+    ensures { λ r. ⌜ Chunk format (now (body .entry)) rows state (now (out .entry)) (now (out .exit)) r ⌝ }
 {
     let mut s = state;
     let mut at = 0;
@@ -121,7 +123,7 @@ pub fn fill(body: &[u32], rows: u32, state: Listing, out: &mut [u8]) -> Filled
                 bytes: at,
             };
         }
-        let f = step(body, s, out, at);
+        let f = step(format, body, s, out, at);
         s = f.state;
         at = f.bytes;
     }

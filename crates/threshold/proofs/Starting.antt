@@ -2,7 +2,7 @@
 -- Assumes nothing.
 use Prim.Native.Nat.{ℕ, _+_, _-_, _*_, _/_, _%_, min, _≤_, _<_}
 use mathlib.Core.Path.{_≡_, refl, sym, ap, subst, _∙_}
-use mathlib.Core.Bool.{true, false, not, _||_}
+use mathlib.Core.Bool.{Bool, true, false, not}
 use mathlib.Core.List.{List, _++_, append-nil}
 use native.Mathlib.Omega.{arith}
 use lib.Dec.{eqb, ltb}
@@ -11,18 +11,20 @@ use borrow.Author.Count.{below-more}
 use borrow.Author.Tests.{lt-ltb, le-ltb, ltb-false, eqb-true, not-false}
 use lib.Seq.{ext-getD, getD-take, getD-set-same, getD-set-other, length-take-le, take-at}
 use Rattle.threshold.proofs.Bytes.{words-count}
-use Rattle.meaning.specs.Limits.{mostRows, mostSegments, mostBitmaps}
+use Rattle.meaning.specs.Limits.{mostRows, mostBitmaps, headWords}
 use Rattle.meaning.specs.Rows.{countBelow}
-use Rattle.meaning.specs.Segment.{segmentCount, tabulate}
-use Rattle.meaning.specs.Refusal.{Outcome, refused, answer, Verdict, sound, refuseIf, _then_}
-use Rattle.meaning.specs.Ewah.{segments, rowsOf, decode}
-use Rattle.meaning.specs.Canonical.{canonical}
-use Rattle.meaning.specs.Index.{rowCount, bitmapCount}
-use Rattle.meaning.specs.Laws.{SoundFacts, IndexFacts}
-use Rattle.meaning.specs.Answer.{check, threshold, badList, write, rightRows, wordsReported}
-use Rattle.meaning.proofs.RowWords.{segments-few, length-tabulate, getD-tabulate}
-use Rattle.meaning.proofs.IndexSound.{index-means, body-facts}
-use Rattle.meaning.proofs.CanonicalBody.{canonical-sound}
+use Rattle.meaning.specs.Segment.{tabulate}
+use Rattle.meaning.specs.Refusal.{Outcome, refused, answer, Verdict, sound, _then_}
+use Rattle.meaning.specs.Ewah.{pieces, decode}
+use Rattle.meaning.specs.Format.{width, rowsOf, canonical}
+use Rattle.meaning.specs.declared.Format.{Format}
+use Rattle.meaning.specs.declared.Format.the-variants.{Ewah}
+use Rattle.meaning.specs.Index.{formatOf, rowCount, bitmapCount}
+use Rattle.meaning.specs.Laws.{SoundFacts, HeadFacts, IndexFacts}
+use Rattle.meaning.specs.Answer.{check, threshold, askThreshold, rightRows, wordsReported}
+use Rattle.meaning.proofs.RowWords.{rows-fit, length-tabulate, getD-tabulate}
+use Rattle.meaning.proofs.Formats.{width-pos, sound-means, facts-some, facts-count, canonical-sound, segments-most}
+use Rattle.meaning.proofs.IndexSound.{index-means}
 use Rattle.meaning.proofs.Tests.{or-false}
 use Rattle.meaning.proofs.Demanded.{answered-is}
 use Rattle.answers.specs.declared.refusal.Refusal.{Refusal}
@@ -33,19 +35,21 @@ use Rattle.threshold.specs.declared.start.Begun.{Begun}
 use Rattle.text.specs.Lines.{refusedText, headText, linesFrom}
 use Rattle.threshold.specs.Output.{answerRoom, allNamed, outcomeText, asked, mostBytes, ragged, wordsOf, outputOf}
 use Rattle.text.specs.Texts.{Appended}
+use Rattle.text.specs.Listings.{linesLeft, Covers}
 use Rattle.threshold.specs.Begins.{Begins}
 
 -- ---- a refusal
 
 -- its line is all
-pub begins-refused : (text answer′ out out′ : List ℕ) (bytes : ℕ) → Appended out 0 text out′ bytes → Begins text answer′ out out′ (record { bytes = bytes; words = 0; rows = 0 })
-unfolding linesFrom decode
+pub begins-refused : (text answer′ out out′ : List ℕ) (bytes : ℕ) → Appended out 0 text out′ bytes
+    → Begins text answer′ out out′ (record { bytes = bytes; words = 0; rows = 0; format = Ewah })
+unfolding linesFrom pieces decode
 begins-refused text answer′ out out′ bytes a =
     record {
       is = sym (append-nil (take bytes out′) ∙ a .is);
       inside = a .inside;
       words-inside = omega arith;
-      covers = record { few = omega arith; all = omega arith };
+      covers = record { some = tt; few = omega arith; all = omega arith };
     }
 
 -- ---- the names
@@ -82,20 +86,37 @@ module _ (index : List ℕ) (T room n : ℕ) (all : List ℕ) (all-is : all ≡ 
   unfolding threshold check
   same-question =
       then-same (check index) _ _
-      (λ s. ap (λ (l : List ℕ). refuseIf (badList index l || eqb T 0 || ltb (length l) T) 8 0 0 (write (rowCount index) (rightRows index l T) room)) (listed (index-means index .0 s)))
+      (λ s. ap (λ (l : List ℕ). askThreshold index l T room) (listed (index-means index .0 s)))
     where
       listed : IndexFacts index → take n all ≡ allNamed (bitmapCount index)
       listed f = let e : n ≡ bitmapCount index = omega (arith, f .head .few-bitmaps) in ap (take n) all-is ∙ first-names n (omega arith) ∙ ap allNamed e
 
 -- ---- the outcome that was told
 
--- an answer's body is sound, and has no more rows than the limit
-answer-facts : (index list : List ℕ) (T room : ℕ) (b : List ℕ) → threshold index list T room ≡ answer b → SoundFacts (rowCount index) b × (rowCount index ≤ mostRows)
-answer-facts index list T room b e =
-    let p = answered-is index list T room b e in (
-      subst (λ (x : List ℕ). SoundFacts (rowCount index) x) (sym (p .1)) (body-facts 0 0 (rowCount index) (canonical (rowCount index) (rightRows index list T)) (canonical-sound (rowCount index) (rightRows index list T))),
-      index-means index .0 (p .0 .isSound) .head .few-rows,
-    )
+-- an answer's body, of the index's format, is sound; the index has a head, and no more rows than the limit
+record Answering (index b : List ℕ) : Type 0 where
+  body : SoundFacts (formatOf index) (rowCount index) b
+  head : HeadFacts index
+
+answering : (index list : List ℕ) (T room : ℕ) (b : List ℕ) → threshold index list T room ≡ answer b → Answering index b
+answering index list T room b e =
+    let p = answered-is index list T room b e in
+    let F = formatOf index in
+    let right = rightRows index list T in
+    let R = rowCount index in
+    let sound = sound-means F R (canonical F R right) .0 (canonical-sound F R right) in
+    record {
+      body = subst (λ (x : List ℕ). SoundFacts (formatOf index) (rowCount index) x) (sym (p .1)) sound;
+      head = index-means index .0 (p .0 .isSound) .head;
+    }
+
+-- its text: the head, and a line for each row
+answer-text : (index : List ℕ) (T : ℕ) (b : List ℕ)
+    → let p = rowsOf (formatOf index) b in
+    let R = getD index 1 0 in
+    outcomeText index T (answer b) ≡ headText R (getD index 2 0) T (countBelow R p) ++ linesFrom p 0 R
+unfolding outcomeText rowCount bitmapCount
+answer-text index T b = refl
 
 -- the outcome of the program's question is told, with its words, and an answer stands at the buffer's front
 pub record Told (index : List ℕ) (T : ℕ) (buffer′ : List ℕ) (r : Answered) : Type 0 where
@@ -103,19 +124,25 @@ pub record Told (index : List ℕ) (T : ℕ) (buffer′ : List ℕ) (r : Answere
   pub words : wordsIn r ≡ wordsReported (threshold index (allNamed (bitmapCount index)) T answerRoom)
 
 pub told-of : (index : List ℕ) (T n : ℕ) (all : List ℕ) → all ≡ allNamed mostBitmaps → n ≡ min (bitmapCount index) mostBitmaps
-    → (buffer buffer′ : List ℕ) → length buffer ≡ answerRoom → (r : Answered) → Reported index (take n all) (threshold index (take n all) T (length buffer)) r buffer buffer′ → Told index T buffer′ r
-told-of index T n all all-is n-is buffer buffer′ room r rep = record { told = rep .told ∙ same; words = rep .words ∙ ap wordsReported same }
+    → (buffer buffer′ : List ℕ) → length buffer ≡ answerRoom → (r : Answered)
+    → Reported index (take n all) (threshold index (take n all) T (length buffer)) r buffer buffer′
+    → Told index T buffer′ r
+told-of index T n all all-is n-is buffer buffer′ room r rep =
+    record { told = rep .told ∙ same; words = rep .words ∙ ap wordsReported same }
   where
     same : threshold index (take n all) T (length buffer) ≡ threshold index (allNamed (bitmapCount index)) T answerRoom
     same = same-question index T (length buffer) n all all-is n-is ∙ ap (threshold index (allNamed (bitmapCount index)) T) room
 
-module _ (index : List ℕ) (T : ℕ) (buffer′ : List ℕ) (r : Answered) (g : Told index T buffer′ r) where
-  pub ask-refused : (q : Refusal) → r ≡ Refused q → (out out′ : List ℕ) (b : Begun) → Begins (refusedText (q .number) (q .bitmap) (q .word)) buffer′ out out′ b → Begins (asked T index) buffer′ out out′ b
+module _ {index : List ℕ} {T : ℕ} {buffer′ : List ℕ} {r : Answered} (g : Told index T buffer′ r) where
+  pub ask-refused : (q : Refusal) → r ≡ Refused q → (out out′ : List ℕ) (b : Begun)
+      → Begins (refusedText (q .number) (q .bitmap) (q .word)) buffer′ out out′ b
+      → Begins (asked T index) buffer′ out out′ b
   unfolding answeredOf outcomeText asked
   ask-refused q e out out′ b h =
-      subst (λ (t : List ℕ). Begins t buffer′ out out′ b) (ap (outcomeText index T) (sym (ap (λ (x : Answered). answeredOf x buffer′) e) ∙ g .told)) h
+      let told = sym (ap (λ (x : Answered). answeredOf x buffer′) e) ∙ g .told in
+      subst (λ (t : List ℕ). Begins t buffer′ out out′ b) (ap (outcomeText index T) told) h
 
-  module _ (w s : ℕ) (e : r ≡ Words w s) where
+  module _ {w s : ℕ} (e : r ≡ Words w s) where
     answer-is : threshold index (allNamed (bitmapCount index)) T answerRoom ≡ answer (take w buffer′)
     unfolding answeredOf
     answer-is = sym (g .told) ∙ ap (λ (x : Answered). answeredOf x buffer′) e
@@ -126,36 +153,51 @@ module _ (index : List ℕ) (T : ℕ) (buffer′ : List ℕ) (r : Answered) (g :
         let q : w ≡ length (take w buffer′) = sym (ap wordsIn e) ∙ g .words ∙ ap wordsReported answer-is in
         omega (arith, length-take w buffer′)
 
-    facts : SoundFacts (rowCount index) (take w buffer′) × (rowCount index ≤ mostRows)
-    facts = answer-facts index (allNamed (bitmapCount index)) T answerRoom (take w buffer′) answer-is
+    facts : Answering index (take w buffer′)
+    facts = answering index (allNamed (bitmapCount index)) T answerRoom (take w buffer′) answer-is
 
-    few : length (segments (take w buffer′)) ≤ mostSegments
-    few = omega (arith, facts .0 .count, segments-few (rowCount index) (facts .1))
+    pub has-head : headWords ≤ length index
+    has-head = facts .head .head
 
-    pub may-count : (rows : ℕ) → rows ≡ getD index 1 0 → (rows ≤ mostRows) × SoundFacts rows (take w buffer′)
-    unfolding rowCount
-    may-count rows f = rw f (facts .1, facts .0)
+    module _ {F : Format} (F-is : F ≡ formatOf index) {rows : ℕ} (rows-is : rows ≡ getD index 1 0) where
+      pub may-count : (rows ≤ mostRows) × SoundFacts F rows (take w buffer′)
+      unfolding rowCount
+      may-count = rw (F-is, rows-is) (facts .head .few-rows, facts .body)
 
-    pub ask-answered : (rows named set : ℕ) → rows ≡ getD index 1 0 → named ≡ getD index 2 0 → set ≡ countBelow rows (rowsOf (take w buffer′))
-        → (out out′ : List ℕ) (bytes : ℕ) → Appended out 0 (headText rows named T set) out′ bytes → Begins (asked T index) buffer′ out out′ (record { bytes = bytes; words = w; rows = rows })
-    unfolding asked outcomeText rowCount bitmapCount
-    ask-answered rows named set f g′ h out out′ bytes a =
-        record {
-          is =
-              rw f (
-              ap (outcomeText index T) answer-is
-              ∙ ap (λ (t : List ℕ). t ++ linesFrom (rowsOf (take w buffer′)) 0 (rowCount index)) (sym (rw (h, f, g′) at (a .is)))
-              ∙ ap (λ (m : ℕ). take bytes out′ ++ linesFrom (rowsOf (take w buffer′)) 0 m) none-off);
-          inside = a .inside;
-          words-inside = within;
-          covers = record { few = few; all = omega (arith, facts .0 .count, enough (rowCount index)) };
-        }
-      where
-        none-off : rowCount index ≡ rowCount index - 0
-        none-off = omega arith
+      covered : Covers F (take w buffer′) rows
+      covered =
+          let b = take w buffer′ in
+          let n = facts-count F rows b (may-count .1) in
+          record {
+            some = facts-some F rows b (may-count .1);
+            few = rw n (segments-most F rows (may-count .0));
+            all = rw n (rows-fit (width F) (width-pos F) rows);
+          }
 
-        enough : (R : ℕ) → R ≤ segmentCount 32 R * 32
-        enough R = unfold segmentCount in omega arith
+      pub ask-answered : (named count : ℕ) → named ≡ getD index 2 0
+          → count ≡ countBelow rows (rowsOf F (take w buffer′))
+          → (out out′ : List ℕ) (bytes : ℕ) → Appended out 0 (headText rows named T count) out′ bytes
+          → Begins (asked T index) buffer′ out out′ (record { bytes = bytes; words = w; rows = rows; format = F })
+      ask-answered named count n-is c-is out out′ bytes a =
+          record { is = text-is; inside = a .inside; words-inside = within; covers = covered }
+        where
+          p : ℕ → Bool
+          p = rowsOf F (take w buffer′)
+
+          -- the head, and all rows behind it
+          whole : asked T index ≡ headText rows named T count ++ linesFrom p 0 rows
+          whole =
+              rw (c-is, n-is, F-is, rows-is)
+              (unfold asked in ap (outcomeText index T) answer-is ∙ answer-text index T (take w buffer′))
+
+          none-off : rows ≡ rows - 0
+          none-off = omega arith
+
+          text-is : asked T index ≡ take bytes out′ ++ linesLeft F (take w buffer′) rows 0
+          text-is =
+              whole
+              ∙ ap (λ (t : List ℕ). t ++ linesFrom p 0 rows) (sym (a .is))
+              ∙ ap (λ (m : ℕ). take bytes out′ ++ linesFrom p 0 m) none-off
 
 -- ---- the input
 

@@ -1,6 +1,6 @@
 -- The bytes that the program writes for the bytes that it reads. Section "The program" of paper 01.
 -- Assumes nothing.
-use Prim.Native.Nat.{ℕ, zero, suc, _+_, _*_, _/_, _%_}
+use Prim.Native.Nat.{ℕ, _+_, _*_, _/_, _%_}
 use mathlib.Core.Bool.{Bool, cond, not, _||_}
 use mathlib.Core.List.{List, [], _∷_, _++_}
 use lib.Dec.{eqb, ltb}
@@ -9,8 +9,8 @@ use Rattle.meaning.specs.Limits.{wordBytes}
 use Rattle.meaning.specs.Rows.{countBelow}
 use Rattle.meaning.specs.Segment.{tabulate}
 use Rattle.meaning.specs.Refusal.{Outcome, refused, answer}
-use Rattle.meaning.specs.Ewah.{rowsOf}
-use Rattle.meaning.specs.Index.{rowCount, bitmapCount}
+use Rattle.meaning.specs.Format.{rowsOf}
+use Rattle.meaning.specs.Index.{formatOf, rowCount, bitmapCount}
 use Rattle.meaning.specs.Answer.{threshold}
 use Rattle.text.specs.Lines.{refusedText, headText, linesFrom}
 
@@ -26,12 +26,14 @@ answerRoom = mostBytes / wordBytes
 
 -- ---- the output
 
--- what is written of an outcome. A refusal's place is already one of the index, with its word 0 first
+-- what is written of an outcome; an answer's body has the index's format. A refusal's place is already one of the
+-- index, with its word 0 first
 unfoldable pub outcomeText : (index : List ℕ) (T : ℕ) → Outcome (List ℕ) → List ℕ
 unfolding refusedText headText linesFrom rowCount bitmapCount countBelow rowsOf
 outcomeText index T (refused number bitmap word) = refusedText number bitmap word
 outcomeText index T (answer body) =
-    headText (rowCount index) (bitmapCount index) T (countBelow (rowCount index) (rowsOf body)) ++ linesFrom (rowsOf body) 0 (rowCount index)
+    headText (rowCount index) (bitmapCount index) T (countBelow (rowCount index) (rowsOf (formatOf index) body))
+    ++ linesFrom (rowsOf (formatOf index) body) 0 (rowCount index)
 
 -- all bitmaps are named once, in order
 unfoldable pub allNamed : (N : ℕ) → List ℕ

@@ -43,8 +43,8 @@ readings =
     ∷ writes (question 2 []) (114 ∷ 101 ∷ 102 ∷ 117 ∷ 115 ∷ 101 ∷ 100 ∷ 32 ∷ 49 ∷ 32 ∷ 48 ∷ 32 ∷ 48 ∷ 10 ∷ [])
     -- an index that ends within its contents: the place is its length
     ∷ writes (question 2 (take 8 looped)) (114 ∷ 101 ∷ 102 ∷ 117 ∷ 115 ∷ 101 ∷ 100 ∷ 32 ∷ 49 ∷ 32 ∷ 48 ∷ 32 ∷ 56 ∷ 10 ∷ [])
-    -- a wrong word 0
-    ∷ writes (question 2 (2 ∷ drop 1 looped)) (114 ∷ 101 ∷ 102 ∷ 117 ∷ 115 ∷ 101 ∷ 100 ∷ 32 ∷ 50 ∷ 32 ∷ 48 ∷ 32 ∷ 48 ∷ 10 ∷ [])
+    -- a word 0 that is no kind of index
+    ∷ writes (question 2 (3 ∷ drop 1 looped)) (114 ∷ 101 ∷ 102 ∷ 117 ∷ 115 ∷ 101 ∷ 100 ∷ 32 ∷ 50 ∷ 32 ∷ 48 ∷ 32 ∷ 48 ∷ 10 ∷ [])
     -- LOOPED with a pad bit set in bitmap 2, at word 14
     ∷ writes (question 2 (set looped 14 0x18)) (114 ∷ 101 ∷ 102 ∷ 117 ∷ 115 ∷ 101 ∷ 100 ∷ 32 ∷ 55 ∷ 32 ∷ 50 ∷ 32 ∷ 49 ∷ 52 ∷ 10 ∷ [])
     -- T of 0 and of 4, and no bitmap that could be named

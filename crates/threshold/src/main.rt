@@ -5,6 +5,7 @@ ghost use lib.ListN.{length};
 ghost use Rattle.threshold.specs.Output.{mostBytes};
 ghost use Rattle.text.specs.Listings.{Covers};
 use input::MOST_BYTES;
+use meaning::Format;
 
 mod input;
 mod start;
@@ -18,13 +19,13 @@ fn room() -> [u8; MOST_BYTES + 1]
 
 // Writes the lines of a body's set rows, chunk by chunk: each is what comes next of the listing, and all together are the
 // whole of it (`ChunksList`). A write that fails ends the program.
-fn list(body: &[u32], rows: u32, out: &mut [u8])
-    requires { ⌜ Covers (now body) rows ⌝ }
+fn list(format: Format, body: &[u32], rows: u32, out: &mut [u8])
+    requires { ⌜ Covers format (now body) rows ⌝ }
     requires { ⌜ 21 ≤ length (now out) ⌝ }
 {
-    let mut state = text::listing::open(body);
+    let mut state = text::listing::open(format, body);
     while state.row < rows {
-        let f = text::listing::fill(body, rows, state, out);
+        let f = text::listing::fill(format, body, rows, state, out);
         let n = f.bytes;
         if !io::write_all(1, &out[..n]) {
             return;
@@ -45,5 +46,6 @@ fn main() {
         return;
     }
     let k = first.words;
-    list(&answer[..k], first.rows, &mut out);
+    let format = first.format;
+    list(format, &answer[..k], first.rows, &mut out);
 }

@@ -13,14 +13,16 @@ use crate::input::ANSWER_ROOM;
 use crate::input::MOST_BYTES;
 use crate::input::WORD_BYTES;
 use answers::answer::Answered;
+use meaning::Format;
 use meaning::MOST_BITMAPS;
 use meaning::MOST_NAMED;
 
-// The chunk's bytes; the body's words, at the front of the answer buffer; and its rows, none on a refusal.
+// The chunk's bytes; the body's words, at the front of the answer buffer; its rows, none on a refusal; and its format.
 pub struct Begun {
     pub bytes: usize,
     pub words: usize,
     pub rows: u32,
+    pub format: Format,
 }
 
 // Room for the words of the input, and for those of the answer.
@@ -54,7 +56,7 @@ fn named(index: &[u32]) -> usize
     MOST_NAMED
 }
 
-// A refusal: its line is all.
+// A refusal: its line is all, and of no rows the format is of no account.
 fn refused(out: &mut [u8], number: u32, bitmap: u32, word: u64) -> Begun
     requires { ⌜ 128 ≤ length (now out) ⌝ }
     ensures { λ r. ⌜ ((answer : List ℕ)
@@ -65,6 +67,7 @@ fn refused(out: &mut [u8], number: u32, bitmap: u32, word: u64) -> Begun
         bytes,
         words: 0,
         rows: 0,
+        format: Format::Ewah,
     }
 }
 
@@ -82,9 +85,15 @@ fn ask(t: u32, index: &[u32], answer: &mut [u32], out: &mut [u8]) -> Begun
         Answered::Refused(r) => refused(out, r.number, r.bitmap, r.word),
         Answered::Words(words, _) => {
             let rows = input::word_at(index, 1);
-            let set = ewah_read::count::count(&answer[..words], rows);
+            let format = contents::format(index);
+            let set = body_read::count::count(format, &answer[..words], rows);
             let bytes = text::lines::head(out, rows, input::word_at(index, 2), t, set);
-            Begun { bytes, words, rows }
+            Begun {
+                bytes,
+                words,
+                rows,
+                format,
+            }
         }
     }
 }

@@ -1,4 +1,5 @@
 -- `starred::eight_rows` meets its contract: what each of its five cases requires holds by computing the definitions. Assumes nothing.
+use Rattle.meaning.specs.Ewah.{ewahFault}
 use Rattle.meaning.specs.Answer.{bufferAfter, wordsReported, and, or, xor, andNot, notOf}
 use mathlib.Core.Path.{refl}
 use borrow.Author.Needs.{needs}
@@ -12,7 +13,7 @@ slice-aggregate-and-2 : tie.Need-slice-aggregate-and-2
 slice-aggregate-and-2 c = search needs
 
 and-requires : tie.Need-and-requires
-unfolding bufferAfter wordsReported and or xor andNot notOf
+unfolding bufferAfter wordsReported and or xor andNot notOf ewahFault
 and-requires c κs = record { body = _; is-answer = refl; words-are = refl; after-is = refl }
 
 slice-aggregate-or : tie.Need-slice-aggregate-or
@@ -22,7 +23,7 @@ slice-aggregate-or-2 : tie.Need-slice-aggregate-or-2
 slice-aggregate-or-2 c = search needs
 
 or-requires : tie.Need-or-requires
-unfolding bufferAfter wordsReported and or xor andNot notOf
+unfolding bufferAfter wordsReported and or xor andNot notOf ewahFault
 or-requires c κs = record { body = _; is-answer = refl; words-are = refl; after-is = refl }
 
 slice-aggregate-xor : tie.Need-slice-aggregate-xor
@@ -32,7 +33,7 @@ slice-aggregate-xor-2 : tie.Need-slice-aggregate-xor-2
 slice-aggregate-xor-2 c = search needs
 
 xor-requires : tie.Need-xor-requires
-unfolding bufferAfter wordsReported and or xor andNot notOf
+unfolding bufferAfter wordsReported and or xor andNot notOf ewahFault
 xor-requires c κs = record { body = _; is-answer = refl; words-are = refl; after-is = refl }
 
 slice-aggregate-and-not : tie.Need-slice-aggregate-and-not
@@ -42,7 +43,7 @@ slice-aggregate-and-not-2 : tie.Need-slice-aggregate-and-not-2
 slice-aggregate-and-not-2 c = search needs
 
 and-not-requires : tie.Need-and-not-requires
-unfolding bufferAfter wordsReported and or xor andNot notOf
+unfolding bufferAfter wordsReported and or xor andNot notOf ewahFault
 and-not-requires c κs = record { body = _; is-answer = refl; words-are = refl; after-is = refl }
 
 slice-aggregate-not : tie.Need-slice-aggregate-not
@@ -52,7 +53,7 @@ slice-aggregate-not-2 : tie.Need-slice-aggregate-not-2
 slice-aggregate-not-2 c = search needs
 
 not-requires : tie.Need-not-requires
-unfolding bufferAfter wordsReported and or xor andNot notOf
+unfolding bufferAfter wordsReported and or xor andNot notOf ewahFault
 not-requires c κs = record { body = _; is-answer = refl; words-are = refl; after-is = refl }
 
 returns : tie.Need-returns

@@ -1,4 +1,5 @@
 -- `starred::looped` meets its contract: what each of its five cases requires holds by computing the definitions. Assumes nothing.
+use Rattle.meaning.specs.Ewah.{pieces, ewahFault}
 use Rattle.meaning.specs.Answer.{bufferAfter, wordsReported, check, threshold, stretchesReported, histogram}
 use mathlib.Core.Path.{refl}
 use borrow.Author.Needs.{needs}
@@ -15,7 +16,7 @@ slice-aggregate-sound : tie.Need-slice-aggregate-sound
 slice-aggregate-sound c = search needs
 
 sound-requires : tie.Need-sound-requires
-unfolding bufferAfter wordsReported check threshold stretchesReported histogram
+unfolding bufferAfter wordsReported check threshold stretchesReported histogram ewahFault pieces
 sound-requires c κs = refl
 
 slice-aggregate-threshold : tie.Need-slice-aggregate-threshold
@@ -28,7 +29,7 @@ slice-aggregate-threshold-3 : tie.Need-slice-aggregate-threshold-3
 slice-aggregate-threshold-3 c = search needs
 
 threshold-requires : tie.Need-threshold-requires
-unfolding bufferAfter wordsReported check threshold stretchesReported histogram
+unfolding bufferAfter wordsReported check threshold stretchesReported histogram ewahFault pieces
 threshold-requires c κs = (record { body = _; is-answer = refl; words-are = refl; after-is = refl }, refl)
 
 slice-aggregate-histogram : tie.Need-slice-aggregate-histogram
@@ -41,7 +42,7 @@ slice-aggregate-histogram-3 : tie.Need-slice-aggregate-histogram-3
 slice-aggregate-histogram-3 c = search needs
 
 histogram-requires : tie.Need-histogram-requires
-unfolding bufferAfter wordsReported check threshold stretchesReported histogram
+unfolding bufferAfter wordsReported check threshold stretchesReported histogram ewahFault pieces
 histogram-requires c κs = refl
 
 slice-aggregate-refuses : tie.Need-slice-aggregate-refuses
@@ -57,7 +58,7 @@ slice-aggregate-refuses-4 : tie.Need-slice-aggregate-refuses-4
 slice-aggregate-refuses-4 c = search needs
 
 refuses-requires : tie.Need-refuses-requires
-unfolding bufferAfter wordsReported check threshold stretchesReported histogram
+unfolding bufferAfter wordsReported check threshold stretchesReported histogram ewahFault pieces
 refuses-requires c κs = (refl, refl)
 
 slice-aggregate-refuses-5 : tie.Need-slice-aggregate-refuses-5
@@ -73,7 +74,7 @@ slice-aggregate-refuses-8 : tie.Need-slice-aggregate-refuses-8
 slice-aggregate-refuses-8 c = search needs
 
 refuses-requires-2 : tie.Need-refuses-requires-2
-unfolding bufferAfter wordsReported check threshold stretchesReported histogram
+unfolding bufferAfter wordsReported check threshold stretchesReported histogram ewahFault pieces
 refuses-requires-2 c κs = (refl, refl)
 
 returns : tie.Need-returns

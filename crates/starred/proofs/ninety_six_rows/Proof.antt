@@ -1,4 +1,5 @@
 -- `starred::ninety_six_rows` meets its contract: what each of its three cases requires holds by computing the definitions. Assumes nothing.
+use Rattle.meaning.specs.Ewah.{ewahFault}
 use Rattle.meaning.specs.Answer.{bufferAfter, wordsReported, compress, expand}
 use mathlib.Core.Path.{refl}
 use borrow.Author.Needs.{needs}
@@ -12,7 +13,7 @@ slice-aggregate-compresses-2 : tie.Need-slice-aggregate-compresses-2
 slice-aggregate-compresses-2 c = search needs
 
 compresses-requires : tie.Need-compresses-requires
-unfolding bufferAfter wordsReported compress expand
+unfolding bufferAfter wordsReported compress expand ewahFault
 compresses-requires c κs = record { body = _; is-answer = refl; words-are = refl; after-is = refl }
 
 slice-aggregate-expands : tie.Need-slice-aggregate-expands
@@ -22,7 +23,7 @@ slice-aggregate-expands-2 : tie.Need-slice-aggregate-expands-2
 slice-aggregate-expands-2 c = search needs
 
 expands-requires : tie.Need-expands-requires
-unfolding bufferAfter wordsReported compress expand
+unfolding bufferAfter wordsReported compress expand ewahFault
 expands-requires c κs = record { body = _; is-answer = refl; words-are = refl; after-is = refl }
 
 slice-aggregate-expands-3 : tie.Need-slice-aggregate-expands-3
@@ -32,7 +33,7 @@ slice-aggregate-expands-4 : tie.Need-slice-aggregate-expands-4
 slice-aggregate-expands-4 c = search needs
 
 expands-requires-2 : tie.Need-expands-requires-2
-unfolding bufferAfter wordsReported compress expand
+unfolding bufferAfter wordsReported compress expand ewahFault
 expands-requires-2 c κs = record { body = _; is-answer = refl; words-are = refl; after-is = refl }
 
 returns : tie.Need-returns

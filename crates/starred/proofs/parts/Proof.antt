@@ -1,4 +1,5 @@
 -- `starred::parts` meets its contract: each reading is computed from the definitions. Assumes nothing.
+use Rattle.meaning.specs.Ewah.{ewahFault}
 use Rattle.meaning.specs.Answer.{bitmap, partOf}
 use mathlib.Core.Path.{refl}
 use borrow.Author.Needs.{needs}
@@ -12,7 +13,7 @@ slice-aggregate-bitmap-2 : tie.Need-slice-aggregate-bitmap-2
 slice-aggregate-bitmap-2 c = search needs
 
 bitmap-requires : tie.Need-bitmap-requires
-unfolding bitmap partOf
+unfolding bitmap partOf ewahFault
 bitmap-requires c κs = refl
 
 slice-aggregate-bitmap-3 : tie.Need-slice-aggregate-bitmap-3
@@ -22,7 +23,7 @@ slice-aggregate-bitmap-4 : tie.Need-slice-aggregate-bitmap-4
 slice-aggregate-bitmap-4 c = search needs
 
 bitmap-requires-2 : tie.Need-bitmap-requires-2
-unfolding bitmap partOf
+unfolding bitmap partOf ewahFault
 bitmap-requires-2 c κs = refl
 
 slice-aggregate-bitmap-5 : tie.Need-slice-aggregate-bitmap-5
@@ -38,7 +39,7 @@ part-bitmap-end : tie.Need-part-bitmap-end
 part-bitmap-end c = search needs
 
 bitmap-requires-3 : tie.Need-bitmap-requires-3
-unfolding bitmap partOf
+unfolding bitmap partOf ewahFault
 bitmap-requires-3 c κs = refl
 
 returns : tie.Need-returns

@@ -1,4 +1,5 @@
 -- `starred::short_bodies` meets its contract: what each of its three cases requires holds by computing the definitions. Assumes nothing.
+use Rattle.meaning.specs.Ewah.{ewahFault}
 use Rattle.meaning.specs.Answer.{bufferAfter, wordsReported, compress}
 use mathlib.Core.Path.{refl}
 use borrow.Author.Needs.{needs}
@@ -18,7 +19,7 @@ slice-aggregate-compresses : tie.Need-slice-aggregate-compresses
 slice-aggregate-compresses c = search needs
 
 compresses-requires : tie.Need-compresses-requires
-unfolding bufferAfter wordsReported compress
+unfolding bufferAfter wordsReported compress ewahFault
 compresses-requires c κs = record { body = _; is-answer = refl; words-are = refl; after-is = refl }
 
 slice-aggregate-compresses-2 : tie.Need-slice-aggregate-compresses-2
@@ -28,7 +29,7 @@ slice-aggregate-compresses-3 : tie.Need-slice-aggregate-compresses-3
 slice-aggregate-compresses-3 c = search needs
 
 compresses-requires-2 : tie.Need-compresses-requires-2
-unfolding bufferAfter wordsReported compress
+unfolding bufferAfter wordsReported compress ewahFault
 compresses-requires-2 c κs = record { body = _; is-answer = refl; words-are = refl; after-is = refl }
 
 slice-aggregate-compresses-4 : tie.Need-slice-aggregate-compresses-4
@@ -38,7 +39,7 @@ slice-aggregate-compresses-5 : tie.Need-slice-aggregate-compresses-5
 slice-aggregate-compresses-5 c = search needs
 
 compresses-requires-3 : tie.Need-compresses-requires-3
-unfolding bufferAfter wordsReported compress
+unfolding bufferAfter wordsReported compress ewahFault
 compresses-requires-3 c κs = record { body = _; is-answer = refl; words-are = refl; after-is = refl }
 
 returns : tie.Need-returns

@@ -1,4 +1,5 @@
 -- `starred::stretches` meets its contract: the words and the stretches that its case requires hold by computing the definitions. Assumes nothing.
+use Rattle.meaning.specs.Ewah.{pieces, ewahFault}
 use Rattle.meaning.specs.Answer.{bufferAfter, wordsReported, threshold, stretchesReported}
 use mathlib.Core.Path.{refl}
 use borrow.Author.Needs.{needs}
@@ -15,7 +16,7 @@ slice-aggregate-threshold-3 : tie.Need-slice-aggregate-threshold-3
 slice-aggregate-threshold-3 c = search needs
 
 threshold-requires : tie.Need-threshold-requires
-unfolding bufferAfter wordsReported threshold stretchesReported
+unfolding bufferAfter wordsReported threshold stretchesReported ewahFault pieces
 threshold-requires c κs = (record { body = _; is-answer = refl; words-are = refl; after-is = refl }, refl)
 
 returns : tie.Need-returns

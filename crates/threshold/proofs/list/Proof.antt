@@ -11,10 +11,10 @@ use Rattle.threshold.proofs.list.Statement.{statement}
 use Rattle.threshold.proofs.list.Tie as tie
 
 abbrev Inv-loop : tie.InvT-loop
-Inv-loop body rows out₀ state₀ out state = (length out ≡ length out₀) × Standing body state
+Inv-loop format body rows out₀ state₀ out state = (length out ≡ length out₀) × Standing format body state
 
 abbrev μ-loop : tie.MeasureT-loop
-μ-loop body rows out₀ state₀ out state = rows - state .row
+μ-loop format body rows out₀ state₀ out state = rows - state .row
 
 open-requires : tie.Need-open-requires Inv-loop μ-loop
 open-requires c κs = search needs
@@ -29,7 +29,10 @@ slice-reshare-prefix-write-all : tie.Need-slice-reshare-prefix-write-all Inv-loo
 slice-reshare-prefix-write-all c = search needs
 
 slice-aggregate-write-all : tie.Need-slice-aggregate-write-all Inv-loop μ-loop
-slice-aggregate-write-all c = let f = c .before .before .before in sym (length-take-le (f .fill .result .bytes) (f .fill .last .1 .1 .1 .0) (omega (arith, f .fill .ensures .inside, c .before .before .out .given)))
+slice-aggregate-write-all c =
+    let f = c .before .before .before in
+    sym (length-take-le (f .fill .result .bytes) (f .fill .last .1 .1 .1 .1 .0)
+    (omega (arith, f .fill .ensures .inside, c .before .before .out .given)))
 
 write-all-requires : tie.Need-write-all-requires Inv-loop μ-loop
 write-all-requires c κs = search needs

@@ -1,4 +1,5 @@
--- `text::listing::fill` meets its contract. The invariant (`Filling`): the bytes filled and the text still to come are the text to come at entry. The measure is the rows left.
+-- `text::listing::fill` meets its contract. The invariant (`Filling`): the bytes filled and the text still to come are
+-- the text to come at entry. The measure is the rows left.
 -- Assumes nothing.
 use denote.Ref.{now}
 use Prim.Native.Nat.{_-_}
@@ -8,13 +9,16 @@ use Rattle.text.proofs.listing.fill.Statement.{statement}
 use Rattle.text.proofs.listing.fill.Tie as tie
 
 abbrev Inv-loop : tie.InvT-loop
-Inv-loop body rows out₀ s₀ at₀ out s at = Filling body rows s₀ out₀ out s at
+Inv-loop format body rows out₀ s₀ at₀ out s at = Filling format body rows s₀ out₀ out s at
 
 abbrev μ-loop : tie.MeasureT-loop
-μ-loop body rows out₀ s₀ at₀ out s at = rows - s .row
+μ-loop format body rows out₀ s₀ at₀ out s at = rows - s .row
 
 loop-holds : tie.Need-loop-holds Inv-loop μ-loop
-loop-holds c = let s = c .before .before in filling-none (now (s .args .body)) (s .args .rows) (s .args .state) (now (s .args .out)) (s .pre .0)
+loop-holds c =
+    let s = c .before .before in
+    let a = s .args in
+    filling-none (a .format) (now (a .body)) (a .rows) (a .state) (now (a .out)) (s .pre .0)
 
 sub-if2 : tie.Need-sub-if2 Inv-loop μ-loop
 sub-if2 c = omega (arith, c .before .before .loop .inv .inside, c .before .before .loop .inv .long)
@@ -23,37 +27,33 @@ same-length : tie.Need-same-length Inv-loop μ-loop
 same-length c = c .before .before .before .loop .inv .long
 
 returns : tie.Need-returns Inv-loop μ-loop
-returns c =
-    let h = c .before .before .before .loop in
-    let a = c .before .before .before .before .before .before .args in
-    chunk-full (now (a .body)) (a .rows) (a .state) (now (a .out)) (h .out) (h .s) (h .at) (h .inv) (c .if2 .taken)
+returns c = chunk-full (c .before .before .before .loop .inv) (c .if2 .taken)
 
 step-requires : tie.Need-step-requires Inv-loop μ-loop
 step-requires c κs =
     let h = c .before .before .before .before .loop in
     let s = c .before .before .before .before .before .before .before in
-    ((h .inv .standing, omega (arith, c .before .before .if1 .taken, s .pre .1 .all)), omega (arith, c .before .if2 .left))
+    let i = c .before .before in
+    ((h .inv .standing, omega (arith, i .if1 .taken, s .pre .1 .all)), omega (arith, c .before .if2 .left))
 
 loop-less : tie.Need-loop-less Inv-loop μ-loop
-loop-less c = omega (arith, c .before .before .before .step .ensures .on, c .before .before .before .before .before .before .if1 .taken)
+loop-less c =
+    let t = c .before .before .before in
+    omega (arith, t .step .ensures .on, t .before .before .before .if1 .taken)
 
 loop-again : tie.Need-loop-again Inv-loop μ-loop
 loop-again c =
     let t = c .before .before .before in
     let i = t .before .before .before in
-    let h = i .before .before .loop in
-    let s = i .before .before .before .before .before in
-    let a = s .args in
-    filling-more (now (a .body)) (a .rows) (a .state) (now (a .out)) (h .out) (h .s) (h .at) (h .inv) (t .step .last .1 .1 .0) (t .step .result) (i .if1 .taken) (c .before .before .out .given) (t .step .ensures)
+    let g = i .before .before .loop .inv in
+    filling-more g (t .step .last .1 .1 .1 .0) (t .step .result) (i .if1 .taken) (c .before .before .out .given)
+    (t .step .ensures)
 
 same-length-2 : tie.Need-same-length-2 Inv-loop μ-loop
 same-length-2 c = c .before .before .loop .inv .long
 
 returns-2 : tie.Need-returns-2 Inv-loop μ-loop
-returns-2 c =
-    let h = c .before .before .loop in
-    let a = c .before .before .before .before .before .args in
-    chunk-end (now (a .body)) (a .rows) (a .state) (now (a .out)) (h .out) (h .s) (h .at) (h .inv) (c .if1 .left)
+returns-2 c = chunk-end (c .before .before .loop .inv) (c .if1 .left)
 
 pub fill-spec : {M : Type 1} → statement M
 fill-spec =

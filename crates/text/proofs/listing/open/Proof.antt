@@ -1,4 +1,5 @@
--- `text::listing::open` meets its contract: by `opened-standing`, a cursor on the first piece stands at row 0. Assumes nothing.
+-- `text::listing::open` meets its contract: by `opened-standing`, a cursor on the first piece stands at row 0.
+-- Assumes nothing.
 use denote.Ref.{now}
 use mathlib.Core.Path.{refl}
 use Rattle.text.proofs.Walking.{opened-standing}
@@ -10,7 +11,10 @@ open-requires : tie.Need-open-requires
 open-requires c κs = search needs
 
 returns : tie.Need-returns
-returns c = let s = c .before .before in (opened-standing (now (s .args .body)) (c .«open» .result) (s .pre) (c .«open» .ensures), refl)
+returns c =
+    let s = c .before .before in
+    let a = s .args in
+    (opened-standing (a .format) (now (a .body)) (c .«open» .result) (s .pre .0) (s .pre .1) (c .«open» .ensures), refl)
 
 pub open-spec : {M : Type 1} → statement M
 open-spec = tie.close (tie.spec open-requires returns)

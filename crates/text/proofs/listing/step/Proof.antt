@@ -1,6 +1,9 @@
--- `text::listing::step` meets its contract: a piece of zeros, a set row and one that is not set are three laws of `Stepping`. Assumes nothing.
+-- `text::listing::step` meets its contract: a piece of zeros, a set row and one that is not set are three laws of
+-- `Stepping`.
+-- Assumes nothing.
 use denote.Ref.{now}
 use mathlib.Core.Path.{sym, _∙_}
+use Rattle.text.proofs.Walking.{bit-fits}
 use Rattle.text.proofs.Stepping.{stepped-skip, stepped-line, stepped-unset}
 use native.Mathlib.Omega.{arith}
 use borrow.Author.Needs.{needs}
@@ -18,13 +21,14 @@ returns c =
     let w = c .before .before in
     let s = w .before .before .before .before in
     let a = s .args in
-    stepped-skip (now (a .body)) (now (a .out)) (a .at) (a .s) (s .pre .0 .0) (s .pre .0 .1) (w .word .result) (w .word .ensures) (omega (arith, s .pre .1)) (c .skip .result) (c .before .if1 .taken) (c .skip .ensures .0) (c .skip .ensures .1)
+    stepped-skip (now (a .out)) (a .at) (s .pre .0 .0) (s .pre .0 .1) (w .word .ensures) (omega (arith, s .pre .1))
+    (c .skip .result) (c .before .if1 .taken) (c .skip .ensures .0) (c .skip .ensures .1)
 
 next-requires : tie.Need-next-requires
 next-requires c κs = search needs
 
 has-requires : tie.Need-has-requires
-has-requires c κs = search needs
+has-requires c κs = let s = c .before .before .before .before .before .before in bit-fits (s .pre .0 .0)
 
 wide-requires : tie.Need-wide-requires
 wide-requires c κs = search needs
@@ -43,7 +47,9 @@ returns-2 c =
     let w = n .before .before in
     let s = w .before .before .before .before in
     let a = s .args in
-    stepped-line (now (a .body)) (now (a .out)) (a .at) (a .s) (s .pre .0 .0) (s .pre .0 .1) (w .word .result) (w .word .ensures) (omega (arith, s .pre .1)) (n .next .result) (n .next .ensures .0) (n .next .ensures .1) (l .before .wide .result) (l .line .last .0) (l .line .result) (l .before .wide .ensures) (sym (k .before .has .ensures) ∙ k .if2 .taken) (l .line .ensures .0)
+    stepped-line (now (a .out)) (a .at) (s .pre .0 .0) (s .pre .0 .1) (w .word .ensures) (omega (arith, s .pre .1))
+    (n .next .result) (n .next .ensures .0) (n .next .ensures .1) (l .before .wide .result) (l .line .last .0)
+    (l .line .result) (l .before .wide .ensures) (sym (k .before .has .ensures) ∙ k .if2 .taken) (l .line .ensures .0)
 
 returns-3 : tie.Need-returns-3
 returns-3 c =
@@ -51,7 +57,8 @@ returns-3 c =
     let w = n .before .before in
     let s = w .before .before .before .before in
     let a = s .args in
-    stepped-unset (now (a .body)) (now (a .out)) (a .at) (a .s) (s .pre .0 .0) (s .pre .0 .1) (w .word .result) (w .word .ensures) (omega (arith, s .pre .1)) (n .next .result) (n .next .ensures .0) (n .next .ensures .1) (sym (c .before .has .ensures) ∙ c .if2 .left)
+    stepped-unset (now (a .out)) (a .at) (s .pre .0 .0) (s .pre .0 .1) (w .word .ensures) (omega (arith, s .pre .1))
+    (n .next .result) (n .next .ensures .0) (n .next .ensures .1) (sym (c .before .has .ensures) ∙ c .if2 .left)
 
 pub step-spec : {M : Type 1} → statement M
 step-spec =

@@ -1,8 +1,11 @@
 -- `threshold::start::ask` meets its contract: by `told-of` it asks the program's question; `ask-refused` and `ask-answered` are its two ways. Assumes nothing.
 use denote.Ref.{now}
 use mathlib.Core.Path.{sym}
+use Prim.Native.Nat.{_≤_}
+use lib.ListN.{length}
 use lib.Seq.{length-take-le}
-use Rattle.threshold.proofs.Starting.{Told, told-of, named-length, within, may-count, ask-refused, ask-answered}
+use Rattle.threshold.proofs.Starting.{Told, told-of, named-length, ask-refused}
+use Rattle.threshold.proofs.Starting.{within, has-head, may-count, ask-answered}
 use borrow.Author.Needs.{needs}
 use Rattle.threshold.proofs.start.ask.Statement.{statement}
 use Rattle.threshold.proofs.start.ask.Tie as tie
@@ -43,27 +46,33 @@ enum-known-told-2 c = search needs
 word-at-requires : tie.Need-word-at-requires
 word-at-requires c κs = search needs
 
-slice-reshare-prefix-count : tie.Need-slice-reshare-prefix-count
-slice-reshare-prefix-count c =
+format-requires : tie.Need-format-requires
+format-requires c κs =
     let t = c .before .before in
     let h = t .before .before .before .before in
-    let a = h .before .before .before .before .before .before .before .before .args in
-    within (now (a .index)) (a .t) (h .threshold .last .1 .1 .1 .0) (h .threshold .result) (told h) _ _ (t .told2 .given .1)
+    has-head (told h) (t .told2 .given .1)
+
+-- the body is at the buffer's front
+inside : (t : tie.After-told2)
+    → t .told2 .given .0 .0 ≤ length (t .before .before .before .before .threshold .last .1 .1 .1 .0)
+inside t = let h = t .before .before .before .before in within (told h) (t .told2 .given .1)
+
+slice-reshare-prefix-count : tie.Need-slice-reshare-prefix-count
+slice-reshare-prefix-count c = inside (c .before .before .before)
 
 slice-aggregate-count : tie.Need-slice-aggregate-count
 slice-aggregate-count c =
-    let t = c .before .before .before in
+    let t = c .before .before .before .before in
     let h = t .before .before .before .before in
-    let a = h .before .before .before .before .before .before .before .before .args in
-    sym (length-take-le _ (h .threshold .last .1 .1 .1 .0) (within (now (a .index)) (a .t) (h .threshold .last .1 .1 .1 .0) (h .threshold .result) (told h) _ _ (t .told2 .given .1)))
+    sym (length-take-le _ (h .threshold .last .1 .1 .1 .0) (inside t))
 
 count-requires : tie.Need-count-requires
 count-requires c κs =
-    let t = c .before .before .before in
+    let f = c .before in
+    let p = f .before in
+    let t = p .before .before in
     let h = t .before .before .before .before in
-    let a = h .before .before .before .before .before .before .before .before .args in
-    may-count (now (a .index)) (a .t) (h .threshold .last .1 .1 .1 .0) (h .threshold .result) (told h) _ _ (t .told2 .given .1)
-    (c .before .word-at .result) (c .before .word-at .ensures)
+    may-count (told h) (t .told2 .given .1) (f .format .ensures) (p .word-at .ensures)
 
 word-at-requires-2 : tie.Need-word-at-requires-2
 word-at-requires-2 c κs = search needs
@@ -83,7 +92,8 @@ returns c =
     let t = f .before .before .before in
     let h = t .before .before .before .before in
     let a = h .before .before .before .before .before .before .before .before .args in
-    ask-refused (now (a .index)) (a .t) (h .threshold .last .1 .1 .1 .0) (h .threshold .result) (told h) _ (t .told .given .1) (now (a .out)) (f .refused .last .0) (f .refused .result) (f .refused .ensures (h .threshold .last .1 .1 .1 .0))
+    ask-refused (told h) _ (t .told .given .1) (now (a .out)) (f .refused .last .0) (f .refused .result)
+    (f .refused .ensures (h .threshold .last .1 .1 .1 .0))
 
 same-length-3 : tie.Need-same-length-3
 same-length-3 c = search needs
@@ -93,13 +103,16 @@ same-length-4 c = search needs
 
 returns-2 : tie.Need-returns-2
 returns-2 c =
-    let f = c .before .before in
-    let m = f .before .before .before in
-    let p = m .before .before in
+    let d = c .before .before in
+    let m = d .before .before .before in
+    let f = m .before .before in
+    let p = f .before in
     let t = p .before .before in
     let h = t .before .before .before .before in
     let a = h .before .before .before .before .before .before .before .before .args in
-    ask-answered (now (a .index)) (a .t) (h .threshold .last .1 .1 .1 .0) (h .threshold .result) (told h) _ _ (t .told2 .given .1) (p .word-at .result) (f .before .word-at2 .result) (m .count .result) (p .word-at .ensures) (f .before .word-at2 .ensures) (m .count .ensures) (now (a .out)) (f .head .last .0) (f .head .result) (f .head .ensures)
+    ask-answered (told h) (t .told2 .given .1) (f .format .ensures) (p .word-at .ensures)
+    (d .before .word-at2 .result) (m .count .result) (d .before .word-at2 .ensures) (m .count .ensures)
+    (now (a .out)) (d .head .last .0) (d .head .result) (d .head .ensures)
 
 pub ask-spec : {M : Type 1} → statement M
 ask-spec =
@@ -114,6 +127,7 @@ ask-spec =
     refused-requires
     enum-known-told-2
     word-at-requires
+    format-requires
     slice-reshare-prefix-count
     slice-aggregate-count
     count-requires
