@@ -3,9 +3,10 @@
 
 use std::ops::Range;
 
-use crate::body::{set_in, Body};
+use crate::body::Body;
 use crate::limits::WORD_BITS;
 use crate::mistakes::{mistaken, Mistake};
+use crate::segment::set_in;
 
 /// Rows of a block of dirty words that is counted at once, and the bit columns that its rows lie in.
 const COUNTED: usize = 64 * WORD_BITS;

@@ -3,9 +3,10 @@
 use std::ops::Range;
 
 use crate::body::settled;
+use crate::format::Format;
 use crate::index::{self, open, Index};
 use crate::limits::{ENTRY_WORDS, HEAD_WORDS, LEAST_COLUMN, MOST_SUMMED, MOST_VALUED};
-use crate::mistakes::{mistaken, with_mistake, Mistake};
+use crate::mistakes::{mistaken, mistaken_in, with_mistake, Mistake};
 use crate::refusal::{bad_argument, must_fit, refusal, Refusal};
 
 struct Slice {
@@ -17,6 +18,8 @@ struct Slice {
 
 /// A column as its list names it, strays and all.
 struct Column {
+    /// That of the index.
+    format: Format,
     /// R.
     count: usize,
     /// Like a slice's rows.
@@ -26,9 +29,9 @@ struct Column {
 }
 
 impl Column {
-    /// The rows, and for this mistake the pads as well.
-    fn rows_taking(&self, pads: Mistake) -> Range<usize> {
-        0..if mistaken(pads) { self.exists.len() } else { self.count }
+    /// The rows, and for a mistake the pads as well.
+    fn rows_taking(&self, pads_too: bool) -> Range<usize> {
+        0..if pads_too { self.exists.len() } else { self.count }
     }
 
     /// The number that the slices spell at a row.
@@ -54,7 +57,7 @@ fn column(index: &Index, list: &[u32], most: usize) -> Result<Column, Refusal> {
         slices.push(Slice { bitmap, rows: [body.rows, body.pads].concat() });
     }
     let exists = slices.remove(0).rows;
-    Ok(Column { count: index.rows as usize, exists, slices })
+    Ok(Column { format: index.format, count: index.rows as usize, exists, slices })
 }
 
 /// The stray rows of a slice, lowest first, where these rows exist.
@@ -64,7 +67,7 @@ fn strays<'a>(slice: &'a Slice, exists: &'a [bool]) -> impl DoubleEndedIterator<
 
 /// Refusal 11: a stray row, told of the first slice in list order that has one.
 fn no_strays(column: &Column) -> Result<(), Refusal> {
-    none_where(&column.exists[column.rows_taking(Mistake::PadIsStray)], &column.slices)
+    none_where(&column.exists[column.rows_taking(mistaken(Mistake::PadIsStray))], &column.slices)
 }
 
 /// The same of these slices, where these rows exist.
@@ -119,7 +122,7 @@ pub fn value(index: &[u32], list: &[u32], row: u32) -> Result<u64, Refusal> {
         no_strays(&column)?;
     }
     let row = row as usize;
-    if !column.rows_taking(Mistake::ValueInPads).contains(&row) {
+    if !column.rows_taking(mistaken(Mistake::ValueInPads)).contains(&row) {
         return Err(bad_argument());
     }
     // Without strays a row that doesn't exist spells 0, which is what the mistake says.
@@ -147,7 +150,8 @@ pub fn sum(index: &[u32], first: &[u32], second: &[u32], room: usize) -> Result<
     if !mistaken(Mistake::NoRoomBeforeStray) {
         no_strays_in_either(&first, &second)?;
     }
-    let words = index::write(index.rows, &sum_bodies(&first, &second));
+    let format = if mistaken(Mistake::SumKindOne) { Format::Ewah } else { index.format };
+    let words = index::write(format, index.rows, &sum_bodies(&first, &second));
     if mistaken(Mistake::NeedWithoutContents) && words.len() > room {
         let contents = HEAD_WORDS + ENTRY_WORDS * words[2] as usize;
         return Err(refusal(9, 0, words.len() - contents));
@@ -161,13 +165,13 @@ pub fn sum(index: &[u32], first: &[u32], second: &[u32], room: usize) -> Result<
 
 /// The bodies of the sum: existence, then its slices, lowest first.
 fn sum_bodies(first: &Column, second: &Column) -> Vec<Vec<u32>> {
-    let rows = first.rows_taking(Mistake::SumKeepsPads);
+    let rows = first.rows_taking(mistaken_in(first.format, Mistake::SumKeepsPads, Mistake::WahSumKeepsPads));
     let exists: Vec<bool> = rows.clone().map(|r| exists_in_sum(first.exists[r], second.exists[r])).collect();
     let numbers: Vec<u64> = rows.clone().map(|r| added(first.number(r), second.number(r))).collect();
 
     let wider = first.slices.len().max(second.slices.len());
     let digits = if mistaken(Mistake::TopSliceLeftOut) { wider } else { wider + 1 };
-    let mut bodies = vec![sum_body(&exists, first.count)];
+    let mut bodies = vec![sum_body(&exists, first.count, first.format)];
     for place in 0..digits {
         let masked = !(mistaken(Mistake::SumSliceUnmasked) && place + 1 == wider);
         let holds = |r: usize| (numbers[r] >> place) & 1 == 1 && (exists[r] || !masked);
@@ -175,18 +179,21 @@ fn sum_bodies(first: &Column, second: &Column) -> Vec<Vec<u32>> {
         if mistaken(Mistake::EmptySlicesLeftOut) && !slice.contains(&true) {
             continue;
         }
-        bodies.push(sum_body(&slice, first.count));
+        bodies.push(sum_body(&slice, first.count, first.format));
     }
     bodies
 }
 
 /// The settled body of so many rows; pads behind them, which come of a mistake, are left out unless they are set.
-fn sum_body(rows: &[bool], count: usize) -> Vec<u32> {
+fn sum_body(rows: &[bool], count: usize, format: Format) -> Vec<u32> {
     let rows = if rows[count..].contains(&true) { rows } else { &rows[..count] };
     if mistaken(Mistake::SumFullTailDirty) {
-        return with_mistake(Mistake::FullTailDirty, || settled(rows));
+        return with_mistake(Mistake::FullTailDirty, || settled(rows, format));
     }
-    settled(rows)
+    if mistaken(Mistake::SumBodiesInEwah) {
+        return settled(rows, Format::Ewah);
+    }
+    settled(rows, format)
 }
 
 fn exists_in_sum(first: bool, second: bool) -> bool {

@@ -3,12 +3,15 @@
 use std::ops::Range;
 
 use crate::body::{self, check_words, count_in, expand_rows, nth_in, row_in, Body};
-use crate::limits::{ENTRY_WORDS, HEAD_WORDS, INDEX_KIND, MOST_BITMAPS, MOST_INDEX_WORDS, MOST_ROWS};
+use crate::format::Format;
+use crate::limits::{ENTRY_WORDS, HEAD_WORDS, MOST_BITMAPS, MOST_INDEX_WORDS, MOST_ROWS};
 use crate::mistakes::{mistaken, Mistake};
 use crate::refusal::{bad_argument, refusal, too_many_rows, Refusal};
 
 /// A sound index.
 pub(crate) struct Index<'a> {
+    /// That of all its bodies.
+    pub format: Format,
     pub rows: u32,
     words: &'a [u32],
     parts: Vec<Range<usize>>,
@@ -22,7 +25,13 @@ impl Index<'_> {
 
     /// Bitmap `k`, taken apart.
     pub fn body(&self, k: u32) -> Result<Body, Refusal> {
-        Ok(body::read(&self.words[self.part(k)?], self.rows))
+        Ok(body::read(&self.words[self.part(k)?], self.rows, self.format))
+    }
+
+    /// The refusal of bitmap `k`'s own body.
+    pub fn check_part(&self, k: u32) -> Result<(), Refusal> {
+        let part = self.part(k)?;
+        check_words(&self.words[part.clone()], self.rows, self.format, k, part.start)
     }
 
     pub fn bitmaps(&self) -> u32 {
@@ -37,6 +46,15 @@ fn entry_place(k: usize) -> usize {
 
 /// Checks everything, in the order the refusals have.
 pub(crate) fn open(words: &[u32]) -> Result<Index<'_>, Refusal> {
+    let index = open_contents(words)?;
+    for k in 0..index.bitmaps() {
+        index.check_part(k)?;
+    }
+    Ok(index)
+}
+
+/// The same, except the bodies.
+pub(crate) fn open_contents(words: &[u32]) -> Result<Index<'_>, Refusal> {
     let length = words.len();
     if length > MOST_INDEX_WORDS {
         return Err(refusal(3, 0, 0));
@@ -44,9 +62,7 @@ pub(crate) fn open(words: &[u32]) -> Result<Index<'_>, Refusal> {
     if length < HEAD_WORDS {
         return Err(refusal(1, 0, length));
     }
-    if words[0] != INDEX_KIND {
-        return Err(refusal(2, 0, 0));
-    }
+    let format = Format::of_kind(words[0]).ok_or(refusal(2, 0, 0))?;
     let rows = words[1];
     if rows > MOST_ROWS {
         return Err(too_many_rows());
@@ -59,10 +75,7 @@ pub(crate) fn open(words: &[u32]) -> Result<Index<'_>, Refusal> {
         return Err(refusal(1, 0, length));
     }
     let parts = contents(words, bitmaps)?;
-    for (k, part) in parts.iter().enumerate() {
-        check_words(&words[part.clone()], rows, k as u32, part.start)?;
-    }
-    Ok(Index { rows, words, parts })
+    Ok(Index { format, rows, words, parts })
 }
 
 /// The bodies' places, entry by entry.
@@ -93,9 +106,9 @@ fn contents(words: &[u32], bitmaps: usize) -> Result<Vec<Range<usize>>, Refusal>
     Ok(parts)
 }
 
-/// An index of these bodies.
-pub(crate) fn write(rows: u32, bodies: &[Vec<u32>]) -> Vec<u32> {
-    let mut words = vec![INDEX_KIND, rows, bodies.len() as u32];
+/// An index of these bodies, which have this format.
+pub(crate) fn write(format: Format, rows: u32, bodies: &[Vec<u32>]) -> Vec<u32> {
+    let mut words = vec![format.kind(), rows, bodies.len() as u32];
     let mut start = entry_place(bodies.len());
     for body in bodies {
         words.extend([start as u32, body.len() as u32]);

@@ -8,17 +8,25 @@
 mod blocks;
 mod body;
 mod columns;
+mod ewah;
+mod format;
 mod index;
 pub mod limits;
 pub mod mistakes;
 mod program;
 mod questions;
 mod refusal;
+mod rewrite;
+mod segment;
+mod wah;
+mod widths;
 
 pub use body::{body_count, body_nth, body_row, check_body, compress, expand};
 pub use columns::{sum, value};
+pub use format::Format;
 pub use index::{bitmap, check, count, expand_bitmap, nth, row};
 pub use mistakes::{with_mistake, Mistake};
 pub use program::program;
 pub use questions::{and, and_not, histogram, not, or, symmetric, threshold, xor, Answer};
 pub use refusal::Refusal;
+pub use rewrite::{rewrite, rewrite_bitmap, rewrite_index};

@@ -18,8 +18,10 @@ pub const MOST_SUMMED: usize = 33;
 /// Numbers in the list where only a value is asked, at most: a sum has one slice more.
 pub const MOST_VALUED: usize = 34;
 
-/// Word 0 of an index.
-pub const INDEX_KIND: u32 = 1;
+/// Word 0 of an index with EWAH bodies.
+pub const EWAH_KIND: u32 = 1;
+/// Word 0 of an index with WAH bodies.
+pub const WAH_KIND: u32 = 2;
 /// Words in front of the contents.
 pub const HEAD_WORDS: usize = 3;
 /// Words of an entry of the contents: start, length.
@@ -34,8 +36,17 @@ pub const CLEAN_SHIFT: u32 = 1;
 /// The lowest bit of a marker's dirty count.
 pub const DIRTY_SHIFT: u32 = 17;
 
-/// Bits of a word, rows of a segment.
+/// Set in a WAH word that is a fill.
+pub const FILL_FLAG: u32 = 1 << 31;
+/// Set in a fill of ones.
+pub const FILL_VALUE: u32 = 1 << 30;
+/// Segments of a fill, at most. All ones in binary.
+pub const MOST_FILL: u32 = FILL_VALUE - 1;
+
+/// Bits of a word, rows of a plain word, rows of an EWAH segment.
 pub const WORD_BITS: usize = 32;
+/// Rows of a WAH segment.
+pub const WAH_ROWS: usize = 31;
 /// Bytes of a word.
 pub const WORD_BYTES: usize = 4;
 

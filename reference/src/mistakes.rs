@@ -3,6 +3,8 @@
 
 use std::cell::Cell;
 
+use crate::format::Format;
+
 #[derive(Debug, Clone, Copy, PartialEq, Eq, Hash)]
 pub enum Mistake {
     /// A symmetric table with a yes at 0 sets the pad bits.
@@ -141,6 +143,120 @@ pub enum Mistake {
     ValueInPads,
     /// A sum's bodies have the pad bits that come of adding the runs over them.
     SumKeepsPads,
+    /// Every fill is read as ones: its value bit isn't looked at.
+    FillsReadAsOnes,
+    /// A fill's count is read from its low 16 bits, as in a marker.
+    FillCountShort,
+    /// A fill's value bit is counted among its segments.
+    FillValueCounted,
+    /// Read, a literal has its first row at bit 30.
+    LiteralHighestFirst,
+    /// A fill of no segments is let through.
+    EmptyFillPasses,
+    /// A fill of no segments is refused with 6.
+    EmptyFillIsSix,
+    /// A fill of no segments behind the last segment is refused with 6.
+    TenAfterSix,
+    /// A fill of no segments is told only of a body without other faults.
+    TenAfterAll,
+    /// A fill may pass the last segment; what is past it is no row.
+    FillPastEndPasses,
+    /// Literals behind the last segment are let through.
+    LiteralPastEndPasses,
+    /// A WAH word that passes the segments left is told at the body's end.
+    PastEndAtBodyEnd,
+    /// A fill of ones over pads is refused with 7.
+    OnesFillRefused,
+    /// A literal may have pad bits, which are no rows.
+    LiteralPadPasses,
+    /// A literal of all ones may have pad bits, as a fill may cover them.
+    LiteralOnesPass,
+    /// Checked, a last WAH segment has R % 32 rows instead of R % 31.
+    LastSegmentBy32,
+    /// Checked, a WAH body has a segment for every 32 rows.
+    SegmentsBy32,
+    /// A WAH body may end early; the rows that are missing aren't set.
+    EarlyEndPasses,
+    /// A WAH body's early end is told at its last word.
+    EarlyEndAtLastWord,
+    /// Fills of one value side by side are one piece.
+    FillsJoined,
+    /// A row of a WAH body is looked for in segment r / 32, at bit r % 32.
+    RowBy32,
+    /// Nth tells a row of a WAH body as if its segments had 32 rows.
+    NthBy32,
+    /// Counted, a fill of ones is worth 32 rows a segment.
+    FillCounts32,
+    /// Plain words read from a WAH body have 31 rows each.
+    ExpandBySegments,
+    /// Plain words that a WAH body is written from have 31 rows each.
+    CompressBySegments,
+    /// Where WAH is written, the last plain word has R % 31 rows.
+    PlainPadsBy31,
+    /// `RowInPads` in WAH alone.
+    WahRowInPads,
+    /// `RunCountsPads` in WAH alone.
+    WahCountsPads,
+    /// `NthInPads` in WAH alone.
+    WahNthInPads,
+    /// `ExpandKeepsPads` in WAH alone.
+    WahExpandKeepsPads,
+    /// `NotFillsPads` in WAH alone.
+    WahNotFillsPads,
+    /// `PairKeepsPads` in WAH alone.
+    WahPairKeepsPads,
+    /// `TableFillsPads` in WAH alone.
+    WahTableFillsPads,
+    /// `TallyCountsPads` in WAH alone.
+    WahTallyCountsPads,
+    /// `SumKeepsPads` in WAH alone.
+    WahSumKeepsPads,
+    /// An answer segment under a literal stays a literal, even if clean.
+    CleanKeptLiteral,
+    /// A lone clean segment is written as a fill.
+    LoneCleanAsFill,
+    /// A run of four segments or more is written as two fills.
+    RunInTwoFills,
+    /// A run of three segments or more is written as a literal and a fill.
+    LoneLeftBehind,
+    /// A run of two segments is written as two literals.
+    PairAsLiterals,
+    /// A fill has `MOST_CLEAN` segments at most.
+    FillCutAtMarkerLimit,
+    /// Two segments of ones are written as a fill of zeros.
+    OnesPairIsZeros,
+    /// A lone full last segment is written with its pad bits set.
+    FullTailPadsWritten,
+    /// A full last WAH segment with pads is a literal even behind ones.
+    FullTailLiteral,
+    /// Word 0 of 3 stands for WAH bodies.
+    KindThreeIsWah,
+    /// Word 0 of 2 is refused with 2.
+    KindTwoRefused,
+    /// The answer of a WAH index is written in EWAH.
+    AnswerInEwah,
+    /// Word 0 of a WAH sum is that of EWAH.
+    SumKindOne,
+    /// The bodies of a WAH sum are written in EWAH.
+    SumBodiesInEwah,
+    /// Rewriting leaves out a last segment that isn't whole.
+    RewriteLosesTail,
+    /// Rewriting takes the pads under a run of ones for rows.
+    RewriteKeepsPads,
+    /// Rewriting takes each segment over into one of the other width.
+    RewriteByWords,
+    /// Rewriting to the same format copies the words as they are.
+    SameFormatCopied,
+    /// Rewriting a body also asks for room for the words read.
+    RewriteRoomByOld,
+    /// Rewriting a bitmap checks no other body.
+    RewriteChecksOwnBody,
+    /// A rewritten index keeps its word 0.
+    RewrittenKindKept,
+    /// A rewritten index keeps its contents, starts and lengths.
+    RewrittenContentsKept,
+    /// Refusal 9 of a rewritten index counts its bodies alone.
+    RewriteNeedsBodiesOnly,
 }
 
 impl Mistake {
@@ -213,6 +329,63 @@ impl Mistake {
         Mistake::PadIsStray,
         Mistake::ValueInPads,
         Mistake::SumKeepsPads,
+        Mistake::FillsReadAsOnes,
+        Mistake::FillCountShort,
+        Mistake::FillValueCounted,
+        Mistake::LiteralHighestFirst,
+        Mistake::EmptyFillPasses,
+        Mistake::EmptyFillIsSix,
+        Mistake::TenAfterSix,
+        Mistake::TenAfterAll,
+        Mistake::FillPastEndPasses,
+        Mistake::LiteralPastEndPasses,
+        Mistake::PastEndAtBodyEnd,
+        Mistake::OnesFillRefused,
+        Mistake::LiteralPadPasses,
+        Mistake::LiteralOnesPass,
+        Mistake::LastSegmentBy32,
+        Mistake::SegmentsBy32,
+        Mistake::EarlyEndPasses,
+        Mistake::EarlyEndAtLastWord,
+        Mistake::FillsJoined,
+        Mistake::RowBy32,
+        Mistake::NthBy32,
+        Mistake::FillCounts32,
+        Mistake::ExpandBySegments,
+        Mistake::CompressBySegments,
+        Mistake::PlainPadsBy31,
+        Mistake::WahRowInPads,
+        Mistake::WahCountsPads,
+        Mistake::WahNthInPads,
+        Mistake::WahExpandKeepsPads,
+        Mistake::WahNotFillsPads,
+        Mistake::WahPairKeepsPads,
+        Mistake::WahTableFillsPads,
+        Mistake::WahTallyCountsPads,
+        Mistake::WahSumKeepsPads,
+        Mistake::CleanKeptLiteral,
+        Mistake::LoneCleanAsFill,
+        Mistake::RunInTwoFills,
+        Mistake::LoneLeftBehind,
+        Mistake::PairAsLiterals,
+        Mistake::FillCutAtMarkerLimit,
+        Mistake::OnesPairIsZeros,
+        Mistake::FullTailPadsWritten,
+        Mistake::FullTailLiteral,
+        Mistake::KindThreeIsWah,
+        Mistake::KindTwoRefused,
+        Mistake::AnswerInEwah,
+        Mistake::SumKindOne,
+        Mistake::SumBodiesInEwah,
+        Mistake::RewriteLosesTail,
+        Mistake::RewriteKeepsPads,
+        Mistake::RewriteByWords,
+        Mistake::SameFormatCopied,
+        Mistake::RewriteRoomByOld,
+        Mistake::RewriteChecksOwnBody,
+        Mistake::RewrittenKindKept,
+        Mistake::RewrittenContentsKept,
+        Mistake::RewriteNeedsBodiesOnly,
     ];
 }
 
@@ -238,4 +411,9 @@ pub fn with_mistake<T>(m: Mistake, f: impl FnOnce() -> T) -> T {
 /// Is this mistake switched on here and now?
 pub(crate) fn mistaken(m: Mistake) -> bool {
     CURRENT.with(|current| current.get()) == Some(m)
+}
+
+/// Is a mistake of both formats switched on, or its like in WAH alone, this format being WAH?
+pub(crate) fn mistaken_in(format: Format, both: Mistake, wah: Mistake) -> bool {
+    mistaken(both) || format == Format::Wah && mistaken(wah)
 }

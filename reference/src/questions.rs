@@ -2,11 +2,13 @@
 
 use std::collections::BTreeSet;
 
-use crate::body::{plain_word, segments_in, settle, settled, Body, Segment};
+use crate::body::{settle, settled, Body};
+use crate::format::Format;
 use crate::index::{open, Index};
-use crate::limits::{MOST_NAMED, TALLY_ENTRIES, WORD_BITS};
-use crate::mistakes::{mistaken, Mistake};
+use crate::limits::{MOST_NAMED, TALLY_ENTRIES};
+use crate::mistakes::{mistaken, mistaken_in, Mistake};
 use crate::refusal::{bad_argument, must_fit, Refusal};
+use crate::segment::segments_in;
 
 #[derive(Debug, Clone, PartialEq, Eq)]
 pub struct Answer {
@@ -15,8 +17,9 @@ pub struct Answer {
 }
 
 /// What is kept of the named bodies besides their rows.
-#[derive(Default)]
 struct Named {
+    /// That of the index, and so of the answer.
+    format: Format,
     /// Words of their bodies, repeats added again.
     words: usize,
     /// Where pieces end, each segment once.
@@ -30,6 +33,12 @@ struct Named {
 }
 
 impl Named {
+    /// None named yet.
+    fn of(index: &Index) -> Named {
+        let format = index.format;
+        Named { format, words: 0, ends: BTreeSet::new(), pieces: 0, dirty: BTreeSet::new(), over_pads: 0 }
+    }
+
     /// Names bitmap `k` and gives it, taken apart.
     fn name(&mut self, index: &Index, k: u32) -> Result<Body, Refusal> {
         let body = index.body(k)?;
@@ -54,7 +63,9 @@ impl Named {
 
     /// The settled body of the answer's rows, if it fits.
     fn write(&self, rows: &[bool], room: usize) -> Result<Vec<u32>, Refusal> {
-        let words = if mistaken(Mistake::CleanKeptDirty) { self.kept_dirty(rows) } else { settled(rows) };
+        let format = if mistaken(Mistake::AnswerInEwah) { Format::Ewah } else { self.format };
+        let kept = mistaken_in(self.format, Mistake::CleanKeptDirty, Mistake::CleanKeptLiteral);
+        let words = if kept { self.kept_dirty(rows) } else { settled(rows, format) };
         if mistaken(Mistake::RoomByBound) {
             must_fit(2 * self.words, room)?;
         }
@@ -64,19 +75,17 @@ impl Named {
 
     /// What a mistake writes: a dirty word wherever a named bitmap has one.
     fn kept_dirty(&self, rows: &[bool]) -> Vec<u32> {
-        let mut segments = segments_in(rows);
-        for (at, part) in rows.chunks(WORD_BITS).enumerate() {
-            if self.dirty.contains(&at) {
-                segments[at] = Segment::Mixed(plain_word(part));
-            }
+        let mut segments = segments_in(rows, self.format);
+        for &at in &self.dirty {
+            segments[at].clean = None;
         }
-        settle(&segments)
+        settle(&segments, self.format)
     }
 }
 
 /// Sets every pad of the last segment: what some mistakes do.
-fn fill_pads(rows: &mut Vec<bool>) {
-    let whole = rows.len().next_multiple_of(WORD_BITS);
+fn fill_pads(rows: &mut Vec<bool>, format: Format) {
+    let whole = rows.len().next_multiple_of(format.width());
     rows.resize(whole, true);
 }
 
@@ -84,13 +93,14 @@ fn fill_pads(rows: &mut Vec<bool>) {
 
 fn of_two(index: &[u32], j: u32, k: u32, room: usize, rule: fn(bool, bool) -> bool) -> Result<Vec<u32>, Refusal> {
     let index = open(index)?;
-    let mut named = Named::default();
+    let mut named = Named::of(&index);
     let first = named.name(&index, j)?;
     let second = named.name(&index, k)?;
     let answered = |a: &[bool], b: &[bool]| -> Vec<bool> { a.iter().zip(b).map(|(&a, &b)| rule(a, b)).collect() };
     let mut answer = answered(&first.rows, &second.rows);
-    if mistaken(Mistake::PairKeepsPads) && answered(&first.pads, &second.pads).contains(&true) {
-        fill_pads(&mut answer);
+    let pads_too = mistaken_in(index.format, Mistake::PairKeepsPads, Mistake::WahPairKeepsPads);
+    if pads_too && answered(&first.pads, &second.pads).contains(&true) {
+        fill_pads(&mut answer, index.format);
     }
     named.write(&answer, room)
 }
@@ -117,14 +127,16 @@ pub fn and_not(index: &[u32], j: u32, k: u32, room: usize) -> Result<Vec<u32>, R
 
 pub fn not(index: &[u32], k: u32, room: usize) -> Result<Vec<u32>, Refusal> {
     let index = open(index)?;
-    let mut named = Named::default();
+    let mut named = Named::of(&index);
     let body = named.name(&index, k)?;
     let mut answer: Vec<bool> = body.rows.iter().map(|&set| !set).collect();
-    if mistaken(Mistake::NotFillsPads) || mistaken(Mistake::NotKeepsPads) && named.over_pads > 0 {
-        fill_pads(&mut answer);
+    let always = mistaken_in(index.format, Mistake::NotFillsPads, Mistake::WahNotFillsPads);
+    if always || mistaken(Mistake::NotKeepsPads) && named.over_pads > 0 {
+        fill_pads(&mut answer, index.format);
     }
     if mistaken(Mistake::NotKeepsRun) && named.over_pads > 0 {
-        let last = answer.len() / WORD_BITS * WORD_BITS;
+        let part = answer.len() % index.format.width();
+        let last = answer.len() - part;
         answer[last..].fill(true);
     }
     named.write(&answer, room)
@@ -167,7 +179,7 @@ pub(crate) fn threshold_rows(index: &[u32], list: &[u32], t: u32, room: usize) -
     if t == 0 || (t > list.len() && !mistaken(Mistake::HighThresholdEmpty)) {
         return Err(bad_argument());
     }
-    let mut named = Named::default();
+    let mut named = Named::of(&index);
     let held = holders(&index, list, &mut named)?;
     let enough = |c: usize| {
         if mistaken(Mistake::ThresholdAboveT) {
@@ -194,15 +206,16 @@ pub fn symmetric(index: &[u32], list: &[u32], table: &[u32], room: usize) -> Res
     if table.len() != list.len() + 1 || table.iter().any(|&entry| entry > most) {
         return Err(bad_argument());
     }
-    let mut named = Named::default();
+    let mut named = Named::of(&index);
     let held = holders(&index, list, &mut named)?;
     let mut rows: Vec<bool> = held.iter().map(|&c| table[c] != 0).collect();
     let over = named.over_pads;
-    let filled = mistaken(Mistake::TableFillsPads) && table[0] == 1
+    let always = mistaken_in(index.format, Mistake::TableFillsPads, Mistake::WahTableFillsPads);
+    let filled = always && table[0] == 1
         || mistaken(Mistake::TableFillsUnderRun) && table[0] == 1 && over > 0
         || mistaken(Mistake::TableKeepsPads) && table[over] == 1 && over > 0;
     if filled {
-        fill_pads(&mut rows);
+        fill_pads(&mut rows, index.format);
     }
     let words = named.write(&rows, room)?;
     Ok(Answer { words, stretches: named.stretches() })
@@ -212,14 +225,14 @@ pub fn symmetric(index: &[u32], list: &[u32], table: &[u32], room: usize) -> Res
 pub fn histogram(index: &[u32], list: &[u32]) -> Result<[u32; TALLY_ENTRIES], Refusal> {
     let index = open(index)?;
     check_list(&index, list)?;
-    let mut named = Named::default();
+    let mut named = Named::of(&index);
     let held = holders(&index, list, &mut named)?;
     let mut tally = [0; TALLY_ENTRIES];
     for &c in &held {
         tally[c] += 1;
     }
-    let pads = (held.len().next_multiple_of(WORD_BITS) - held.len()) as u32;
-    if mistaken(Mistake::TallyCountsPads) {
+    let pads = (held.len().next_multiple_of(index.format.width()) - held.len()) as u32;
+    if mistaken_in(index.format, Mistake::TallyCountsPads, Mistake::WahTallyCountsPads) {
         tally[0] += pads;
     }
     if mistaken(Mistake::TallyCountsRunPads) && named.over_pads > 0 {

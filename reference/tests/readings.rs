@@ -23,16 +23,16 @@ fn full(rows: u32) -> Vec<u32> {
 
 /// Writing gives this body; reading it gives the words back.
 fn settles(rows: u32, words: &[u32], body: &[u32]) {
-    assert_eq!(compress(rows, words, body.len()).as_deref(), Ok(body));
-    assert_eq!(check_body(body, rows), Ok(()));
-    assert_eq!(expand(body, rows, words.len()).as_deref(), Ok(words));
+    assert_eq!(compress(rows, words, Ewah, body.len()).as_deref(), Ok(body));
+    assert_eq!(check_body(body, rows, Ewah), Ok(()));
+    assert_eq!(expand(body, rows, Ewah, words.len()).as_deref(), Ok(words));
     let ones: u32 = words.iter().map(|w| w.count_ones()).sum();
-    assert_eq!(body_count(body, rows), Ok(ones));
+    assert_eq!(body_count(body, rows, Ewah), Ok(ones));
     if !body.is_empty() {
         let need = body.len() as u64;
-        assert_eq!(compress(rows, words, body.len() - 1), Err(no(9, 0, need)));
+        assert_eq!(compress(rows, words, Ewah, body.len() - 1), Err(no(9, 0, need)));
         let need = words.len() as u64;
-        assert_eq!(expand(body, rows, words.len() - 1), Err(no(9, 0, need)));
+        assert_eq!(expand(body, rows, Ewah, words.len() - 1), Err(no(9, 0, need)));
     }
 }
 
@@ -57,30 +57,30 @@ fn forty_rows() {
 #[test]
 fn forty_rows_as_they_were() {
     for body in [&[0x0002_0003, 0x0000_00FF][..], &[0x0004_0000, u32::MAX, 0x0000_00FF]] {
-        assert_eq!(check_body(body, 40), Ok(()));
-        assert_eq!(body_count(body, 40), Ok(40));
-        assert_eq!(expand(body, 40, 2), Ok(full(40)));
+        assert_eq!(check_body(body, 40, Ewah), Ok(()));
+        assert_eq!(body_count(body, 40, Ewah), Ok(40));
+        assert_eq!(expand(body, 40, Ewah, 2), Ok(full(40)));
         let index = index_of(40, &[body, &[0x0000_0005]]);
         assert_eq!(and(&index, 0, 0, 1), Ok(vec![0x0000_0005]));
         assert_eq!(and(&index, 0, 1, 1), Ok(vec![0x0000_0005]));
         assert_eq!(xor(&index, 0, 1, 1), Ok(vec![0x0000_0004]));
     }
-    assert_eq!(check_body(&[0x0002_0003, 0x0000_01FF], 40), Err(no(7, 0, 1)));
-    assert_eq!(check_body(&[0x0002_0003, u32::MAX], 40), Err(no(7, 0, 1)));
+    assert_eq!(check_body(&[0x0002_0003, 0x0000_01FF], 40, Ewah), Err(no(7, 0, 1)));
+    assert_eq!(check_body(&[0x0002_0003, u32::MAX], 40, Ewah), Err(no(7, 0, 1)));
 }
 
 #[test]
 fn ninety_six_rows() {
     settles(96, &plain(96, &[5, 64]), &FIVE_64);
-    assert_eq!(check_body(&FIVE_64_WASTEFUL, 96), Ok(()));
-    assert_eq!(expand(&FIVE_64_WASTEFUL, 96, 3), Ok(plain(96, &[5, 64])));
+    assert_eq!(check_body(&FIVE_64_WASTEFUL, 96, Ewah), Ok(()));
+    assert_eq!(expand(&FIVE_64_WASTEFUL, 96, Ewah, 3), Ok(plain(96, &[5, 64])));
     for body in [FIVE_64, FIVE_64_WASTEFUL] {
-        assert_eq!(body_row(&body, 96, 5), Ok(true));
-        assert_eq!(body_row(&body, 96, 64), Ok(true));
-        assert_eq!(body_row(&body, 96, 63), Ok(false));
-        assert_eq!(body_nth(&body, 96, 0), Ok(5));
-        assert_eq!(body_nth(&body, 96, 1), Ok(64));
-        assert_eq!(body_nth(&body, 96, 2), Err(no(8, 0, 0)));
+        assert_eq!(body_row(&body, 96, Ewah, 5), Ok(true));
+        assert_eq!(body_row(&body, 96, Ewah, 64), Ok(true));
+        assert_eq!(body_row(&body, 96, Ewah, 63), Ok(false));
+        assert_eq!(body_nth(&body, 96, Ewah, 0), Ok(5));
+        assert_eq!(body_nth(&body, 96, Ewah, 1), Ok(64));
+        assert_eq!(body_nth(&body, 96, Ewah, 2), Err(no(8, 0, 0)));
     }
 }
 
@@ -96,24 +96,24 @@ fn long_runs() {
 #[test]
 fn one_row_too_many() {
     let refused = no(3, 0, 1);
-    assert_eq!(check_body(&[], 16_777_217), Err(refused));
-    assert_eq!(body_count(&[], 16_777_217), Err(refused));
-    assert_eq!(body_row(&[], 16_777_217, 0), Err(refused));
-    assert_eq!(body_nth(&[], 16_777_217, 0), Err(refused));
-    assert_eq!(expand(&[], 16_777_217, 0), Err(refused));
-    assert_eq!(compress(16_777_217, &[], 0), Err(refused));
+    assert_eq!(check_body(&[], 16_777_217, Ewah), Err(refused));
+    assert_eq!(body_count(&[], 16_777_217, Ewah), Err(refused));
+    assert_eq!(body_row(&[], 16_777_217, Ewah, 0), Err(refused));
+    assert_eq!(body_nth(&[], 16_777_217, Ewah, 0), Err(refused));
+    assert_eq!(expand(&[], 16_777_217, Ewah, 0), Err(refused));
+    assert_eq!(compress(16_777_217, &[], Ewah, 0), Err(refused));
     assert_eq!(check(&[1, 16_777_217, 0]), Err(refused));
     assert_eq!(check(&[1, 16_777_216, 0]), Ok(()));
 }
 
 #[test]
 fn many_dirty_words() {
-    let body = compress(1_048_544, &vec![1; 32_767], ANY).unwrap();
+    let body = compress(1_048_544, &vec![1; 32_767], Ewah, ANY).unwrap();
     assert_eq!(body.len(), 32_768);
     assert_eq!(body[0], 0xFFFE_0000);
     settles(1_048_544, &vec![1; 32_767], &body);
 
-    let body = compress(1_048_576, &vec![1; 32_768], ANY).unwrap();
+    let body = compress(1_048_576, &vec![1; 32_768], Ewah, ANY).unwrap();
     assert_eq!(body.len(), 32_770);
     assert_eq!(body[0], 0xFFFE_0000);
     assert_eq!(body[32_768], 0x0002_0000);

@@ -20,7 +20,9 @@ fn one_too_short() {
 #[test]
 fn two_wrong_first_word() {
     assert_eq!(check(&[0, MOST_ROWS + 1, MOST_BITMAPS + 1]), Err(no(2, 0, 0)));
-    assert_eq!(check(&[2, 4, 0]), Err(no(2, 0, 0)));
+    assert_eq!(check(&[3, 4, 0]), Err(no(2, 0, 0)));
+    assert_eq!(check(&[1, 4, 0]), Ok(()));
+    assert_eq!(check(&[2, 4, 0]), Ok(()));
 }
 
 #[test]
@@ -64,8 +66,8 @@ fn four_contents() {
 
 #[test]
 fn five_dirty_words_past_the_end() {
-    assert_eq!(check_body(&[0x0002_0000], 32), Err(no(5, 0, 0)));
-    assert_eq!(check_body(&[0x0000_0002, 0x0004_0000, 1], 96), Err(no(5, 0, 1)));
+    assert_eq!(check_body(&[0x0002_0000], 32, Ewah), Err(no(5, 0, 0)));
+    assert_eq!(check_body(&[0x0000_0002, 0x0004_0000, 1], 96, Ewah), Err(no(5, 0, 1)));
     let index = index_of(32, &[&[2], &[0x0002_0000]]);
     assert_eq!(check(&index), Err(no(5, 1, 8)));
     // The next body's words are not this one's.
@@ -75,13 +77,13 @@ fn five_dirty_words_past_the_end() {
 
 #[test]
 fn six_segments() {
-    assert_eq!(check_body(&[6], 64), Err(no(6, 0, 0)));
-    assert_eq!(check_body(&[4, 2], 64), Err(no(6, 0, 1)));
-    assert_eq!(check_body(&[0x0002_0004, 1], 64), Err(no(6, 0, 0)));
-    assert_eq!(check_body(&[2], 64), Err(no(6, 0, 1)));
-    assert_eq!(check_body(&[], 1), Err(no(6, 0, 0)));
-    assert_eq!(check_body(&[0x0002_0000, 1], 33), Err(no(6, 0, 2)));
-    assert_eq!(check_body(&[2], 0), Err(no(6, 0, 0)));
+    assert_eq!(check_body(&[6], 64, Ewah), Err(no(6, 0, 0)));
+    assert_eq!(check_body(&[4, 2], 64, Ewah), Err(no(6, 0, 1)));
+    assert_eq!(check_body(&[0x0002_0004, 1], 64, Ewah), Err(no(6, 0, 0)));
+    assert_eq!(check_body(&[2], 64, Ewah), Err(no(6, 0, 1)));
+    assert_eq!(check_body(&[], 1, Ewah), Err(no(6, 0, 0)));
+    assert_eq!(check_body(&[0x0002_0000, 1], 33, Ewah), Err(no(6, 0, 2)));
+    assert_eq!(check_body(&[2], 0, Ewah), Err(no(6, 0, 0)));
     assert_eq!(check(&index_of(64, &[&[4], &[2]])), Err(no(6, 1, 9)));
     assert_eq!(check(&index_of(64, &[&[2], &[4]])), Err(no(6, 0, 8)));
     assert_eq!(check(&index_of(64, &[&[4], &[6]])), Err(no(6, 1, 8)));
@@ -90,28 +92,28 @@ fn six_segments() {
 
 #[test]
 fn seven_pads() {
-    assert_eq!(check_body(&[0x0002_0003, 0x1FF], 40), Err(no(7, 0, 1)));
-    assert_eq!(check_body(&[0x0002_0003, u32::MAX], 40), Err(no(7, 0, 1)));
-    assert_eq!(check_body(&[0x0004_0000, 1, 0x100], 40), Err(no(7, 0, 2)));
-    assert_eq!(check_body(&[0x0004_0000, u32::MAX, 0xFF], 40), Ok(()));
-    assert_eq!(check_body(&[0x0002_0000, u32::MAX], 31), Err(no(7, 0, 1)));
-    assert_eq!(check_body(&[0x0002_0000, u32::MAX], 32), Ok(()));
+    assert_eq!(check_body(&[0x0002_0003, 0x1FF], 40, Ewah), Err(no(7, 0, 1)));
+    assert_eq!(check_body(&[0x0002_0003, u32::MAX], 40, Ewah), Err(no(7, 0, 1)));
+    assert_eq!(check_body(&[0x0004_0000, 1, 0x100], 40, Ewah), Err(no(7, 0, 2)));
+    assert_eq!(check_body(&[0x0004_0000, u32::MAX, 0xFF], 40, Ewah), Ok(()));
+    assert_eq!(check_body(&[0x0002_0000, u32::MAX], 31, Ewah), Err(no(7, 0, 1)));
+    assert_eq!(check_body(&[0x0002_0000, u32::MAX], 32, Ewah), Ok(()));
     assert_eq!(check(&index_of(40, &[&[4], &[0x0002_0002, 0x100]])), Err(no(7, 1, 9)));
-    assert_eq!(compress(40, &[0, 0x100], 0), Err(no(7, 0, 1)));
-    assert_eq!(compress(40, &[u32::MAX, u32::MAX], 0), Err(no(7, 0, 1)));
+    assert_eq!(compress(40, &[0, 0x100], Ewah, 0), Err(no(7, 0, 1)));
+    assert_eq!(compress(40, &[u32::MAX, u32::MAX], Ewah, 0), Err(no(7, 0, 1)));
 }
 
 #[test]
 fn ones_over_pads_are_sound() {
     for (body, rows) in [(&[5][..], 40), (&[2, 3], 40), (&[3], 31), (&[3], 1), (&[0, 3, 1, 3, 0, 1], 33)] {
-        assert_eq!(check_body(body, rows), Ok(()), "{body:x?}");
+        assert_eq!(check_body(body, rows, Ewah), Ok(()), "{body:x?}");
         // A segment more is one too many.
-        assert_eq!(check_body(&[body, &[3]].concat(), rows), Err(no(6, 0, body.len() as u64)));
+        assert_eq!(check_body(&[body, &[3]].concat(), rows, Ewah), Err(no(6, 0, body.len() as u64)));
     }
-    assert_eq!(check_body(&[7], 40), Err(no(6, 0, 0)));
-    assert_eq!(check_body(&[3, 5], 40), Err(no(6, 0, 1)));
-    assert_eq!(check_body(&[3], 40), Err(no(6, 0, 1)));
-    assert_eq!(check_body(&[3], 0), Err(no(6, 0, 0)));
+    assert_eq!(check_body(&[7], 40, Ewah), Err(no(6, 0, 0)));
+    assert_eq!(check_body(&[3, 5], 40, Ewah), Err(no(6, 0, 1)));
+    assert_eq!(check_body(&[3], 40, Ewah), Err(no(6, 0, 1)));
+    assert_eq!(check_body(&[3], 0, Ewah), Err(no(6, 0, 0)));
     assert_eq!(check(&index_of(40, &[&[4], &[5]])), Ok(()));
     assert_eq!(check(&index_of(40, &[&[5], &[7]])), Err(no(6, 1, 8)));
 }
@@ -119,25 +121,25 @@ fn ones_over_pads_are_sound() {
 #[test]
 fn wasteful_is_sound() {
     // Idle markers anywhere, also with clean value 1 and in zero rows.
-    assert_eq!(check_body(&[0, 1, 4, 0, 1], 64), Ok(()));
-    assert_eq!(check_body(&[1, 4, 1], 40), Ok(()));
-    assert_eq!(check_body(&[0], 0), Ok(()));
-    assert_eq!(check_body(&[1, 0], 0), Ok(()));
+    assert_eq!(check_body(&[0, 1, 4, 0, 1], 64, Ewah), Ok(()));
+    assert_eq!(check_body(&[1, 4, 1], 40, Ewah), Ok(()));
+    assert_eq!(check_body(&[0], 0, Ewah), Ok(()));
+    assert_eq!(check_body(&[1, 0], 0, Ewah), Ok(()));
     // Clean dirty words, split runs.
-    assert_eq!(check_body(&[0x0004_0000, 0, u32::MAX], 64), Ok(()));
-    assert_eq!(check_body(&[2, 2], 64), Ok(()));
-    assert_eq!(body_count(&[3, 0x0002_0000, u32::MAX], 64), Ok(64));
+    assert_eq!(check_body(&[0x0004_0000, 0, u32::MAX], 64, Ewah), Ok(()));
+    assert_eq!(check_body(&[2, 2], 64, Ewah), Ok(()));
+    assert_eq!(body_count(&[3, 0x0002_0000, u32::MAX], 64, Ewah), Ok(64));
 }
 
 #[test]
 fn order_at_a_marker() {
     // 5 and 6 at once; then 6 alone; a marker before its dirty words.
-    assert_eq!(check_body(&[0x0004_0002, 1], 64), Err(no(5, 0, 0)));
-    assert_eq!(check_body(&[0x0002_0005, 1], 40), Err(no(6, 0, 0)));
-    assert_eq!(check_body(&[0x0002_0005, 0x100], 40), Err(no(6, 0, 0)));
-    assert_eq!(check_body(&[7], 40), Err(no(6, 0, 0)));
+    assert_eq!(check_body(&[0x0004_0002, 1], 64, Ewah), Err(no(5, 0, 0)));
+    assert_eq!(check_body(&[0x0002_0005, 1], 40, Ewah), Err(no(6, 0, 0)));
+    assert_eq!(check_body(&[0x0002_0005, 0x100], 40, Ewah), Err(no(6, 0, 0)));
+    assert_eq!(check_body(&[7], 40, Ewah), Err(no(6, 0, 0)));
     // A pad bit in front of a later marker's fault.
-    assert_eq!(check_body(&[0x0002_0002, 0x100, 2], 40), Err(no(7, 0, 1)));
+    assert_eq!(check_body(&[0x0002_0002, 0x100, 2], 40, Ewah), Err(no(7, 0, 1)));
     // Bitmap 0's fault before bitmap 1's.
     assert_eq!(check(&index_of(40, &[&[2], &[0x0002_0000]])), Err(no(6, 0, 8)));
 }
@@ -172,12 +174,12 @@ fn eight_bad_arguments() {
     for table in [&[0, 1, 1][..], &[0, 1, 1, 1, 1], &[], &[0, 1, 2, 1], &[u32::MAX, 0, 0, 0]] {
         assert_eq!(symmetric(&LOOPED, &list, table, 0), Err(bad));
     }
-    assert_eq!(body_row(&[4], 64, 64), Err(bad));
-    assert_eq!(body_nth(&[4], 64, 0), Err(bad));
-    assert_eq!(body_row(&[], 0, 0), Err(bad));
-    assert_eq!(compress(40, &[0], 0), Err(bad));
-    assert_eq!(compress(40, &[0, 0x100, 0], 0), Err(bad));
-    assert_eq!(compress(0, &[0], 0), Err(bad));
+    assert_eq!(body_row(&[4], 64, Ewah, 64), Err(bad));
+    assert_eq!(body_nth(&[4], 64, Ewah, 0), Err(bad));
+    assert_eq!(body_row(&[], 0, Ewah, 0), Err(bad));
+    assert_eq!(compress(40, &[0], Ewah, 0), Err(bad));
+    assert_eq!(compress(40, &[0, 0x100, 0], Ewah, 0), Err(bad));
+    assert_eq!(compress(0, &[0], Ewah, 0), Err(bad));
     // No bitmaps: every list is bad.
     assert_eq!(threshold(&[1, 4, 0], &[0], 1, ANY), Err(bad));
     assert_eq!(histogram(&[1, 4, 0], &[]), Err(bad));
@@ -197,8 +199,8 @@ fn nine_no_room() {
     assert_eq!(symmetric(&LOOPED, &[0], &[1, 1], 0), Err(no(9, 0, 1)));
     assert_eq!(symmetric(&LOOPED, &[0], &[1, 0], 0), Err(no(9, 0, 2)));
     assert_eq!(expand_bitmap(&LOOPED, 0, 0), Err(no(9, 0, 1)));
-    assert_eq!(expand(&[4], 64, 1), Err(no(9, 0, 2)));
-    assert_eq!(compress(64, &[0, 0], 0), Err(no(9, 0, 1)));
+    assert_eq!(expand(&[4], 64, Ewah, 1), Err(no(9, 0, 2)));
+    assert_eq!(compress(64, &[0, 0], Ewah, 0), Err(no(9, 0, 1)));
     // Zero rows need no room at all.
     let empty = index_of(0, &[&[]]);
     assert_eq!(not(&empty, 0, 0), Ok(vec![]));

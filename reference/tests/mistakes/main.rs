@@ -1,6 +1,8 @@
 //! Each mistake changes the result of some hand-made input.
 
+#[path = "../common/mod.rs"]
 mod common;
+mod wah;
 use common::*;
 use reference::limits::{DIRTY_SHIFT, ENTRY_WORDS, HEAD_WORDS, WORD_BITS};
 use reference::limits::{MOST_CLEAN, MOST_DIRTY, MOST_SUMMED, MOST_VALUED};
@@ -10,7 +12,7 @@ const ANY: usize = usize::MAX;
 
 /// So many segments of this word, compressed.
 fn repeated(word: u32, segments: usize) -> Result<Vec<u32>, Refusal> {
-    compress((WORD_BITS * segments) as u32, &vec![word; segments], ANY)
+    compress((WORD_BITS * segments) as u32, &vec![word; segments], Ewah, ANY)
 }
 
 /// 4 rows, one segment each: 0 to 2; 0 and 2; 1 and 2; 1 to 3; 3; none.
@@ -77,11 +79,11 @@ fn lowest_rows(segments: usize) -> (Vec<u32>, u32) {
 fn block_case(m: Mistake) -> String {
     let counted = |segments| {
         let (body, rows) = lowest_rows(segments);
-        format!("{:?}", body_count(&body, rows))
+        format!("{:?}", body_count(&body, rows, Ewah))
     };
     let nth_of = |segments, n| {
         let (body, rows) = lowest_rows(segments);
-        format!("{:?}", body_nth(&body, rows, n))
+        format!("{:?}", body_nth(&body, rows, Ewah, n))
     };
     match m {
         Mistake::WordsPastBlocksMissed => counted(130),
@@ -101,14 +103,14 @@ fn tails() -> Vec<u32> {
 /// The same for the mistakes about the last segment.
 fn tail_case(m: Mistake) -> String {
     let index = tails();
-    let compressed = |last| format!("{:x?}", compress(40, &[u32::MAX, last], ANY));
+    let compressed = |last| format!("{:x?}", compress(40, &[u32::MAX, last], Ewah, ANY));
     let summed = |first: &[u32], second: &[u32]| sum_text(&index, first, second, ANY);
     let chosen = |list: &[u32], table: &[u32]| format!("{:x?}", symmetric(&index, list, table, ANY));
     match m {
-        Mistake::RunCountsPads => format!("{:?}", body_count(&[5], 40)),
-        Mistake::OnesRunRefused => format!("{:?}", check_body(&[2, 3], 40)),
-        Mistake::OnesRunPastEnd => format!("{:?}", check_body(&[7], 40)),
-        Mistake::DirtyPadPasses => format!("{:?}", check_body(&[0x0002_0003, 0x1FF], 40)),
+        Mistake::RunCountsPads => format!("{:?}", body_count(&[5], 40, Ewah)),
+        Mistake::OnesRunRefused => format!("{:?}", check_body(&[2, 3], 40, Ewah)),
+        Mistake::OnesRunPastEnd => format!("{:?}", check_body(&[7], 40, Ewah)),
+        Mistake::DirtyPadPasses => format!("{:?}", check_body(&[0x0002_0003, 0x1FF], 40, Ewah)),
         Mistake::PlainOnesPass => compressed(u32::MAX),
         Mistake::RunSplitAtPads => format!("{:x?}", threshold(&index, &[0, 3], 2, ANY)),
         Mistake::RowInPads => format!("{:?}", row(&index, 0, 63)),
@@ -130,6 +132,11 @@ fn tail_case(m: Mistake) -> String {
 
 /// A result in words, the case chosen for this mistake.
 fn case(m: Mistake) -> String {
+    wah::find(m).map_or_else(|| ewah_case(m), |case| (case.ask)())
+}
+
+/// The same for the mistakes that were there before WAH.
+fn ewah_case(m: Mistake) -> String {
     let list = [0, 1, 2];
     let padded = index_of(40, &[&[4], &FORTY]);
     let ninety_six = index_of(96, &[&[6], &FIVE_64]);
@@ -150,9 +157,9 @@ fn case(m: Mistake) -> String {
         }
         Mistake::NotFillsPads => format!("{:x?}", not(&padded, 1, ANY)),
         Mistake::FinalEndUnchecked => format!("{:?}", check(&[1, 32, 1, 5, 1, 2, 2])),
-        Mistake::SixBeforeFive => format!("{:?}", check_body(&[0x0004_0000, 1], 32)),
+        Mistake::SixBeforeFive => format!("{:?}", check_body(&[0x0004_0000, 1], 32, Ewah)),
         Mistake::LengthBeforeStart => format!("{:?}", check(&[1, 32, 1, 6, 2, 2])),
-        Mistake::MissingAtLastWord => format!("{:?}", check_body(&[2], 64)),
+        Mistake::MissingAtLastWord => format!("{:?}", check_body(&[2], 64, Ewah)),
         Mistake::RowPastEndFalse => format!("{:?}", row(&LOOPED, 0, 4)),
         Mistake::TableTwoIsYes => format!("{:x?}", symmetric(&LOOPED, &list, &[0, 0, 2, 0], ANY)),
         Mistake::HighThresholdEmpty => format!("{:x?}", threshold(&LOOPED, &list, 4, ANY)),
@@ -270,6 +277,11 @@ fn tail_expected(m: Mistake) -> (String, String) {
 
 /// (without, with) as they should be.
 fn expected(m: Mistake) -> (String, String) {
+    wah::find(m).map_or_else(|| ewah_expected(m), |case| (case.right.to_string(), case.wrong.to_string()))
+}
+
+/// The same for the mistakes that were there before WAH.
+fn ewah_expected(m: Mistake) -> (String, String) {
     let bad = || refused(8, 0, 0);
     let text = |s: &str| s.to_string();
     match m {
@@ -301,7 +313,7 @@ fn expected(m: Mistake) -> (String, String) {
 
 #[test]
 fn each_mistake_shows() {
-    assert_eq!(Mistake::ALL.len(), 68);
+    assert_eq!(Mistake::ALL.len(), 68 + wah::all().len());
     for (place, &m) in Mistake::ALL.iter().enumerate() {
         assert!(!Mistake::ALL[..place].contains(&m));
         let before = case(m);
