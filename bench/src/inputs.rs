@@ -113,15 +113,25 @@ impl Data {
 
     /// Words of all bodies.
     pub fn words(&self) -> usize {
-        self.index.len() - entry_place(self.bitmaps)
+        words(&self.index, self.bitmaps)
     }
 
-    /// A bitmap's body as a part of the index, found without the check that a call would begin with.
+    /// A bitmap's body.
     pub fn body(&self, k: usize) -> &[u32] {
-        let entry = entry_place(k);
-        let (start, length) = (self.index[entry] as usize, self.index[entry + 1] as usize);
-        &self.index[start..start + length]
+        body(&self.index, k)
     }
+}
+
+/// Words of all bodies of an index of so many.
+pub fn words(index: &[u32], bitmaps: usize) -> usize {
+    index.len() - entry_place(bitmaps)
+}
+
+/// A bitmap's body as a part of the index, found without the check that a call would begin with.
+pub fn body(index: &[u32], k: usize) -> &[u32] {
+    let entry = entry_place(k);
+    let (start, length) = (index[entry] as usize, index[entry + 1] as usize);
+    &index[start..start + length]
 }
 
 /// Where a bitmap's entry stands, its start and then its length; with N for `k`, where the bodies begin.

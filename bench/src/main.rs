@@ -11,6 +11,7 @@ mod growth;
 mod inputs;
 mod ones;
 mod timing;
+mod wah;
 
 use std::hint::black_box;
 use std::process::ExitCode;
@@ -39,6 +40,7 @@ bench --quick    {QUICK_ROWS} rows, {QUICK_BITMAPS} bitmaps; columns
 bench --columns  the calls on columns alone
 bench --counting body_count and body_nth alone, beside more programs; exit
                  code 1 if bit by bit takes less than twice as long
+bench --wah      questions on WAH beside the same on EWAH, and rewriting
 bench --one CALL KIND ROWS BITMAPS REPEATS
                  one call so many times, nothing else timed
 bench --one COLUMN-CALL COLUMN-KIND ROWS SLICES REPEATS
@@ -48,7 +50,9 @@ CALL   check count body_count expand expand_bitmap compress and threshold
        symmetric histogram; body_nth nth (the last set row);
        body_count_bitwise (body_count with the 32 bits of each dirty word
        tested one by one, proved to the same contract), count_ones (Rust's,
-       over the plain words of bitmap 0)
+       over the plain words of bitmap 0); in WAH wah_threshold wah_check
+       wah_count wah_body_count wah_expand wah_compress; to_wah to_ewah
+       (the body of bitmap 0 rewritten, from the other format)
 KIND   quiet (runs of 1,000 to 8,000 segments), calm (runs of 10 to 100
        segments, one to four mixed ones between them), dense (all mixed)
 
@@ -88,8 +92,9 @@ fn main() -> ExitCode {
                 return ExitCode::FAILURE;
             }
         }
+        ["--wah"] => wah::table(),
         ["--one", call, kind, rows, of, repeats] => {
-            let ones = [one, counting::one, columns::one];
+            let ones = [one, counting::one, columns::one, wah::one];
             if ones.iter().all(|one| one(call, kind, rows, of, repeats).is_none()) {
                 return help();
             }

@@ -1,9 +1,9 @@
 //! Every question on an input, with good and bad arguments.
 
-use zvonurel::{segments, HISTOGRAM_COUNTS, MOST_NAMED, MOST_ROWS, WORD_BITS};
+use zvonurel::{segments, Format, HISTOGRAM_COUNTS, MOST_NAMED, MOST_ROWS, WORD_BITS};
 
 use crate::ask::words_needed;
-use crate::encode::{entry_place, last_mask};
+use crate::encode::{entry_place, other, plain_mask, FORMATS};
 use crate::generate::{Effort, Form, Input};
 use crate::question::{Call, Question};
 use crate::random::Random;
@@ -28,12 +28,21 @@ pub fn ask_all(session: &mut Session, input: &Input, random: &mut Random) {
 
 /// Asks these questions; the lent words must stay as they are.
 pub fn asking(session: &mut Session, input: &Input, random: &mut Random, ask: impl FnOnce(&mut Asker)) {
+    if session.difference.is_some() {
+        return;
+    }
     let before = fingerprint(&input.words);
     ask(&mut Asker { session, input, random });
     if before != fingerprint(&input.words) {
         println!("DIFFERENCE  the lent words of a case were changed");
         std::process::exit(1);
     }
+}
+
+/// The last bit of the segment in which the first number that is no row would be.
+fn last_bit(rows: u32, format: Format) -> u32 {
+    let width = format.segment_rows() as u32;
+    (rows / width * width).saturating_add(width - 1)
 }
 
 fn fingerprint(words: &[u32]) -> u64 {
@@ -117,8 +126,8 @@ impl Asker<'_> {
         let rows = self.input.rows;
         let inside = self.random.below(rows as usize) as u32;
         let last = rows.wrapping_sub(1);
-        let last_bit = rows | (WORD_BITS as u32 - 1);
-        self.thin(vec![inside, 0, last, rows, rows.wrapping_add(1), last_bit, u32::MAX])
+        let [last_bit, wah_last_bit] = FORMATS.map(|format| last_bit(rows, format));
+        self.thin(vec![inside, 0, last, rows, rows.wrapping_add(1), last_bit, wah_last_bit, u32::MAX])
     }
 
     /// Numbers for nth on bitmap `k`.
@@ -132,39 +141,57 @@ impl Asker<'_> {
 
     // ---- a lone body ----
 
+    fn lone(&self, call: Call) -> Question {
+        Question::lone(call, self.input.format, self.input.rows)
+    }
+
     fn body(&mut self) {
-        let rows = self.input.rows;
-        self.ask(Question::new(Call::CheckBody).rows(rows));
-        self.ask(Question::new(Call::BodyCount).rows(rows));
+        self.ask(self.lone(Call::CheckBody));
+        self.ask(self.lone(Call::BodyCount));
         for row in self.row_numbers() {
-            self.ask(Question::new(Call::BodyRow).rows(rows).number(row));
+            self.ask(self.lone(Call::BodyRow).number(row));
         }
         for n in self.nth_numbers(0) {
-            self.ask(Question::new(Call::BodyNth).rows(rows).number(n));
+            self.ask(self.lone(Call::BodyNth).number(n));
         }
-        let words = self.input.words.clone();
-        self.ask_rooms(&words, Question::new(Call::Expand).rows(rows));
+        let words = &self.input.words;
+        self.ask_rooms(words, self.lone(Call::Expand));
+        for call in Call::REWRITE_BODY {
+            self.ask_rooms(words, self.lone(call));
+        }
+        self.taken_for_other();
         if let Some(plain) = self.input.plain.first() {
-            self.compress(plain, rows);
+            self.compress(plain);
+        }
+    }
+
+    /// The same words as a body of the other format: seldom a sound one.
+    fn taken_for_other(&mut self) {
+        let room = self.any_room();
+        let format = other(self.input.format);
+        for call in Call::ALL.into_iter().filter(|call| call.of_body()) {
+            self.ask(Question { format, ..self.lone(call) }.room(room));
         }
     }
 
     /// Good plain words, pad bits set, too few, too many, other rows.
-    fn compress(&mut self, plain: &[u32], rows: u32) {
-        let question = |rows| Question::new(Call::Compress).rows(rows);
+    fn compress(&mut self, plain: &[u32]) {
+        let (rows, format) = (self.input.rows, self.input.format);
+        let question = |rows| Question::lone(Call::Compress, format, rows);
         self.ask_rooms(plain, question(rows));
-        let mut other = plain.to_vec();
-        if let Some(last) = other.last_mut() {
-            let pads = !last_mask(rows);
+        self.ask_rooms(plain, Question::lone(Call::Compress, other(format), rows));
+        let mut wrong = plain.to_vec();
+        if let Some(last) = wrong.last_mut() {
+            let pads = !plain_mask(rows);
             let some = pads & self.random.word();
             *last |= self.random.pick(&[pads, some, 1 << (WORD_BITS - 1), u32::MAX]);
         }
-        self.ask_rooms(&other, question(rows));
-        other.pop();
+        self.ask_rooms(&wrong, question(rows));
+        wrong.pop();
         let room = plain.len() + 2;
-        self.session.ask(&other, question(rows).room(room));
-        other.extend([0, self.random.word()]);
-        self.session.ask(&other, question(rows).room(room));
+        self.session.ask(&wrong, question(rows).room(room));
+        wrong.extend([0, self.random.word()]);
+        self.session.ask(&wrong, question(rows).room(room));
         let anything = self.random.word();
         for wrong in [MOST_ROWS + 1, u32::MAX, anything, rows ^ 1] {
             let room = self.any_room();
@@ -188,6 +215,12 @@ impl Asker<'_> {
         self.rows_and_nths();
         self.one_bitmap(Call::ExpandBitmap);
         self.one_bitmap(Call::Not);
+        for call in Call::REWRITE_BITMAP {
+            self.one_bitmap(call);
+        }
+        for call in Call::REWRITE_INDEX {
+            self.ask_rooms(&self.input.words, Question::new(call));
+        }
         for call in PAIRS {
             self.two_bitmaps(call);
         }

@@ -1,10 +1,11 @@
 //! Makes indexes of columns, some with strays: rows of a slice that do not exist in its column.
 
 use reference::limits::MOST_SUMMED;
-use zvonurel::{segments, MOST_BITMAPS, WORD_BITS};
+use zvonurel::{Format, MOST_BITMAPS};
 
-use crate::generate::{end_somehow, index_input, mask_last, some_word, spelled};
-use crate::generate::{Effort, Input, Style, DIRTIES, LONG_ROWS, RUNS};
+use crate::encode::{joined, FORMATS};
+use crate::generate::{end_somehow, finish, some_grid, some_word, spelled};
+use crate::generate::{Effort, Form, Input, Make, Style, DIRTIES, LONG_ROWS, RUNS};
 use crate::random::Random;
 
 /// An index, and two lists that name columns of it.
@@ -14,7 +15,7 @@ pub struct Columns {
     pub second: Vec<u32>,
 }
 
-/// Plain words of a column's bitmaps: existence first, then the slices.
+/// Segments of a column's bitmaps: existence first, then the slices. Bits past their width don't count, nor pad bits.
 type Column = Vec<Vec<u32>>;
 
 #[derive(Clone, Copy)]
@@ -32,6 +33,9 @@ struct Stretch {
 }
 
 struct Shape {
+    format: Format,
+    /// That in whose segments the bitmaps are laid out.
+    grid: Format,
     rows: u32,
     stretches: Vec<Stretch>,
     /// Some bitmaps do not keep to the stretches.
@@ -41,11 +45,18 @@ struct Shape {
     effort: Effort,
 }
 
+impl Shape {
+    fn segment_rows(&self) -> usize {
+        self.grid.segment_rows()
+    }
+}
+
 pub fn generate(random: &mut Random, long: bool) -> Columns {
+    let format = random.pick(&FORMATS);
     let shape = match long {
-        true => tall(random),
-        false if random.one_in(400) => at_a_limit(random),
-        false => ordinary(random),
+        true => tall(format, random),
+        false if random.one_in(400) => at_a_limit(format, random),
+        false => ordinary(format, random),
     };
     let mut first = some_column(&shape, 0, random);
     let mut second = some_column(&shape, 1, random);
@@ -84,18 +95,20 @@ fn some_widths(random: &mut Random) -> [usize; 2] {
 }
 
 /// Few segments where there are many bitmaps.
-fn ordinary(random: &mut Random) -> Shape {
+fn ordinary(format: Format, random: &mut Random) -> Shape {
+    let grid = some_grid(format, random);
     let widths = some_widths(random);
     let bitmaps = 2 + widths[0] + widths[1];
     let most = random.pick(&[30, 100, 300, 600, 1_500]) / bitmaps;
     let count = if random.one_in(20) { 0 } else { random.between(1, 1 + most) };
-    let pads = random.below(WORD_BITS);
-    let rows = (WORD_BITS * count).saturating_sub(random.pick(&[0, pads])) as u32;
+    let pads = random.below(grid.segment_rows());
+    let rows = (grid.segment_rows() * count).saturating_sub(random.pick(&[0, pads])) as u32;
     let effort = match bitmaps * count {
         0..=150 => Effort::Full,
         _ => Effort::Some,
     };
-    Shape { rows, stretches: some_stretches(count, random), loose: random.one_in(3), widths, effort }
+    let stretches = some_stretches(count, random);
+    Shape { format, grid, rows, stretches, loose: random.one_in(3), widths, effort }
 }
 
 /// Stretches up to 40 segments long, so that they begin and end at any place of a block of 16.
@@ -114,7 +127,7 @@ fn some_stretches(count: usize, random: &mut Random) -> Vec<Stretch> {
 }
 
 /// A stretch about as long as a marker's counts allow, between short ones.
-fn at_a_limit(random: &mut Random) -> Shape {
+fn at_a_limit(format: Format, random: &mut Random) -> Shape {
     let long = match random.one_in(2) {
         true => Stretch { length: random.pick(&RUNS), kind: Kind::Clean },
         false => Stretch { length: random.pick(&DIRTIES), kind: Kind::OneOut },
@@ -125,43 +138,41 @@ fn at_a_limit(random: &mut Random) -> Shape {
     let after = random.below(4);
     stretches.extend(some_stretches(after, random));
     let count: usize = stretches.iter().map(|stretch| stretch.length).sum();
-    let rows = (WORD_BITS * count - random.below(WORD_BITS)) as u32;
+    let rows = (format.segment_rows() * count - random.below(format.segment_rows())) as u32;
     let widths = [random.between(1, 2), random.between(1, 2)];
-    Shape { rows, stretches, loose: false, widths, effort: Effort::Few }
+    Shape { format, grid: format, rows, stretches, loose: false, widths, effort: Effort::Few }
 }
 
 /// As many bitmaps as an index has, over many rows.
-fn tall(random: &mut Random) -> Shape {
+fn tall(format: Format, random: &mut Random) -> Shape {
     let rows = random.between(LONG_ROWS.0, LONG_ROWS.1) as u32;
     let widths = [MOST_SLICES, MOST_BITMAPS as usize - 2 - MOST_SLICES];
-    let stretches = some_stretches(segments(rows), random);
-    Shape { rows, stretches, loose: random.one_in(3), widths, effort: Effort::Few }
+    let stretches = some_stretches(format.segments(rows), random);
+    Shape { format, grid: format, rows, stretches, loose: random.one_in(3), widths, effort: Effort::Few }
 }
 
 // ---- bitmaps ----
 
-/// Plain words that keep to the stretches, or have stretches of their own.
+/// Segments that keep to the stretches, or have stretches of their own.
 fn laid(shape: &Shape, random: &mut Random) -> Vec<u32> {
     if shape.loose && random.one_in(2) {
-        return spelled(shape.rows, random);
+        return spelled(shape.rows, shape.grid, random);
     }
-    let mut plain = Vec::new();
+    let mut words = Vec::new();
     for stretch in &shape.stretches {
         match stretch.kind {
-            Kind::Mixed if !random.one_in(4) => plain.extend((0..stretch.length).map(|_| some_word(random))),
-            Kind::OneOut => plain.extend((0..stretch.length).map(|_| !(1 << random.below(WORD_BITS)))),
-            _ => plain.extend(std::iter::repeat_n(random.pick(&[0, u32::MAX]), stretch.length)),
+            Kind::Mixed if !random.one_in(4) => words.extend((0..stretch.length).map(|_| some_word(random))),
+            Kind::OneOut => words.extend((0..stretch.length).map(|_| !(1 << random.below(shape.segment_rows())))),
+            _ => words.extend(std::iter::repeat_n(random.pick(&[0, u32::MAX]), stretch.length)),
         }
     }
-    end_somehow(&mut plain, shape.rows, random);
-    plain
+    end_somehow(&mut words, random);
+    words
 }
 
 /// All rows or none.
-fn uniform(rows: u32, value: u32) -> Vec<u32> {
-    let mut plain = vec![value; segments(rows)];
-    mask_last(&mut plain, rows);
-    plain
+fn uniform(shape: &Shape, value: u32) -> Vec<u32> {
+    vec![value; shape.grid.segments(shape.rows)]
 }
 
 fn keep(words: &mut [u32], only: &[u32]) {
@@ -176,15 +187,15 @@ fn either(mut words: Vec<u32>, other: &[u32]) -> Vec<u32> {
 /// A column without strays. Few have no rows; a third have all.
 fn some_column(shape: &Shape, which: usize, random: &mut Random) -> Column {
     let exists = match random.below(12) {
-        0 => uniform(shape.rows, 0),
-        1..=4 => uniform(shape.rows, u32::MAX),
+        0 => uniform(shape, 0),
+        1..=4 => uniform(shape, u32::MAX),
         5..=8 => either(laid(shape, random), &laid(shape, random)),
         _ => laid(shape, random),
     };
     let mut column = vec![exists.clone()];
     for _ in 0..shape.widths[which] {
         let mut slice = match random.below(10) {
-            0 => uniform(shape.rows, 0),
+            0 => uniform(shape, 0),
             1 => exists.clone(),
             _ => laid(shape, random),
         };
@@ -197,11 +208,7 @@ fn some_column(shape: &Shape, which: usize, random: &mut Random) -> Column {
 /// Sometimes the columns exist in no row together, or in the same; sometimes their sums carry far.
 fn relate(first: &mut Column, second: &mut Column, shape: &Shape, random: &mut Random) {
     match random.below(12) {
-        0 => {
-            let mut others: Vec<u32> = first[0].iter().map(|word| !word).collect();
-            mask_last(&mut others, shape.rows);
-            second[0] = others;
-        }
+        0 => second[0] = first[0].iter().map(|word| !word).collect(),
         1..=4 => second[0] = first[0].clone(),
         _ => {}
     }
@@ -249,10 +256,6 @@ fn carry_through(first: &mut Column, second: &mut Column) {
 
 // ---- strays ----
 
-fn bit_of(row: usize) -> (usize, u32) {
-    (row / WORD_BITS, 1 << (row % WORD_BITS))
-}
-
 /// Rows that do not exist: one or several, in one slice or in several.
 fn put_strays(column: &mut Column, shape: &Shape, random: &mut Random) {
     let (rows, last) = (shape.rows as usize, column.len() - 1);
@@ -262,29 +265,30 @@ fn put_strays(column: &mut Column, shape: &Shape, random: &mut Random) {
     let slice = random.between(1, last);
     match random.below(6) {
         // In the last segment, the one with pads.
-        0 => put_rows(column, &[(rows - 1, slice)]),
+        0 => put_rows(column, shape, &[(rows - 1, slice)]),
         1 => {
             // A lower row in a later slice, or in the same where there is just one.
             let (low, high) = (random.below(rows), random.below(rows));
             let later = random.between(slice, last);
-            put_rows(column, &[(low.max(high), slice), (low.min(high), later)]);
+            put_rows(column, shape, &[(low.max(high), slice), (low.min(high), later)]);
         }
         2 => {
             let start = random.below(rows);
-            let end = rows.min(start + random.between(1, 4 * WORD_BITS));
-            put_rows(column, &(start..end).map(|row| (row, slice)).collect::<Vec<_>>());
+            let end = rows.min(start + random.between(1, 4 * shape.segment_rows()));
+            put_rows(column, shape, &(start..end).map(|row| (row, slice)).collect::<Vec<_>>());
         }
         3..=4 => put_stretch(column, slice, shape, random),
         _ => {
             let count = random.between(1, 4);
             let put: Vec<_> = (0..count).map(|_| (random.below(rows), random.between(1, last))).collect();
-            put_rows(column, &put);
+            put_rows(column, shape, &put);
         }
     }
 }
 
 /// Takes the rows out of the whole column, then puts each into a slice.
-fn put_rows(column: &mut Column, put: &[(usize, usize)]) {
+fn put_rows(column: &mut Column, shape: &Shape, put: &[(usize, usize)]) {
+    let bit_of = |row: usize| (row / shape.segment_rows(), 1 << (row % shape.segment_rows()));
     for &(row, _) in put {
         let (at, bit) = bit_of(row);
         column.iter_mut().for_each(|words| words[at] &= !bit);
@@ -303,7 +307,6 @@ fn put_stretch(column: &mut Column, slice: usize, shape: &Shape, random: &mut Ra
     let end = start + shape.stretches[which].length;
     column.iter_mut().for_each(|words| words[start..end].fill(0));
     column[slice][start..end].fill(u32::MAX);
-    mask_last(&mut column[slice], shape.rows);
 }
 
 // ---- numbers ----
@@ -319,12 +322,13 @@ fn numbered(shape: &Shape, first: Column, second: Column, random: &mut Random) -
     let order = shuffled(all.len(), random);
     let mut plain = vec![Vec::new(); all.len()];
     for (words, &number) in all.into_iter().zip(&order) {
-        plain[number as usize] = words;
+        plain[number as usize] = joined(&words, shape.rows, shape.grid);
     }
     let mut lists = [order[..width].to_vec(), order[width..width + 1 + shape.widths[1]].to_vec()];
     share(&mut lists, &plain, random);
     let style = random.pick(&[Style::Settled, Style::Settled, Style::Wasteful, Style::Wasteful, Style::Torn]);
-    let input = index_input(random, style, shape.rows, plain, shape.effort);
+    let make = Make { form: Form::Index, format: shape.format, style, effort: shape.effort };
+    let input = finish(random, make, shape.rows, plain);
     let [first, second] = lists;
     Columns { input, first, second }
 }

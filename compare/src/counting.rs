@@ -1,10 +1,10 @@
 //! Fixed cases of counting: a marker's dirty words are counted many at once, so their number, the markers around them
-//! and the sums inside matter.
+//! and the sums inside matter. The same rows are asked of literals.
 
-use zvonurel::{index_of, MOST_DIRTY, WORD_BITS};
+use zvonurel::Format::{self, Ewah, Wah};
+use zvonurel::MOST_DIRTY;
 
-use crate::encode::{last_mask, marker, settled};
-use crate::generate::mask_last;
+use crate::encode::{fill, full, index_in, joined, last_mask, marker, settled, FORMATS};
 use crate::question::{Call, Question};
 use crate::random::Random;
 use crate::session::Session;
@@ -13,32 +13,42 @@ use crate::session::Session;
 const COUNTED: usize = 64;
 const PASSED: usize = 512;
 
-/// A body that is put together marker by marker, with the plain words it stands for.
-#[derive(Clone, Default)]
+/// A body that is put together marker by marker, or by fills and literals, with the segments it stands for.
+#[derive(Clone)]
 struct Draft {
+    format: Format,
     body: Vec<u32>,
-    plain: Vec<u32>,
-    /// Where the last segment's dirty word stands, unless a run says it.
+    segments: Vec<u32>,
+    /// Where the last segment's own word stands, unless a run says it.
     last: Option<usize>,
     /// The segments at which blocks of dirty words begin or end.
     edges: Vec<usize>,
 }
 
 impl Draft {
-    /// One more marker, a clean run and dirty words.
+    fn new(format: Format) -> Draft {
+        Draft { format, body: Vec::new(), segments: Vec::new(), last: None, edges: Vec::new() }
+    }
+
+    /// One more marker, a clean run and dirty words; or a fill, unless it is of none, and literals.
     fn then(mut self, value: bool, clean: usize, dirty: &[u32]) -> Draft {
-        self.body.push(marker(value, clean, dirty.len()));
-        self.body.extend(dirty);
-        self.plain.extend(std::iter::repeat_n(if value { u32::MAX } else { 0 }, clean));
+        let full = full(self.format);
+        match self.format {
+            Ewah => self.body.push(marker(value, clean, dirty.len())),
+            Wah if clean > 0 => self.body.push(fill(value, clean)),
+            Wah => {}
+        }
+        self.segments.extend(std::iter::repeat_n(if value { full } else { 0 }, clean));
+        let start = self.segments.len();
+        self.segments.extend(dirty.iter().map(|word| word & full));
+        self.body.extend(&self.segments[start..]);
         if !dirty.is_empty() {
             self.last = Some(self.body.len() - 1);
         } else if clean > 0 {
             self.last = None;
         }
-        let start = self.plain.len();
-        self.plain.extend(dirty);
-        self.edges.extend((start..self.plain.len()).step_by(COUNTED));
-        self.edges.push(self.plain.len());
+        self.edges.extend((start..self.segments.len()).step_by(COUNTED));
+        self.edges.push(self.segments.len());
         self
     }
 
@@ -51,12 +61,15 @@ impl Draft {
         self.then(value, 0, &[])
     }
 
-    /// The rows, with so many pads behind the last one. Plain words and a dirty word have no pad bits; a run stays.
+    /// The rows, with so many pads behind the last one. A dirty word has no pad bits; a run stays.
     fn rows(&mut self, pads: usize) -> u32 {
-        let rows = (WORD_BITS * self.plain.len() - pads) as u32;
-        mask_last(&mut self.plain, rows);
+        let rows = (self.format.segment_rows() * self.segments.len() - pads) as u32;
+        let mask = last_mask(rows, self.format);
+        if let Some(last) = self.segments.last_mut() {
+            *last &= mask;
+        }
         if let Some(last) = self.last {
-            self.body[last] &= last_mask(rows);
+            self.body[last] &= mask;
         }
         rows
     }
@@ -64,10 +77,10 @@ impl Draft {
     /// The first set row, the last one, those about each edge, and numbers that no set row has.
     fn nths(&self) -> Vec<u32> {
         let set = |words: &[u32]| words.iter().map(|word| word.count_ones()).sum::<u32>();
-        let all = set(&self.plain);
+        let all = set(&self.segments);
         let mut nths = vec![0, all.saturating_sub(1), all, all + 1, u32::MAX];
         for &edge in &self.edges {
-            let before = set(&self.plain[..edge]);
+            let before = set(&self.segments[..edge]);
             nths.extend([before.saturating_sub(1), before, before + 1]);
         }
         nths.sort();
@@ -80,12 +93,13 @@ impl Draft {
 fn ask(session: &mut Session, mut draft: Draft, pads: usize) {
     let rows = draft.rows(pads);
     let nths = draft.nths();
-    let alone = |call: Call| Question::new(call).rows(rows);
+    let alone = |call: Call| Question::lone(call, draft.format, rows);
     session.ask(&draft.body, alone(Call::BodyCount));
     for &n in &nths {
         session.ask(&draft.body, alone(Call::BodyNth).number(n));
     }
-    let index = index_of(rows, &[draft.body, settled(&draft.plain, rows)]);
+    let plain = joined(&draft.segments, rows, draft.format);
+    let index = index_in(draft.format, rows, &[draft.body, settled(&plain, rows, draft.format)]);
     for k in [0, 1] {
         session.ask(&index, Question::new(Call::Count).list(&[k]));
         for &n in &nths {
@@ -112,71 +126,73 @@ fn words_among(random: &mut Random, count: usize, word: u32) -> Vec<u32> {
 }
 
 pub fn run(session: &mut Session) {
-    let mut random = Random::for_case(0, 0);
-    lengths(session, &mut random);
-    block_ends(session, &mut random);
-    no_rows(session);
-    full_markers(session, &mut random);
-    idle_markers(session, &mut random);
-    long_carries(session, &mut random);
-    single_bits(session);
+    for format in FORMATS {
+        let mut random = Random::for_case(0, 0);
+        lengths(session, format, &mut random);
+        block_ends(session, format, &mut random);
+        no_rows(session, format);
+        full_markers(session, format, &mut random);
+        idle_markers(session, format, &mut random);
+        long_carries(session, format, &mut random);
+        single_bits(session, format);
+    }
 }
 
 /// One marker of every length about the multiples of both blocks.
-fn lengths(session: &mut Session, random: &mut Random) {
+fn lengths(session: &mut Session, format: Format, random: &mut Random) {
     for length in (0..=200).chain(PASSED - COUNTED..=PASSED + 2 * COUNTED) {
         let words = match length % 3 {
             0 => mixed_words(random, length),
             1 => words_among(random, length, u32::MAX),
             _ => words_among(random, length, 0),
         };
-        let pads = if length > 0 { random.below(WORD_BITS) } else { 0 };
-        ask(session, Draft::default().words(&words), pads);
+        let pads = if length > 0 { random.below(format.segment_rows()) } else { 0 };
+        ask(session, Draft::new(format).words(&words), pads);
     }
 }
 
 /// Whole blocks that end where a marker follows.
-fn block_ends(session: &mut Session, random: &mut Random) {
+fn block_ends(session: &mut Session, format: Format, random: &mut Random) {
     for length in [COUNTED, 2 * COUNTED, PASSED, 2 * PASSED] {
-        let first = Draft::default().words(&mixed_words(random, length));
-        for pads in [0, 1, random.below(WORD_BITS), WORD_BITS - 1] {
+        let first = Draft::new(format).words(&mixed_words(random, length));
+        for pads in [0, 1, random.below(format.segment_rows()), format.segment_rows() - 1] {
             ask(session, first.clone().then(true, 3, &[]), pads);
             ask(session, first.clone().then(true, 1, &[]).idle(false), pads);
         }
         ask(session, first.clone().words(&mixed_words(random, 1)), 7);
         let runs = first.then(true, 2, &mixed_words(random, 5)).then(false, 70, &mixed_words(random, COUNTED));
-        ask(session, runs.then(true, 1, &words_among(random, length, 0)), 31);
+        ask(session, runs.then(true, 1, &words_among(random, length, 0)), 30);
     }
 }
 
-/// Bodies of no rows.
-fn no_rows(session: &mut Session) {
-    let none = Draft::default();
+/// Bodies of no rows. In WAH they have no words.
+fn no_rows(session: &mut Session, format: Format) {
+    let none = Draft::new(format);
     ask(session, none.clone(), 0);
     ask(session, none.clone().idle(false), 0);
     ask(session, none.idle(true).idle(false).idle(true), 0);
 }
 
 /// As many dirty words as a marker can have, and some more.
-fn full_markers(session: &mut Session, random: &mut Random) {
+fn full_markers(session: &mut Session, format: Format, random: &mut Random) {
     for more in [1, COUNTED - 1, COUNTED, COUNTED + 1] {
-        let full = Draft::default().words(&mixed_words(random, MOST_DIRTY));
+        let full = Draft::new(format).words(&mixed_words(random, MOST_DIRTY));
         let mut draft = full.words(&mixed_words(random, more));
         // few edges, since the reference is slow with so many rows
         draft.edges = vec![PASSED, MOST_DIRTY / PASSED * PASSED, MOST_DIRTY];
-        ask(session, draft, random.below(WORD_BITS));
+        ask(session, draft, random.below(format.segment_rows()));
     }
 }
 
 /// Idle markers between blocks, and between every two markers.
-fn idle_markers(session: &mut Session, random: &mut Random) {
-    let mut blocks = Draft::default();
+fn idle_markers(session: &mut Session, format: Format, random: &mut Random) {
+    let mut blocks = Draft::new(format);
     for length in [COUNTED, COUNTED, PASSED, PASSED] {
         blocks = blocks.idle(false).words(&mixed_words(random, length)).idle(true);
     }
     ask(session, blocks.clone(), 0);
     ask(session, blocks.then(true, 1, &[]).idle(true), 9);
-    let mut every = Draft::default();
+    let mut every = Draft::new(format);
     for (at, length) in [1, COUNTED - 1, COUNTED, 0, COUNTED + 1, 2 * COUNTED, PASSED - 1, 3].into_iter().enumerate() {
         every = every.then(at % 2 == 0, at % 3, &words_among(random, length, u32::MAX)).idle(at % 2 == 1);
     }
@@ -185,29 +201,30 @@ fn idle_markers(session: &mut Session, random: &mut Random) {
 }
 
 /// Words that make sums carry far: all ones, all ones but for one word, and alternate bits.
-fn long_carries(session: &mut Session, random: &mut Random) {
+fn long_carries(session: &mut Session, format: Format, random: &mut Random) {
     for length in [COUNTED, COUNTED + 1, 2 * COUNTED, PASSED, PASSED + COUNTED + 1] {
-        ask(session, Draft::default().words(&vec![u32::MAX; length]), random.below(WORD_BITS));
+        ask(session, Draft::new(format).words(&vec![u32::MAX; length]), random.below(format.segment_rows()));
         let alternate: Vec<u32> = (0..length).map(|at| [0x5555_5555, 0xAAAA_AAAA][at % 2]).collect();
-        ask(session, Draft::default().words(&alternate), 0);
+        ask(session, Draft::new(format).words(&alternate), 0);
     }
     for at in 0..COUNTED {
         for word in [0, mixed(random)] {
             let mut words = vec![u32::MAX; COUNTED];
             words[at] = word;
-            ask(session, Draft::default().words(&words), 0);
+            ask(session, Draft::new(format).words(&words), 0);
         }
     }
 }
 
 /// One row: each bit of each word of a block by itself.
-fn single_bits(session: &mut Session) {
-    let rows = (WORD_BITS * COUNTED) as u32;
-    let alone = |call: Call| Question::new(call).rows(rows);
+fn single_bits(session: &mut Session, format: Format) {
+    let width = format.segment_rows();
+    let rows = (width * COUNTED) as u32;
+    let alone = |call: Call| Question::lone(call, format, rows);
     for row in 0..rows as usize {
         let mut words = [0; COUNTED];
-        words[row / WORD_BITS] = 1 << (row % WORD_BITS);
-        let body = Draft::default().words(&words).body;
+        words[row / width] = 1 << (row % width);
+        let body = Draft::new(format).words(&words).body;
         session.ask(&body, alone(Call::BodyCount));
         session.ask(&body, alone(Call::BodyNth));
         session.ask(&body, alone(Call::BodyNth).number(1));

@@ -1,8 +1,8 @@
 //! Makes the input of a case.
 
-use zvonurel::{index_of, segments, MOST_BITMAPS, MOST_CLEAN, MOST_DIRTY, WORD_BITS};
+use zvonurel::{segments, Format, MOST_BITMAPS, MOST_CLEAN, MOST_DIRTY, WORD_BITS};
 
-use crate::encode::{last_mask, settled, wasteful};
+use crate::encode::{full, index_in, joined, last_mask, mask_last, other, Segments, FORMATS};
 use crate::random::Random;
 use crate::tear::{tear_body, tear_index, tear_rows};
 
@@ -25,6 +25,8 @@ pub enum Effort {
 
 pub struct Input {
     pub form: Form,
+    /// That of the bodies. A torn index may say otherwise.
+    pub format: Format,
     pub words: Vec<u32>,
     /// What the questions take for R and N. A torn index may say otherwise.
     pub rows: u32,
@@ -41,6 +43,15 @@ pub enum Style {
     Torn,
 }
 
+/// What an input is made as.
+#[derive(Clone, Copy)]
+pub struct Make {
+    pub form: Form,
+    pub format: Format,
+    pub style: Style,
+    pub effort: Effort,
+}
+
 /// The fewest and the most rows of a long input.
 pub const LONG_ROWS: (usize, usize) = (100_000, 400_000);
 
@@ -48,12 +59,15 @@ pub const LONG_ROWS: (usize, usize) = (100_000, 400_000);
 pub fn generate(random: &mut Random, long: bool) -> Input {
     let style =
         random.pick(&[Style::Settled, Style::Settled, Style::Wasteful, Style::Wasteful, Style::Torn, Style::Torn]);
+    let format = random.pick(&FORMATS);
     if long {
         let rows = random.between(LONG_ROWS.0, LONG_ROWS.1) as u32;
-        return made(random, Form::Index, style, rows, MOST_BITMAPS as usize, Effort::Few);
+        let make = Make { form: Form::Index, format, style, effort: Effort::Few };
+        return made(random, make, rows, MOST_BITMAPS as usize);
     }
     if random.one_in(250) {
-        return long_runs(random, style);
+        let form = random.pick(&[Form::Body, Form::Index]);
+        return long_runs(random, Make { form, format, style, effort: Effort::Few });
     }
     let form = match random.below(10) {
         0..=2 => Form::Body,
@@ -68,7 +82,7 @@ pub fn generate(random: &mut Random, long: bool) -> Input {
         0..=150 => Effort::Full,
         _ => Effort::Some,
     };
-    made(random, form, style, rows, bitmaps, effort)
+    made(random, Make { form, format, style, effort }, rows, bitmaps)
 }
 
 fn some_bitmaps(random: &mut Random) -> usize {
@@ -82,7 +96,7 @@ fn some_bitmaps(random: &mut Random) -> usize {
     }
 }
 
-/// Small numbers mostly, smaller ones where there are many bitmaps.
+/// Small numbers mostly, smaller ones where there are many bitmaps. Some are those of whole segments, or one off.
 fn some_rows(random: &mut Random, bitmaps: usize) -> u32 {
     let most = match random.below(20) {
         0..=3 => 40,
@@ -92,10 +106,14 @@ fn some_rows(random: &mut Random, bitmaps: usize) -> u32 {
         _ if bitmaps > 8 => 1_000,
         _ => 8_000,
     };
-    match random.below(8) {
-        0 => (random.below(most) / WORD_BITS * WORD_BITS) as u32,
-        _ => random.between(0, most) as u32,
-    }
+    let rows = random.between(0, most);
+    let width = random.pick(&FORMATS).segment_rows();
+    let rows = match random.below(8) {
+        0 => rows / width * width,
+        1 => (rows / width * width + random.pick(&[0, 2])).saturating_sub(1),
+        _ => rows,
+    };
+    rows as u32
 }
 
 /// Clean runs about the most of one marker and of two, and of three full ones.
@@ -121,130 +139,127 @@ pub const DIRTIES: [usize; 7] = [
     2 * MOST_DIRTY + 1,
 ];
 
-/// Bodies at the limits of a marker's two counts. The first bitmap has the
+/// Bodies at the limits of a marker's two counts, in WAH with as many segments. The first bitmap has the
 /// long run or the many dirty words; a second one lies beside it in an index.
-fn long_runs(random: &mut Random, style: Style) -> Input {
-    let form = random.pick(&[Form::Body, Form::Index]);
-    let mut plain = Vec::new();
+fn long_runs(random: &mut Random, make: Make) -> Input {
+    let width = make.format.segment_rows();
+    let mut words = Vec::new();
     for _ in 0..random.below(3) {
-        plain.push(some_word(random));
+        words.push(some_word(random));
     }
     if random.one_in(2) {
         let value = random.pick(&[0, u32::MAX]);
         let run = random.pick(&RUNS);
-        plain.extend(std::iter::repeat_n(value, run));
+        words.extend(std::iter::repeat_n(value, run));
     } else {
         let dirty = random.pick(&DIRTIES);
-        plain.extend((0..dirty).map(|_| 1 << random.below(WORD_BITS)));
+        words.extend((0..dirty).map(|_| 1 << random.below(width)));
     }
     for _ in 0..random.below(4) {
-        plain.push(some_word(random));
+        words.push(some_word(random));
     }
-    let rows = (WORD_BITS * plain.len() - random.below(WORD_BITS)) as u32;
-    end_somehow(&mut plain, rows, random);
-    let mut all = vec![plain];
-    if form == Form::Index && random.one_in(2) {
+    let rows = (width * words.len() - random.below(width)) as u32;
+    end_somehow(&mut words, random);
+    let mut all = vec![joined(&words, rows, make.format)];
+    if make.form == Form::Index && random.one_in(2) {
         let other = derived(&all, rows, random);
         all.push(other);
     }
-    finish(random, form, style, rows, all, Effort::Few)
+    finish(random, make, rows, all)
 }
 
-fn made(random: &mut Random, form: Form, style: Style, rows: u32, bitmaps: usize, effort: Effort) -> Input {
+fn made(random: &mut Random, make: Make, rows: u32, bitmaps: usize) -> Input {
+    let grid = some_grid(make.format, random);
     let mut plain: Vec<Vec<u32>> = Vec::new();
     for _ in 0..bitmaps {
         let next = match plain.is_empty() || random.below(3) > 0 {
-            true => spelled(rows, random),
+            true => joined(&spelled(rows, grid, random), rows, grid),
             false => derived(&plain, rows, random),
         };
         plain.push(next);
     }
-    finish(random, form, style, rows, plain, effort)
+    finish(random, make, rows, plain)
 }
 
-/// An index of these plain words.
-pub fn index_input(random: &mut Random, style: Style, rows: u32, plain: Vec<Vec<u32>>, effort: Effort) -> Input {
-    finish(random, Form::Index, style, rows, plain, effort)
+/// The format whose segments the rows are laid out in, so that some are clean: mostly the bodies' own; else clean
+/// segments come of rewriting.
+pub fn some_grid(format: Format, random: &mut Random) -> Format {
+    match random.one_in(4) {
+        true => other(format),
+        false => format,
+    }
 }
 
 /// The words of the input, torn where the style says so.
-fn finish(random: &mut Random, form: Form, style: Style, rows: u32, plain: Vec<Vec<u32>>, effort: Effort) -> Input {
+pub fn finish(random: &mut Random, make: Make, rows: u32, plain: Vec<Vec<u32>>) -> Input {
+    let Make { form, format, style, effort } = make;
     let mut bodies: Vec<Vec<u32>> = Vec::new();
     for words in &plain {
-        bodies.push(some_body(words, rows, style, random));
+        bodies.push(some_body(words, rows, make, random));
     }
     let torn = style == Style::Torn;
     let mut claimed = rows;
     let words = match form {
-        Form::Index => torn_index(rows, bodies, torn, random),
+        Form::Index => some_index(make, rows, bodies, random),
         Form::Body => {
             let mut body = bodies.swap_remove(0);
             if torn && random.one_in(4) {
                 claimed = tear_rows(rows, random);
             } else if torn {
-                tear_body(&mut body, random);
+                tear_body(&mut body, format, random);
             }
             body
         }
     };
-    Input { form, words, rows: claimed, bitmaps: plain.len() as u32, plain, effort }
+    Input { form, format, words, rows: claimed, bitmaps: plain.len() as u32, plain, effort }
 }
 
 /// A body of these words. A few of those that will be torn have pad bits.
-fn some_body(words: &[u32], rows: u32, style: Style, random: &mut Random) -> Vec<u32> {
-    let torn = style == Style::Torn;
-    let words = match torn && random.one_in(12) {
-        true => &with_pads(words, rows, random),
-        false => words,
-    };
-    let waste = style == Style::Wasteful || torn && random.one_in(2);
+fn some_body(plain: &[u32], rows: u32, make: Make, random: &mut Random) -> Vec<u32> {
+    let torn = make.style == Style::Torn;
+    let mut segments = Segments::of(plain, rows, make.format);
+    if torn && random.one_in(12) {
+        put_pads(&mut segments.words, rows, make.format, random);
+    }
+    let waste = make.style == Style::Wasteful || torn && random.one_in(2);
     match waste {
-        true => wasteful(words, rows, random),
-        false => settled(words, rows),
+        true => segments.wasteful(random),
+        false => segments.settled(),
     }
 }
 
-/// The same words with pad bits set, which makes a body of them unsound unless
-/// a run of ones spells the last.
-fn with_pads(words: &[u32], rows: u32, random: &mut Random) -> Vec<u32> {
-    let mut words = words.to_vec();
+/// Sets pad bits, which makes a body of the segments unsound unless a run of ones spells the last.
+fn put_pads(segments: &mut [u32], rows: u32, format: Format, random: &mut Random) {
+    let pads = full(format) & !last_mask(rows, format);
     let some = random.word();
-    if let Some(last) = words.last_mut() {
-        *last |= random.pick(&[u32::MAX, !last_mask(rows), !last_mask(rows) & some]);
+    if let Some(last) = segments.last_mut() {
+        *last |= random.pick(&[full(format), pads, pads & some]);
     }
-    words
 }
 
 /// Half of the torn ones have a torn body under contents that are right.
-fn torn_index(rows: u32, mut bodies: Vec<Vec<u32>>, torn: bool, random: &mut Random) -> Vec<u32> {
+fn some_index(make: Make, rows: u32, mut bodies: Vec<Vec<u32>>, random: &mut Random) -> Vec<u32> {
+    let torn = make.style == Style::Torn;
     let inside = torn && !bodies.is_empty() && random.one_in(2);
     if inside {
         let k = random.below(bodies.len());
-        tear_body(&mut bodies[k], random);
+        tear_body(&mut bodies[k], make.format, random);
     }
-    let mut words = index_of(rows, &bodies);
+    let mut words = index_in(make.format, rows, &bodies);
     if torn && (!inside || random.one_in(4)) {
-        tear_index(&mut words, random);
+        tear_index(&mut words, make.format, random);
     }
     words
 }
 
-// ---- plain words ----
+// ---- segments, of which the bits past their width and the last row don't count yet ----
 
-pub fn mask_last(plain: &mut [u32], rows: u32) {
-    if let Some(last) = plain.last_mut() {
-        *last &= last_mask(rows);
-    }
-}
-
-/// Pads cleared; before, half of the last segments are made empty, full or
-/// mixed, whatever the others are.
-pub fn end_somehow(plain: &mut [u32], rows: u32, random: &mut Random) {
+/// Half of the last segments are made empty, full or mixed, whatever the others are.
+pub fn end_somehow(words: &mut [u32], random: &mut Random) {
     let some = random.word();
-    if let Some(last) = plain.last_mut().filter(|_| random.one_in(2)) {
+    if let Some(last) = words.last_mut().filter(|_| random.one_in(2)) {
         *last = random.pick(&[0, u32::MAX, some]);
     }
-    mask_last(plain, rows);
 }
 
 /// Any word: clean, nearly clean, or just anything.
@@ -260,26 +275,26 @@ pub fn some_word(random: &mut Random) -> u32 {
     }
 }
 
-/// Plain words of one bitmap: runs and mixed words by a taste of its own.
-pub fn spelled(rows: u32, random: &mut Random) -> Vec<u32> {
-    let segments = segments(rows);
-    let longest = random.pick(&[1, 3, 10, 40, segments.max(1)]);
+/// Segments of one bitmap: runs and mixed ones by a taste of its own.
+pub fn spelled(rows: u32, grid: Format, random: &mut Random) -> Vec<u32> {
+    let count = grid.segments(rows);
+    let longest = random.pick(&[1, 3, 10, 40, count.max(1)]);
     let mixed_share = random.below(5);
-    let mut plain = Vec::new();
-    while plain.len() < segments {
-        let length = random.between(1, longest).min(segments - plain.len());
+    let mut words = Vec::new();
+    while words.len() < count {
+        let length = random.between(1, longest).min(count - words.len());
         if random.below(4) < mixed_share {
-            plain.extend((0..length).map(|_| some_word(random)));
+            words.extend((0..length).map(|_| some_word(random)));
         } else {
             let value = random.pick(&[0, 0, u32::MAX]);
-            plain.extend(std::iter::repeat_n(value, length));
+            words.extend(std::iter::repeat_n(value, length));
         }
     }
-    end_somehow(&mut plain, rows, random);
-    plain
+    end_somehow(&mut words, random);
+    words
 }
 
-/// A relative of an earlier bitmap, so that answers have clean parts too.
+/// Plain words of a relative of an earlier bitmap, so that answers have clean parts too.
 fn derived(earlier: &[Vec<u32>], rows: u32, random: &mut Random) -> Vec<u32> {
     let mut plain = earlier[random.below(earlier.len())].clone();
     let other = &earlier[random.below(earlier.len())];

@@ -4,17 +4,22 @@ mod ask;
 mod choose;
 mod choose_columns;
 mod columns;
+mod corners;
 mod counting;
 mod encode;
 mod fixed;
 mod generate;
+mod library;
 mod places;
 mod program;
 mod question;
 mod random;
 mod readings;
+mod samples;
+mod second;
 mod session;
 mod shrink;
+mod tail;
 mod tails;
 mod tear;
 
@@ -34,12 +39,12 @@ use crate::shrink::shrink;
 const HELP: &str = "\
 compare SEED CASES [--mutate] [--long] [--only CASE] [--program PATH]
 
-Makes CASES indexes and bodies, and indexes of columns beside some of them,
-always the same for one SEED, asks every question of the library and of the
-reference, and compares the results and the whole buffers. Then come the
-readings (examples with known answers) and a few fixed cases, and a table of the
-refusals that were reached. Exit code 1: a difference, or a refusal never
-reached.
+Makes CASES indexes and bodies, in EWAH or in WAH, and indexes of columns beside
+some of them, always the same for one SEED, asks every question of the library
+and of the reference, and compares the results and the whole buffers. Then come
+the readings (examples with known answers) and a few fixed cases, and a table of
+the refusals that were reached in each format. Exit code 1: a difference, or a
+refusal never reached.
 
 --mutate     builds one mistake after another into the reference; each has to
              show as a difference within CASES cases, or in the fixed ones
@@ -173,7 +178,7 @@ fn mutate(options: &Options) -> bool {
                     Ok(Value::Panicked(_)) => ", by a panic",
                     _ => "",
                 };
-                println!("{name:21} case {case:>5}, comparison {asked:>7}, by {call:?}{how}");
+                println!("{name:22} case {case:>5}, comparison {asked:>7}, by {call:?}{how}");
             }
             None => {
                 println!("NOT CAUGHT  {mistake:?} in {} cases", options.cases);

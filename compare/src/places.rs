@@ -1,11 +1,12 @@
 //! Which line of the table of refusals a refusal belongs to, and how often each
-//! line was reached by each call.
+//! line was reached by each call in each format.
 
 use reference::limits::{LEAST_COLUMN, MOST_SUMMED, MOST_VALUED};
-use zvonurel::{segments, Refusal, ENTRY_WORDS, HEAD_WORDS, MOST_NAMED};
+use zvonurel::Format::{self, Ewah, Wah};
+use zvonurel::{segments, Refusal, ENTRY_WORDS, HEAD_WORDS, MOST_NAMED, WAH_FILL_SHIFT};
 
 use crate::ask::Refused;
-use crate::encode::entry_place;
+use crate::encode::{entry_place, format_of, FORMATS};
 use crate::question::{Call, Question};
 
 #[derive(Debug, Clone, Copy, PartialEq, Eq)]
@@ -22,6 +23,7 @@ pub enum Place {
     FinalEnd,
     PastBody,
     PastSegments,
+    LiteralPast,
     Missing,
     PadInDirty,
     PadInPlain,
@@ -52,15 +54,16 @@ pub enum Place {
     StraySecond,
     StrayNoRoom,
     NoRoom,
+    NoSegments,
 }
 
 use Place::*;
 
-const ALL: [(Place, &str); 42] = [
+const ALL: [(Place, &str); 44] = [
     (Answered, "- answered"),
     (ShortHead, "1 index below its head"),
     (ShortContents, "1 index below its contents"),
-    (WordZero, "2 word 0 isn't the kind"),
+    (WordZero, "2 word 0 isn't a kind"),
     (TooLong, "3 index too long"),
     (Rows, "3 rows too many"),
     (Bitmaps, "3 N too large"),
@@ -68,9 +71,10 @@ const ALL: [(Place, &str); 42] = [
     (Length, "4 length past the end"),
     (FinalEnd, "4 last end before the end"),
     (PastBody, "5 dirty words pass the body"),
-    (PastSegments, "6 marker passes the segments"),
+    (PastSegments, "6 marker, fill pass the segments"),
+    (LiteralPast, "6 literal passes the segments"),
     (Missing, "6 segments missing at the end"),
-    (PadInDirty, "7 pad bit in a dirty word"),
+    (PadInDirty, "7 pad bit in dirty word, literal"),
     (PadInPlain, "7 pad bit in a plain word"),
     (BadNumber, "8 bitmap number (first)"),
     (BadSecond, "8 bitmap number (second)"),
@@ -99,19 +103,23 @@ const ALL: [(Place, &str); 42] = [
     (StraySecond, "11 stray row, second column"),
     (StrayNoRoom, "11 stray row where 9 holds too"),
     (NoRoom, "9 answer doesn't fit"),
+    (NoSegments, "10 fill of no segments"),
 ];
 
-/// Can this call be refused so?
-fn possible(place: Place, call: Call) -> bool {
+/// Can this call be refused so, in this format? An index whose word 0 is no kind is counted with EWAH.
+fn possible(place: Place, call: Call, format: Format) -> bool {
     let body = call.of_body() || call.of_index();
     match place {
         Answered => true,
-        ShortHead | ShortContents | WordZero | TooLong | Bitmaps => call.of_index(),
+        WordZero => call.of_index() && format == Ewah,
+        ShortHead | ShortContents | TooLong | Bitmaps => call.of_index(),
         Start | Length | FinalEnd => call.of_index(),
         Rows => true,
-        PastBody | PastSegments | Missing | PadInDirty => body,
+        PastBody => body && format == Ewah,
+        NoSegments | LiteralPast => body && format == Wah,
+        PastSegments | Missing | PadInDirty => body,
         PadInPlain | PlainFew | PlainMany => call == Call::Compress,
-        BadNumber => call.of_index() && !call.of_list() && !call.of_column() && call != Call::Check,
+        BadNumber => call.of_index() && !call.of_list() && !call.of_column() && !call.of_whole(),
         BadSecond => call.of_two(),
         BadRow => matches!(call, Call::BodyRow | Call::Row | Call::Value),
         BadNth => matches!(call, Call::BodyNth | Call::Nth),
@@ -146,14 +154,28 @@ pub fn place_of(words: &[u32], question: &Question, refused: Option<Refused>) ->
         Refusal::BAD_CONTENTS => Length,
         Refusal::DIRTY_PAST_END => PastBody,
         Refusal::BAD_COUNT if word == body_end(words, question, bitmap as usize) => Missing,
+        Refusal::BAD_COUNT if is_literal(words, question, word) => LiteralPast,
         Refusal::BAD_COUNT => PastSegments,
         Refusal::PAD_BIT if question.call == Call::Compress => PadInPlain,
         Refusal::PAD_BIT => PadInDirty,
         Refusal::BAD_ARGUMENT if question.call.of_column() => bad_column(words, question),
         Refusal::BAD_ARGUMENT => bad_argument(words, question),
+        Refusal::NO_SEGMENTS => NoSegments,
         Refusal::STRAY_ROW => stray(words, question, bitmap, word),
         _ => NoRoom,
     }
+}
+
+/// The format that a question is about.
+pub fn asked_format(words: &[u32], question: &Question) -> Format {
+    match question.call.of_index() {
+        true => format_of(words),
+        false => question.format,
+    }
+}
+
+fn is_literal(words: &[u32], question: &Question, place: usize) -> bool {
+    asked_format(words, question) == Wah && words[place] >> WAH_FILL_SHIFT == 0
 }
 
 /// The place behind a body, that of a bitmap or a lone one.
@@ -270,35 +292,42 @@ fn stray(words: &[u32], question: &Question, bitmap: u32, row: usize) -> Place {
 
 // ---- counting ----
 
-/// Comparisons by place and call.
-pub struct Reached([[u64; Call::ALL.len()]; ALL.len()]);
+/// Comparisons by place, call and format.
+pub struct Reached([[[u64; FORMATS.len()]; Call::ALL.len()]; ALL.len()]);
 
 impl Reached {
     pub fn new() -> Reached {
-        Reached([[0; Call::ALL.len()]; ALL.len()])
+        Reached([[[0; FORMATS.len()]; Call::ALL.len()]; ALL.len()])
     }
 
-    pub fn add(&mut self, place: Place, call: Call) {
-        self.0[place as usize][call as usize] += 1;
+    pub fn add(&mut self, place: Place, call: Call, format: Format) {
+        self.0[place as usize][call as usize][format as usize] += 1;
     }
 
-    /// Prints the table; true if every place was reached by every call that can.
+    fn count(&self, place: Place, call: Call, format: Format) -> u64 {
+        self.0[place as usize][call as usize][format as usize]
+    }
+
+    /// Prints the table; true if every place was reached by every call that can, in each format.
     pub fn print(&self) -> bool {
-        println!("{:32} {:>12}  calls", "refusal", "comparisons");
+        println!("{:32} {:>11} {:>11}  calls", "refusal", "EWAH", "WAH");
         let mut missed = Vec::new();
         for (place, name) in ALL {
-            let counts = &self.0[place as usize];
-            let can: Vec<Call> = Call::ALL.into_iter().filter(|&c| possible(place, c)).collect();
-            let did = can.iter().filter(|&&c| counts[c as usize] > 0).count();
-            let total: u64 = counts.iter().sum();
-            println!("{name:32} {total:>12}  {did} of {}", can.len());
-            let never = can.into_iter().filter(|&c| counts[c as usize] == 0);
-            missed.extend(never.map(|c| format!("{name}: never by {c:?}")));
+            let [ewah, wah] = FORMATS.map(|f| Call::ALL.map(|call| self.count(place, call, f)).iter().sum::<u64>());
+            let (mut can, mut did) = (0, 0);
+            for (call, format) in Call::ALL.into_iter().flat_map(|call| FORMATS.map(|format| (call, format))) {
+                let (possible, count) = (possible(place, call, format), self.count(place, call, format));
+                can += u32::from(possible);
+                did += u32::from(possible && count > 0);
+                if possible && count == 0 {
+                    missed.push(format!("{name}: never by {call:?} in {format:?}"));
+                }
+            }
+            println!("{name:32} {ewah:>11} {wah:>11}  {did} of {can}");
         }
-        let writers = Call::ALL.into_iter().filter(|c| c.writes());
-        for call in writers {
-            let refused = self.0[NoRoom as usize][call as usize];
-            println!("{:32} {refused:>12}", format!("9 by {call:?}"));
+        for call in Call::ALL.into_iter().filter(|call| call.writes()) {
+            let [ewah, wah] = FORMATS.map(|format| self.count(NoRoom, call, format));
+            println!("{:32} {ewah:>11} {wah:>11}", format!("9 by {call:?}"));
         }
         for line in &missed {
             println!("NOT REACHED  {line}");

@@ -5,13 +5,14 @@ use std::io::Write;
 use std::process::{Command, Stdio};
 use std::time::Instant;
 
-use zvonurel::{index_of, segments, Refusal, MOST_ROWS, WORD_BITS};
+use zvonurel::Format::{self, Ewah, Wah};
+use zvonurel::{Refusal, MOST_ROWS};
 
 use crate::counting::mixed_words;
-use crate::encode::{entry_place, last_mask, marker, one_run};
-use crate::fixed::LOOPED;
+use crate::encode::{entry_place, fill, full, index_in, last_mask, marker, one_run};
 use crate::generate::{generate, Form};
 use crate::random::Random;
+use crate::samples::{Samples, SAMPLES};
 
 /// The most bytes that the program reads.
 const MOST_BYTES: usize = 65_536;
@@ -42,71 +43,97 @@ fn question(t: u32, index: &[u32]) -> Vec<u8> {
 }
 
 /// One bitmap with this body.
-fn single(rows: u32, body: &[u32]) -> Vec<u32> {
-    index_of(rows, &[body.to_vec()])
+fn single(format: Format, rows: u32, body: &[u32]) -> Vec<u32> {
+    index_in(format, rows, &[body])
 }
 
-/// Idle markers before a body, so that the whole input has so many bytes.
-fn padded(bytes: usize) -> Vec<u8> {
-    let last = [0x0002_0000, 0x5];
-    let idle = bytes / WORD_BYTES - 1 - entry_place(1) - last.len();
-    let body = [&vec![0; idle][..], &last].concat();
-    question(1, &single(4, &body))
+/// Idle markers before a body, or fills of one segment, so that the whole input has so many bytes.
+fn padded(format: Format, bytes: usize) -> Vec<u8> {
+    let words = bytes / WORD_BYTES - 1 - entry_place(1);
+    match format {
+        Ewah => {
+            let last = [marker(false, 0, 1), 0x5];
+            question(1, &single(Ewah, 4, &[&vec![0; words - last.len()][..], &last].concat()))
+        }
+        Wah => {
+            let fills = vec![fill(false, 1); words - 1];
+            question(1, &single(Wah, (Wah.segment_rows() * words) as u32, &[&fills[..], &[0x5]].concat()))
+        }
+    }
 }
 
 /// All rows of the longest bitmap there can be.
-fn all_rows() -> Vec<u8> {
-    question(1, &single(MOST_ROWS, &one_run(true, segments(MOST_ROWS))))
+fn all_rows(format: Format) -> Vec<u8> {
+    question(1, &single(format, MOST_ROWS, &one_run(format, true, format.segments(MOST_ROWS))))
+}
+
+/// Dirty words under one marker, or literals.
+fn dirty(format: Format, words: &[u32]) -> Vec<u32> {
+    match format {
+        Ewah => [&[marker(false, 0, words.len())], words].concat(),
+        Wah => words.iter().map(|word| word & full(Wah)).collect(),
+    }
 }
 
 /// One bitmap of so many mixed segments: as many set rows as the program says before it lists them.
-fn mixed(segments: usize) -> Vec<u8> {
+fn mixed(format: Format, segments: usize) -> Vec<u8> {
     let words = mixed_words(&mut Random::for_case(0, segments as u64), segments);
-    let body = [&[marker(false, 0, segments)], &words[..]].concat();
-    question(1, &single((WORD_BITS * segments) as u32, &body))
+    question(1, &single(format, (format.segment_rows() * segments) as u32, &dirty(format, &words)))
 }
 
 /// All rows, as a run and with a dirty word at the end, and half of the last segment's: with every number of pads.
-fn tails() -> Vec<Vec<u8>> {
+fn tails(format: Format) -> Vec<Vec<u8>> {
     let mut inputs = Vec::new();
     for rows in 1..=130 {
-        let count = segments(rows);
-        let last = last_mask(rows);
-        inputs.push(single(rows, &one_run(true, count)));
-        inputs.push(single(rows, &one_run(true, count + 1)));
+        let count = format.segments(rows);
+        let last = last_mask(rows, format);
+        let ending = |word| [one_run(format, true, count - 1), dirty(format, &[word])].concat();
+        inputs.push(single(format, rows, &one_run(format, true, count)));
+        inputs.push(single(format, rows, &one_run(format, true, count + 1)));
         for word in [last, last & 0x5555_5555, u32::MAX] {
-            inputs.push(single(rows, &[marker(true, count - 1, 1), word]));
+            inputs.push(single(format, rows, &ending(word)));
         }
-        let two = [one_run(true, count), vec![marker(true, count - 1, 1), last]];
-        inputs.push(index_of(rows, &two));
+        inputs.push(index_in(format, rows, &[one_run(format, true, count), ending(last)]));
     }
     inputs.iter().flat_map(|index| [1, 2].map(|t| question(t, index))).collect()
+}
+
+/// LOOPED with every T, cut at every word, and each word changed.
+fn looped(samples: &Samples) -> Vec<Vec<u8>> {
+    let looped = samples.looped;
+    let mut inputs: Vec<Vec<u8>> = (0..=4).map(|t| question(t, looped)).collect();
+    for at in 0..looped.len() {
+        for to in [0, 1, 2, 3, looped[at].wrapping_sub(1), looped[at] + 1, 0x1000_0000, 0x8000_0000, u32::MAX] {
+            let mut words = looped.to_vec();
+            words[at] = to;
+            inputs.push(question(2, &words));
+        }
+    }
+    inputs.extend((0..looped.len()).map(|n| question(2, &looped[..n])));
+    inputs.extend(samples.bodies.iter().map(|body| question(1, &single(samples.format, 40, body))));
+    inputs
+}
+
+/// Inputs that every run tries, of one format.
+fn fixed_in(samples: &Samples) -> Vec<Vec<u8>> {
+    let format = samples.format;
+    let mut inputs = looped(samples);
+    let kind = format.index_kind();
+    inputs.extend([0, 1].map(|t| question(t, &[kind, 7, 0])));
+    inputs.extend([&[][..], &[0]].map(|body| question(1, &single(format, 0, body))));
+    inputs.extend([MOST_BYTES - WORD_BYTES, MOST_BYTES].map(|bytes| padded(format, bytes)));
+    inputs.extend([MOST_BYTES - 1, MOST_BYTES - 2].map(|n| padded(format, MOST_BYTES)[..n].to_vec()));
+    inputs.push(all_rows(format));
+    inputs.extend(tails(format));
+    inputs.extend([63, 64, 65, 127, 128, 129, 511, 512, 513, 1_024, 16_000].map(|count| mixed(format, count)));
+    inputs
 }
 
 /// Inputs that every run tries.
 fn fixed() -> Vec<Vec<u8>> {
     let mut inputs: Vec<Vec<u8>> = (0..=5).map(|n| vec![1; n]).collect();
-    inputs.extend((0..=4).map(|t| question(t, &LOOPED)));
-    for at in 0..LOOPED.len() {
-        for to in [0, 1, LOOPED[at].wrapping_sub(1), LOOPED[at] + 1, 0x1000_0000, u32::MAX] {
-            let mut words = LOOPED;
-            words[at] = to;
-            inputs.push(question(2, &words));
-        }
-    }
-    inputs.extend((0..LOOPED.len()).map(|n| question(2, &LOOPED[..n])));
-    inputs.extend([
-        question(1, &[1, 7, 0]),
-        question(0, &[1, 7, 0]),
-        question(1, &single(0, &[])),
-        question(1, &single(0, &[0])),
-    ]);
-    inputs.extend([MOST_BYTES - WORD_BYTES, MOST_BYTES].map(padded));
     inputs.extend([MOST_BYTES + 1, MOST_BYTES + WORD_BYTES, FAR_BYTES].map(|n| vec![0; n]));
-    inputs.extend([MOST_BYTES - 1, MOST_BYTES - 2].map(|n| padded(MOST_BYTES)[..n].to_vec()));
-    inputs.push(all_rows());
-    inputs.extend(tails());
-    inputs.extend([63, 64, 65, 127, 128, 129, 511, 512, 513, 1_024, 16_000].map(mixed));
+    inputs.extend(SAMPLES.iter().flat_map(fixed_in));
     inputs
 }
 
@@ -120,7 +147,8 @@ fn kind(told: &[u8]) -> String {
     }
 }
 
-/// The indexes of a seed's cases, and the fixed inputs. Fails on a difference, or if a refusal from 1 to 8 was not reached.
+/// The indexes of a seed's cases, and the fixed inputs. Fails on a difference, or if a refusal from 1 to 8, or 10, was
+/// not reached.
 pub fn run(program: &str, seed: u64, cases: u64) -> bool {
     let begun = Instant::now();
     let mut inputs = fixed();
@@ -148,6 +176,8 @@ pub fn run(program: &str, seed: u64, cases: u64) -> bool {
         inputs.len(),
         begun.elapsed().as_secs_f64()
     );
-    (Refusal::TOO_SHORT..=Refusal::BAD_ARGUMENT).all(|number| reached.contains_key(&format!("refused {number}")))
+    (Refusal::TOO_SHORT..=Refusal::BAD_ARGUMENT)
+        .chain([Refusal::NO_SEGMENTS])
+        .all(|number| reached.contains_key(&format!("refused {number}")))
         && reached.contains_key("answered")
 }

@@ -1,5 +1,7 @@
 //! The questions, as values that can be printed, shrunk and asked again.
 
+use zvonurel::Format;
+
 #[derive(Debug, Clone, Copy, PartialEq, Eq)]
 pub enum Call {
     CheckBody,
@@ -7,6 +9,10 @@ pub enum Call {
     BodyCount,
     BodyNth,
     Expand,
+    BodyToEwah,
+    BodyToWah,
+    /// Two calls: rewritten in the other format, and back. The reference goes by plain words.
+    BodyAround,
     Compress,
     Check,
     Bitmap,
@@ -15,6 +21,12 @@ pub enum Call {
     Count,
     Nth,
     ExpandBitmap,
+    BitmapToEwah,
+    BitmapToWah,
+    IndexToEwah,
+    IndexToWah,
+    /// Like `BodyAround`.
+    IndexAround,
     And,
     Or,
     Xor,
@@ -28,12 +40,15 @@ pub enum Call {
 }
 
 impl Call {
-    pub const ALL: [Call; 23] = [
+    pub const ALL: [Call; 31] = [
         Call::CheckBody,
         Call::BodyRow,
         Call::BodyCount,
         Call::BodyNth,
         Call::Expand,
+        Call::BodyToEwah,
+        Call::BodyToWah,
+        Call::BodyAround,
         Call::Compress,
         Call::Check,
         Call::Bitmap,
@@ -42,6 +57,11 @@ impl Call {
         Call::Count,
         Call::Nth,
         Call::ExpandBitmap,
+        Call::BitmapToEwah,
+        Call::BitmapToWah,
+        Call::IndexToEwah,
+        Call::IndexToWah,
+        Call::IndexAround,
         Call::And,
         Call::Or,
         Call::Xor,
@@ -54,6 +74,10 @@ impl Call {
         Call::Sum,
     ];
 
+    pub const REWRITE_BODY: [Call; 3] = [Call::BodyToEwah, Call::BodyToWah, Call::BodyAround];
+    pub const REWRITE_BITMAP: [Call; 2] = [Call::BitmapToEwah, Call::BitmapToWah];
+    pub const REWRITE_INDEX: [Call; 3] = [Call::IndexToEwah, Call::IndexToWah, Call::IndexAround];
+
     /// Is it asked of an index?
     pub fn of_index(self) -> bool {
         self as usize >= Call::Check as usize
@@ -62,6 +86,11 @@ impl Call {
     /// Is it asked of a lone body?
     pub fn of_body(self) -> bool {
         (self as usize) < Call::Compress as usize
+    }
+
+    /// Is it asked of an index without a bitmap number?
+    pub fn of_whole(self) -> bool {
+        self == Call::Check || Call::REWRITE_INDEX.contains(&self)
     }
 
     pub fn of_two(self) -> bool {
@@ -76,9 +105,16 @@ impl Call {
         matches!(self, Call::Value | Call::Sum)
     }
 
+    fn rewrites(self) -> bool {
+        Call::REWRITE_BODY.contains(&self)
+            || Call::REWRITE_BITMAP.contains(&self)
+            || Call::REWRITE_INDEX.contains(&self)
+    }
+
     /// Does it write into a buffer?
     pub fn writes(self) -> bool {
         self.of_two()
+            || self.rewrites()
             || matches!(self, Call::Expand | Call::Compress | Call::ExpandBitmap)
             || matches!(self, Call::Not | Call::Threshold | Call::Symmetric | Call::Sum)
     }
@@ -89,6 +125,8 @@ impl Call {
 #[derive(Debug, Clone)]
 pub struct Question {
     pub call: Call,
+    /// That of a lone body, or of the one that plain words become. An index tells its own.
+    pub format: Format,
     /// Rows of a lone body or of plain words.
     pub rows: u32,
     /// Bitmap numbers: one, two, or a list.
@@ -103,13 +141,15 @@ pub struct Question {
 }
 
 impl Question {
+    /// A question on an index.
     pub fn new(call: Call) -> Question {
-        Question { call, rows: 0, list: Vec::new(), second: Vec::new(), number: 0, table: Vec::new(), room: 0 }
+        let (format, list, second, table) = (Format::Ewah, Vec::new(), Vec::new(), Vec::new());
+        Question { call, format, rows: 0, list, second, number: 0, table, room: 0 }
     }
 
-    pub fn rows(mut self, rows: u32) -> Question {
-        self.rows = rows;
-        self
+    /// A question on a lone body, or on plain words, of so many rows.
+    pub fn lone(call: Call, format: Format, rows: u32) -> Question {
+        Question { format, rows, ..Question::new(call) }
     }
 
     pub fn list(mut self, list: &[u32]) -> Question {
@@ -141,9 +181,8 @@ impl Question {
     pub fn text(&self) -> String {
         let mut parts = Vec::new();
         if !self.call.of_index() {
-            parts.push(format!("rows {}", self.rows));
-        }
-        if self.call.of_index() && self.call != Call::Check {
+            parts.push(format!("{:?}, rows {}", self.format, self.rows));
+        } else if !self.call.of_whole() {
             parts.push(format!("numbers {:?}", self.list));
         }
         match self.call {

@@ -1,10 +1,17 @@
 //! The readings, examples with known answers, held against both programs.
 
+use zvonurel::Format::{self, Ewah, Wah};
 use zvonurel::{index_of, segments, HISTOGRAM_COUNTS, WORD_BITS};
 
 use crate::ask::{ask_library, ask_reference, Outcome, Refused, Value};
-use crate::fixed::LOOPED;
+use crate::encode::index_in;
 use crate::question::{Call, Question};
+use crate::samples::{LOOPED, LOOPED_WAH};
+
+/// All of so many rows.
+fn all(rows: u32) -> Vec<u32> {
+    (0..rows).collect()
+}
 
 struct Readings {
     held: usize,
@@ -20,6 +27,10 @@ pub fn run() -> bool {
     readings.pairs();
     readings.wasteful();
     readings.columns();
+    readings.wah_bodies();
+    readings.wah_refusals();
+    readings.wah_answers();
+    readings.rewriting();
     println!("{} readings hold for both", readings.held);
     !readings.failed
 }
@@ -43,31 +54,35 @@ impl Readings {
 
     /// Writing these rows gives this body, and reading it gives them back.
     fn body(&mut self, rows: u32, set: &[u32], body: &[u32]) {
+        self.body_in(Ewah, rows, set, body);
+    }
+
+    fn body_in(&mut self, format: Format, rows: u32, set: &[u32], body: &[u32]) {
+        let lone = |call: Call| Question::lone(call, format, rows);
         let mut plain = vec![0; segments(rows)];
         set.iter().for_each(|&r| plain[r as usize / WORD_BITS] |= 1 << (r as usize % WORD_BITS));
         let written = Ok(Value::Words(body.len()));
-        let compress = Question::new(Call::Compress).rows(rows).room(body.len());
+        let compress = lone(Call::Compress).room(body.len());
         self.reading(&plain, &compress, written, body);
         let read = Ok(Value::Words(plain.len()));
-        let expand = Question::new(Call::Expand).rows(rows).room(plain.len());
+        let expand = lone(Call::Expand).room(plain.len());
         self.reading(body, &expand, read, &plain);
-        let count = Question::new(Call::BodyCount).rows(rows);
+        let count = lone(Call::BodyCount);
         self.reading(body, &count, Ok(Value::Number(set.len() as u32)), &[]);
     }
 
     fn bodies(&mut self) {
-        let all = |rows: u32| (0..rows).collect::<Vec<u32>>();
         self.body(0, &[], &[]);
         self.body(64, &[], &[0x4]);
         self.body(64, &all(64), &[0x5]);
         self.body(40, &all(40), &[0x5]);
         self.body(40, &[0, 39], &[0x0004_0000, 0x1, 0x80]);
         self.body(96, &[5, 64], &[0x0002_0000, 0x20, 0x0002_0002, 0x1]);
-        let check = Question::new(Call::CheckBody).rows(40);
+        let check = Question::lone(Call::CheckBody, Ewah, 40);
         self.reading(&[0x5], &check, Ok(Value::Sound), &[]);
         self.reading(&[0x0002_0003, 0x1FF], &check, Err((7, 0, 1)), &[]);
         // A dirty word may still spell a full last segment.
-        let expand = Question::new(Call::Expand).rows(40).room(2);
+        let expand = Question::lone(Call::Expand, Ewah, 40).room(2);
         self.reading(&[0x0002_0003, 0xFF], &expand, Ok(Value::Words(2)), &[u32::MAX, 0xFF]);
     }
 
@@ -77,7 +92,7 @@ impl Readings {
         let mut most = vec![0x1_FFFE; 8];
         most.push(0x10);
         self.body(16_777_216, &[], &most);
-        let check = Question::new(Call::CheckBody).rows(16_777_217);
+        let check = Question::lone(Call::CheckBody, Ewah, 16_777_217);
         self.reading(&most, &check, Err((3, 0, 1)), &[]);
         let every = |rows: u32| (0..rows).step_by(32).collect::<Vec<u32>>();
         let mut dirty = vec![0xFFFE_0000];
@@ -106,8 +121,8 @@ impl Readings {
 
     fn pairs(&mut self) {
         let index = index_of(8, &[vec![0x0002_0000, 0x32], vec![0x0002_0000, 0xB0]]);
-        let answers = [(Call::And, 0x30), (Call::Or, 0xB2), (Call::Xor, 0x82), (Call::AndNot, 0x02), (Call::Not, 0xCD)];
-        for (call, word) in answers {
+        let due = [(Call::And, 0x30), (Call::Or, 0xB2), (Call::Xor, 0x82), (Call::AndNot, 0x02), (Call::Not, 0xCD)];
+        for (call, word) in due {
             let question = Question::new(call).list(&[0, 1]).room(2);
             let written = Ok(Value::Words(2));
             self.reading(&index, &question, written, &[0x0002_0000, word]);
@@ -116,7 +131,7 @@ impl Readings {
 
     /// 96 rows: the wasteful body is sound, and three stretches lie beside it.
     fn wasteful(&mut self) {
-        let expand = Question::new(Call::Expand).rows(96).room(3);
+        let expand = Question::lone(Call::Expand, Ewah, 96).room(3);
         let body = [0x0006_0000, 0x20, 0, 1];
         self.reading(&body, &expand, Ok(Value::Words(3)), &[0x20, 0, 1]);
         let settled = vec![0x0002_0000, 0x20, 0x0002_0002, 0x1];
@@ -141,5 +156,81 @@ impl Readings {
         self.reading(&index, &sum(&[0, 1, 2], 19), Ok(Value::Words(19)), &due);
         self.reading(&index, &sum(&[0, 1, 2], 18), Err((9, 0, 19)), &[]);
         self.reading(&index, &sum(&[0, 1, 3], 18), Err((11, 3, 3)), &[]);
+    }
+
+    // ---- WAH, worked out by hand ----
+
+    fn wah_bodies(&mut self) {
+        let bodies: [(u32, &[u32], &[u32]); 11] = [
+            (0, &[], &[]),
+            (31, &[], &[0]),
+            (31, &all(31), &[0x7FFF_FFFF]),
+            (62, &[], &[0x8000_0002]),
+            (62, &all(62), &[0xC000_0002]),
+            (40, &all(40), &[0xC000_0002]),
+            (40, &[0, 39], &[0x1, 0x100]),
+            (9, &all(9), &[0x1FF]),
+            (36, &[31, 32, 33, 34, 35], &[0, 0x1F]),
+            (2_031_616, &[], &[0x8001_0000]),
+            (16_777_216, &[], &[0x8008_4211]),
+        ];
+        for (rows, set, body) in bodies {
+            self.body_in(Wah, rows, set, body);
+        }
+    }
+
+    fn wah_refusals(&mut self) {
+        let bodies: [(u32, &[u32], Refused); 10] = [
+            (62, &[0x8000_0000], (10, 0, 0)),
+            (62, &[0x8000_0002, 0x8000_0000], (10, 0, 1)),
+            (62, &[0x8000_0003], (6, 0, 0)),
+            (62, &[0x8000_0002, 0], (6, 0, 1)),
+            (62, &[0], (6, 0, 1)),
+            (62, &[], (6, 0, 0)),
+            (40, &[0, 0x7FFF_FFFF], (7, 0, 1)),
+            (40, &[0, 0x200], (7, 0, 1)),
+            (0, &[0], (6, 0, 0)),
+            (16_777_217, &[0x8008_4211], (3, 0, 1)),
+        ];
+        for (rows, body, refused) in bodies {
+            self.reading(body, &Question::lone(Call::CheckBody, Wah, rows), Err(refused), &[]);
+        }
+        let whole = Question::lone(Call::CheckBody, Wah, 62);
+        self.reading(&[0, 0x7FFF_FFFF], &whole, Ok(Value::Sound), &[]);
+        self.reading(&[2, 40, 0], &Question::new(Call::Check), Ok(Value::Sound), &[]);
+        for kind in [0, 3, 4] {
+            self.reading(&[kind, 40, 0], &Question::new(Call::Check), Err((2, 0, 0)), &[]);
+        }
+    }
+
+    /// LOOPED in WAH; then 93 rows in which two fills of one value, side by side, are two pieces.
+    fn wah_answers(&mut self) {
+        let two = Question::new(Call::Threshold).list(&[0, 1, 2]).number(2);
+        self.reading(&LOOPED_WAH, &two.clone().room(1), Ok(Value::Answer(1, 1)), &[0xA]);
+        self.reading(&LOOPED_WAH, &two.room(0), Err((9, 0, 1)), &[]);
+        let fills = index_in(Wah, 93, &[[0x8000_0001, 0x8000_0002]]);
+        let one = Question::new(Call::Threshold).list(&[0]).number(1).room(1);
+        self.reading(&fills, &one, Ok(Value::Answer(1, 2)), &[0x8000_0003]);
+        let not = Question::new(Call::Not).list(&[0]).room(1);
+        self.reading(&fills, &not, Ok(Value::Words(1)), &[0xC000_0003]);
+    }
+
+    fn rewriting(&mut self) {
+        let to_wah = Question::new(Call::IndexToWah);
+        self.reading(&LOOPED, &to_wah.clone().room(12), Ok(Value::Words(12)), &LOOPED_WAH);
+        self.reading(&LOOPED, &to_wah.room(11), Err((9, 0, 12)), &[]);
+        let to_ewah = Question::new(Call::IndexToEwah);
+        self.reading(&LOOPED_WAH, &to_ewah.clone().room(15), Ok(Value::Words(15)), &LOOPED);
+        self.reading(&LOOPED_WAH, &to_ewah.room(12), Err((9, 0, 15)), &[]);
+        let bitmap = |call: Call| Question::new(call).list(&[1]).room(2);
+        self.reading(&LOOPED, &bitmap(Call::BitmapToWah), Ok(Value::Words(1)), &[0xE]);
+        self.reading(&LOOPED_WAH, &bitmap(Call::BitmapToEwah), Ok(Value::Words(2)), &[0x0002_0000, 0xE]);
+        let lone = |call: Call, format: Format, rows: u32| Question::lone(call, format, rows).room(3);
+        // row 31 of 62
+        let words = [0x0002_0000, 0x8000_0000, 0x2];
+        self.reading(&[0, 1], &lone(Call::BodyToEwah, Wah, 62), Ok(Value::Words(3)), &words);
+        self.reading(&words, &lone(Call::BodyToWah, Ewah, 62), Ok(Value::Words(2)), &[0, 1]);
+        self.reading(&[0, 0], &lone(Call::BodyToWah, Wah, 62), Ok(Value::Words(1)), &[0x8000_0002]);
+        self.reading(&[0x0002_0003, 0xFF], &lone(Call::BodyToEwah, Ewah, 40), Ok(Value::Words(1)), &[0x5]);
     }
 }

@@ -3,7 +3,7 @@
 use reference::Mistake;
 
 use crate::ask::{ask_library, ask_reference, Outcome};
-use crate::places::{place_of, Reached};
+use crate::places::{asked_format, place_of, Reached};
 use crate::question::Question;
 
 pub struct Difference {
@@ -36,7 +36,7 @@ impl Session {
         if library == reference {
             let refused = library.result.err();
             let place = place_of(words, &question, refused);
-            self.reached.add(place, question.call);
+            self.reached.add(place, question.call, asked_format(words, &question));
             return;
         }
         self.difference = Some(Difference { words: words.to_vec(), question, library, reference });

@@ -5,7 +5,7 @@ use zvonurel::{ENTRY_WORDS, MOST_BITMAPS, WORD_BITS};
 
 use crate::ask::{ask_library, ask_reference, Outcome, Value};
 use crate::encode::entry_place;
-use crate::question::Question;
+use crate::question::{Call, Question};
 use crate::session::Difference;
 
 /// Tries in all.
@@ -14,7 +14,7 @@ const TRIES: usize = 4_000;
 /// Answered, panicked, or the number of the refusal.
 fn sort(outcome: &Outcome) -> u32 {
     match outcome.result {
-        Ok(Value::Panicked(_)) => 10,
+        Ok(Value::Panicked(_)) => u32::MAX,
         Ok(_) => 0,
         Err((number, _, _)) => number,
     }
@@ -99,7 +99,8 @@ fn without(words: &[u32], question: &Question, at: usize) -> Candidate {
     let mut less = words.to_vec();
     less.remove(at);
     let mut question = question.clone();
-    question.rows = question.rows.saturating_sub(WORD_BITS as u32);
+    let width = if question.call == Call::Compress { WORD_BITS } else { question.format.segment_rows() };
+    question.rows = question.rows.saturating_sub(width as u32);
     (less, question)
 }
 

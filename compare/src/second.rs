@@ -1,0 +1,114 @@
+//! A question put to the reference.
+
+use reference::{Format, Refusal};
+
+use crate::ask::Value;
+use crate::encode::{format_of, index_in};
+use crate::question::{Call, Question};
+
+/// A value, and the words written.
+pub type Told = Result<(Value, Vec<u32>), Refusal>;
+
+fn in_reference(format: zvonurel::Format) -> Format {
+    match format {
+        zvonurel::Format::Ewah => Format::Ewah,
+        zvonurel::Format::Wah => Format::Wah,
+    }
+}
+
+fn plain(value: Value) -> (Value, Vec<u32>) {
+    (value, Vec::new())
+}
+
+fn wrote(written: Vec<u32>) -> (Value, Vec<u32>) {
+    (Value::Words(written.len()), written)
+}
+
+fn bit(set: bool) -> (Value, Vec<u32>) {
+    plain(Value::Bit(set))
+}
+
+fn amount(n: u32) -> (Value, Vec<u32>) {
+    plain(Value::Number(n))
+}
+
+pub fn second(words: &[u32], q: &Question) -> Told {
+    match q.call.of_index() {
+        true => of_index(words, q),
+        false => of_body(words, q),
+    }
+}
+
+fn of_body(words: &[u32], q: &Question) -> Told {
+    let format = in_reference(q.format);
+    match q.call {
+        Call::CheckBody => reference::check_body(words, q.rows, format).map(|()| plain(Value::Sound)),
+        Call::BodyRow => reference::body_row(words, q.rows, format, q.number).map(bit),
+        Call::BodyCount => reference::body_count(words, q.rows, format).map(amount),
+        Call::BodyNth => reference::body_nth(words, q.rows, format, q.number).map(amount),
+        Call::Expand => reference::expand(words, q.rows, format, q.room).map(wrote),
+        Call::BodyToEwah => reference::rewrite(words, q.rows, format, Format::Ewah, q.room).map(wrote),
+        Call::BodyToWah => reference::rewrite(words, q.rows, format, Format::Wah, q.room).map(wrote),
+        Call::BodyAround => {
+            let rows = reference::expand(words, q.rows, format, usize::MAX)?;
+            reference::compress(q.rows, &rows, format, q.room).map(wrote)
+        }
+        Call::Compress => reference::compress(q.rows, words, format, q.room).map(wrote),
+        _ => unreachable!("asked of an index"),
+    }
+}
+
+/// Every bitmap as plain words, and these as bodies of the same format.
+fn around(index: &[u32], room: usize) -> Result<Vec<u32>, Refusal> {
+    reference::check(index)?;
+    let (format, rows) = (format_of(index), index[1]);
+    let mut bodies = Vec::new();
+    for k in 0..index[2] {
+        let plain = reference::expand_bitmap(index, k, usize::MAX)?;
+        bodies.push(reference::compress(rows, &plain, in_reference(format), usize::MAX)?);
+    }
+    let written = index_in(format, rows, &bodies);
+    match written.len() <= room {
+        true => Ok(written),
+        false => Err(Refusal { number: 9, bitmap: 0, word: written.len() as u64 }),
+    }
+}
+
+fn of_index(words: &[u32], q: &Question) -> Told {
+    let number = |at: usize| q.list.get(at).copied().unwrap_or(0);
+    let (j, k) = (number(0), number(1));
+    match q.call {
+        Call::Check => reference::check(words).map(|()| plain(Value::Sound)),
+        Call::Bitmap => {
+            reference::bitmap(words, j).map(|r| plain(Value::Part((!r.is_empty()).then_some(r.start), r.len())))
+        }
+        Call::BitmapRefusal => reference::bitmap(words, j).map(|_| plain(Value::Sound)),
+        Call::Row => reference::row(words, j, q.number).map(bit),
+        Call::Count => reference::count(words, j).map(amount),
+        Call::Nth => reference::nth(words, j, q.number).map(amount),
+        Call::ExpandBitmap => reference::expand_bitmap(words, j, q.room).map(wrote),
+        Call::BitmapToEwah => reference::rewrite_bitmap(words, j, Format::Ewah, q.room).map(wrote),
+        Call::BitmapToWah => reference::rewrite_bitmap(words, j, Format::Wah, q.room).map(wrote),
+        Call::IndexToEwah => reference::rewrite_index(words, Format::Ewah, q.room).map(wrote),
+        Call::IndexToWah => reference::rewrite_index(words, Format::Wah, q.room).map(wrote),
+        Call::IndexAround => around(words, q.room).map(wrote),
+        Call::And => reference::and(words, j, k, q.room).map(wrote),
+        Call::Or => reference::or(words, j, k, q.room).map(wrote),
+        Call::Xor => reference::xor(words, j, k, q.room).map(wrote),
+        Call::AndNot => reference::and_not(words, j, k, q.room).map(wrote),
+        Call::Not => reference::not(words, j, q.room).map(wrote),
+        _ => of_several(words, q),
+    }
+}
+
+fn of_several(words: &[u32], q: &Question) -> Told {
+    let answer = |a: reference::Answer| (Value::Answer(a.words.len(), a.stretches), a.words);
+    match q.call {
+        Call::Threshold => reference::threshold(words, &q.list, q.number, q.room).map(answer),
+        Call::Symmetric => reference::symmetric(words, &q.list, &q.table, q.room).map(answer),
+        Call::Histogram => reference::histogram(words, &q.list).map(|tally| plain(Value::Tally(Box::new(tally)))),
+        Call::Value => reference::value(words, &q.list, q.number).map(|n| plain(Value::Whole(n))),
+        Call::Sum => reference::sum(words, &q.list, &q.second, q.room).map(wrote),
+        _ => unreachable!("asked of a bitmap or two"),
+    }
+}
