@@ -1,5 +1,5 @@
 /*
- * Zvonurel for C: EWAH bitmaps of 32-bit words that answer a question rightly or refuse it.
+ * Zvonurel for C: bitmaps of 32-bit words, in EWAH or in WAH, that answer a question rightly or refuse it.
  *
  * Link libzvonurel_c.a, which needs nothing but C's memcpy and memset. In the repository that this header is from,
  * `./build` proves and writes it and `./install` puts both where pkg-config finds them; there crates/zvonurel_c has the
@@ -16,20 +16,34 @@
  *     before the call returns.
  * Of the words themselves nothing is owed: what is wrong with them is refused.
  *
- * ROWS. Row r stands in segment r / ZV_WORD_BITS, at bit r % ZV_WORD_BITS, the lowest bit first. R rows have
- * ZV_SEGMENTS(R) segments. What the last one has behind row R - 1 are pad bits, which are no rows: a dirty word or a
- * plain word may have none of them set. Plain words are the segments themselves.
+ * FORMATS. A bitmap is in EWAH or in WAH: other words that say the same rows. All bodies of an index are in one
+ * format, the index's, and so is what a call writes from it, a body or a new index. Of the calls on a body alone those
+ * named zv_wah_ are for WAH, and the others for EWAH. A call whose name ends in _to_ewah or _to_wah writes the format
+ * that it names.
  *
- * A BODY says the segments by markers, each with its dirty words behind it, which are segments as they are. Bit 0 of a
- * marker is the value of the clean segments before them: all their rows are clear or all are set, and a last one may
- * have pad bits, which are then of no account. From bit ZV_CLEAN_SHIFT on stands how many these are, at most
+ * ROWS. A segment is ZV_WORD_BITS rows in EWAH and ZV_WAH_SEGMENT_ROWS in WAH. With w rows to a segment, row r stands
+ * in segment r / w, at bit r % w, the lowest bit first. R rows have ZV_SEGMENTS(R) segments in EWAH and
+ * ZV_WAH_SEGMENTS(R) in WAH. What the last one has behind row R - 1 are pad bits, which are no rows: a dirty word, a
+ * literal or a plain word may have none of them set. Plain words are EWAH's segments themselves, ZV_SEGMENTS(R) of
+ * them, also where the bitmap is in WAH.
+ *
+ * A BODY says the segments. Clean ones have all their rows clear, or all set, and are only counted; a last one may
+ * have pad bits, which are then of no account. Other segments stand there as they are, and clean ones may too. In EWAH
+ * this is done by markers, each with its dirty words behind it, which are segments as they are. Bit 0 of a marker is
+ * the value of the clean segments before them. From bit ZV_CLEAN_SHIFT on stands how many these are, at most
  * ZV_MOST_CLEAN, and from bit ZV_DIRTY_SHIFT on how many dirty words follow, at most ZV_MOST_DIRTY. docs/FORMAT.md has
  * examples. zv_compress writes a body of plain words.
  *
- * AN INDEX has a head of ZV_HEAD_WORDS words: ZV_INDEX_KIND in word 0, the rows in word 1, the number N of bitmaps in
- * word 2. Then ZV_ENTRY_WORDS words for each bitmap: where its body starts and how many words it has. Then the bodies,
- * one behind the other. The whole of it is checked for every question. Bitmaps are numbered from 0. example/listing.c
- * makes one.
+ * A BODY IN WAH has no markers: each of its words is a literal, which is one segment as it is, or a fill, which counts
+ * clean ones. Bit ZV_WAH_FILL_SHIFT, the highest, is clear in a literal and set in a fill. In a fill bit
+ * ZV_WAH_VALUE_SHIFT is the segments' value, and the bits below it say how many they are, 1 to ZV_WAH_MOST_FILL. So 62
+ * rows, none set, are 80000002 (in hexadecimal), 40 rows, all set, are C0000002, and rows 0 and 39 of 40 are 00000001
+ * 00000100. zv_wah_compress writes a body of plain words.
+ *
+ * AN INDEX has a head of ZV_HEAD_WORDS words: in word 0 ZV_INDEX_KIND for EWAH or ZV_WAH_INDEX_KIND for WAH, the rows
+ * in word 1, the number N of bitmaps in word 2. Then ZV_ENTRY_WORDS words for each bitmap: where its body starts and
+ * how many words it has. Then the bodies, one behind the other. The whole of it is checked for every question. Bitmaps
+ * are numbered from 0. example/listing.c makes one.
  *
  * A COLUMN gives each row that exists a value. A list of bitmap numbers names it: the existence bitmap, whose rows
  * exist, and then the slices, the lowest first. Slice i, counted from 0, has the rows whose value has the binary
@@ -41,19 +55,22 @@
  * beside them is 0, and no word of the buffer changes. A call that writes puts its words at the front of the buffer;
  * the words behind them keep their values. Compare answers field by field: a struct may have unused bytes at its end.
  *
- * ROOM. A buffer of ZV_SEGMENTS(rows) words is always long enough for plain words, one of ZV_MOST_BODY_WORDS(rows)
- * for a body, and one of ZV_MOST_SUM_WORDS(rows, slices) for a sum of columns. A call with a buffer of length 0
+ * ROOM. A buffer of ZV_SEGMENTS(rows) words is always long enough for plain words, one of ZV_MOST_BODY_WORDS(rows) for
+ * a body, one of ZV_MOST_NEW_INDEX_WORDS(rows, bitmaps) for an index rewritten, and one of ZV_MOST_SUM_WORDS(rows,
+ * slices) for a sum of columns. These are for EWAH; what is written in WAH may be longer or shorter, and has the sizes
+ * ZV_WAH_MOST_BODY_WORDS, ZV_WAH_MOST_NEW_INDEX_WORDS and ZV_WAH_MOST_SUM_WORDS. A call with a buffer of length 0
  * measures: it is refused with ZV_NO_ROOM, and `word` is the words needed, unless none are, as with plain words or a
  * body of no rows. The pointer must still not be NULL.
  *
  * COST. A call on an index checks the whole of it first, so it costs at least that check: the head, every entry, and
- * every body's markers and last word, but not its other dirty words. For many questions on one bitmap, ask zv_bitmap
- * once where its body lies, and then the body calls, with the index's word 1 as the rows: they check that body alone.
- * zv_value looks through all slices for rows that do not exist, each time. For many values of one column, expand its
- * bitmaps once and put the values together from the bits.
+ * every body's markers and last word, but not its other dirty words; in WAH every word. For many questions on one
+ * bitmap, ask zv_bitmap once where its body lies, and then the calls on a body of that format, with the index's word 1
+ * as the rows: they check that body alone. zv_value looks through all slices for rows that do not exist, each time.
+ * For many values of one column, expand its bitmaps once and put the values together from the bits.
  *
- * LISTING. zv_nth and zv_body_nth check and walk from the front each time. To list all set rows, expand the body once
- * and scan the bits, as example/listing.c does: for 20,000 scattered set rows that is some thousand times as fast.
+ * LISTING. zv_nth, zv_body_nth and zv_wah_body_nth check and walk from the front each time. To list all set rows,
+ * expand the body once and scan the bits, as example/listing.c does: for 20,000 scattered set rows that is some
+ * thousand times as fast.
  *
  * STACK. A call needs less than ZV_MOST_STACK bytes of stack, whatever it is given: none recurses, and none has an
  * array whose length depends on the input. tests/c/stack.c measures some 16 KiB for zv_sum, and 4 KiB for any other. A
@@ -71,9 +88,9 @@ extern "C" {
 
 /* The version of the header and its library. */
 #define ZV_VERSION_MAJOR 0
-#define ZV_VERSION_MINOR 1
+#define ZV_VERSION_MINOR 2
 #define ZV_VERSION_PATCH 0
-#define ZV_VERSION "0.1.0"
+#define ZV_VERSION "0.2.0"
 
 /* Every limit and size, once. */
 
@@ -88,8 +105,10 @@ extern "C" {
 #define ZV_LEAST_COLUMN 2u
 #define ZV_MOST_COLUMN 33u
 #define ZV_MOST_VALUE_COLUMN 34u
-/* An index: what word 0 says, the words before the contents, and the words of an entry of the contents. */
+/* An index: what word 0 says where the bodies are in EWAH, and where they are in WAH; the words before the contents,
+ * and the words of an entry of the contents. */
 #define ZV_INDEX_KIND 1u
+#define ZV_WAH_INDEX_KIND 2u
 #define ZV_HEAD_WORDS 3u
 #define ZV_ENTRY_WORDS 2u
 /* The most clean segments, and the most dirty words, that one marker counts. */
@@ -98,41 +117,59 @@ extern "C" {
 /* The lowest bit of a marker's clean count, above the value, and of its dirty count, which goes up to the highest. */
 #define ZV_CLEAN_SHIFT 1u
 #define ZV_DIRTY_SHIFT 17u
-/* The bits of a word, which are the rows of a segment. */
+/* The bits of a word, which are the rows of a plain word, and of a segment in EWAH. */
 #define ZV_WORD_BITS 32u
+/* The rows of a segment in WAH. */
+#define ZV_WAH_SEGMENT_ROWS 31u
+/* The bit that is set in a fill and clear in a literal, the bit of a fill's value, and the most segments that one fill
+ * counts, in the bits below. */
+#define ZV_WAH_FILL_SHIFT 31u
+#define ZV_WAH_VALUE_SHIFT 30u
+#define ZV_WAH_MOST_FILL 1073741823u
 /* More bytes of stack than any call needs. */
 #define ZV_MOST_STACK 32768u
 
 /*
- * Sizes that follow from a number of rows, and for a sum from one of slices, each any unsigned 32-bit one. They are
- * computed in uint64_t, so that nothing wraps, and are constant where these numbers are. The last two evaluate `rows`
- * twice.
+ * Sizes that follow from a number of rows, and for an index from one of bitmaps or slices, each any unsigned 32-bit
+ * one. They are computed in uint64_t, so that nothing wraps, and are constant where these numbers are.
+ * ZV_MOST_BODY_WORDS and the two that are made of it evaluate `rows` twice.
  */
 
-/* The segments of that many rows, which are also their plain words. */
+/* The segments of that many rows in EWAH, which are also their plain words, whatever the format. */
 #define ZV_SEGMENTS(rows) (((uint64_t)(rows) + (ZV_WORD_BITS - 1u)) / ZV_WORD_BITS)
+/* The segments of that many rows in WAH. */
+#define ZV_WAH_SEGMENTS(rows) (((uint64_t)(rows) + (ZV_WAH_SEGMENT_ROWS - 1u)) / ZV_WAH_SEGMENT_ROWS)
 /* No body of that many rows that a call writes has more words, since the canonical form has at most a word for each
  * segment and one more for each ZV_MOST_DIRTY of them begun. It is never 0, so it can be the length of an array. */
 #define ZV_MOST_BODY_WORDS(rows) (ZV_SEGMENTS(rows) + ZV_SEGMENTS(rows) / ZV_MOST_DIRTY + 1u)
-/* No sum of two columns of that many rows, of which the wider has at most that many slices, has more words: a buffer
- * of so many is never refused with ZV_NO_ROOM. The sum is an index of the existence bitmap and one slice more than
- * these. A list of n numbers names n - 1 slices. */
-#define ZV_MOST_SUM_WORDS(rows, slices) \
-    (ZV_HEAD_WORDS + ((uint64_t)(slices) + 2u) * (ZV_ENTRY_WORDS + ZV_MOST_BODY_WORDS(rows)))
+/* The same of a body in WAH, each word of which is one segment or more. It is 0 where there are no rows. */
+#define ZV_WAH_MOST_BODY_WORDS(rows) ZV_WAH_SEGMENTS(rows)
+/* No index of that many rows and bitmaps that a call writes has more words, be it rewritten or a sum: a buffer of so
+ * many is never refused with ZV_NO_ROOM. */
+#define ZV_MOST_NEW_INDEX_WORDS(rows, bitmaps) \
+    (ZV_HEAD_WORDS + (uint64_t)(bitmaps) * (ZV_ENTRY_WORDS + ZV_MOST_BODY_WORDS(rows)))
+/* The same of an index in WAH. */
+#define ZV_WAH_MOST_NEW_INDEX_WORDS(rows, bitmaps) \
+    (ZV_HEAD_WORDS + (uint64_t)(bitmaps) * (ZV_ENTRY_WORDS + ZV_WAH_MOST_BODY_WORDS(rows)))
+/* No sum of two columns of that many rows, of which the wider has at most that many slices, has more words. It is an
+ * index of the existence bitmap and one slice more than these. A list of n numbers names n - 1 slices. */
+#define ZV_MOST_SUM_WORDS(rows, slices) ZV_MOST_NEW_INDEX_WORDS(rows, (uint64_t)(slices) + 2u)
+/* The same of columns of an index in WAH. */
+#define ZV_WAH_MOST_SUM_WORDS(rows, slices) ZV_WAH_MOST_NEW_INDEX_WORDS(rows, (uint64_t)(slices) + 2u)
 
 /*
- * Numbers of refusal, with what `bitmap` and `word` are beside each. The first fault in this order is told: the index's
- * length (3), its head (1), word 0 (2), rows and N (3), room for the contents (1), the contents (4), the bodies in
- * order, each front to back (5, 6, 7), the arguments (8), the slices of columns (11), the buffer (9). A body alone is
- * bitmap 0 with places counted in the body, and its rows are tested first (3). Plain words: 3, then 8, 7 and 9. No call
- * gives 10.
+ * Numbers of refusal, with what `bitmap` and `word` are beside each. The first fault in this order is told: the
+ * index's length (3), its head (1), word 0 (2), rows and N (3), room for the contents (1), the contents (4), the
+ * bodies in order, each front to back (5, 6, 7; in WAH 10, 6, 7), the arguments (8), the slices of columns (11), the
+ * buffer (9). A body alone is bitmap 0 with places counted in the body, and its rows are tested first (3). Plain
+ * words: 3, then 8, 7 and 9.
  */
 
 /* Not refused. */
 #define ZV_FINE 0u
 /* The index has fewer than ZV_HEAD_WORDS words, or ends within its contents. bitmap 0; word: the index's length. */
 #define ZV_TOO_SHORT 1u
-/* Word 0 is not ZV_INDEX_KIND. bitmap 0, word 0. */
+/* Word 0 is neither ZV_INDEX_KIND nor ZV_WAH_INDEX_KIND. bitmap 0, word 0. */
 #define ZV_NOT_AN_INDEX 2u
 /* More than ZV_MOST_INDEX_WORDS words (word 0), ZV_MOST_ROWS rows (word 1) or ZV_MOST_BITMAPS bitmaps (word 2).
  * bitmap 0. */
@@ -142,19 +179,22 @@ extern "C" {
 #define ZV_BAD_CONTENTS 4u
 /* The dirty words of a marker pass the body's end. Its bitmap, and the marker's place. */
 #define ZV_DIRTY_PAST_END 5u
-/* The clean and dirty counts of a marker pass the segments left: its bitmap, and the marker's place. Or the body ends
- * with segments missing: its bitmap, and the place behind the body. */
+/* The clean and dirty counts of a marker pass the segments left, or a fill's count does, or a literal stands where
+ * none is left: its bitmap, and the place of that word. Or the body ends with segments missing: its bitmap, and the
+ * place behind the body. */
 #define ZV_BAD_COUNT 6u
-/* A pad bit is set in a dirty word, or in a plain word: the bitmap, and the place of that word. */
+/* A pad bit is set in a dirty word, a literal or a plain word: the bitmap, and the place of that word. */
 #define ZV_PAD_BIT 7u
 /* A bad argument: no such bitmap; no such row; fewer set rows than asked for; a list of no numbers or more than
  * ZV_MOST_NAMED; a threshold of 0 or above the list's length; a table that is not exactly one entry longer than the
- * list, or has an entry other than 0 and 1; not as many plain words as the rows have segments; a column of fewer than
+ * list, or has an entry other than 0 and 1; not just ZV_SEGMENTS(rows) plain words; a column of fewer than
  * ZV_LEAST_COLUMN numbers, or of more than ZV_MOST_COLUMN, ZV_MOST_VALUE_COLUMN where only a value is asked; a value
  * of a row that the existence bitmap has not. bitmap 0, word 0. */
 #define ZV_BAD_ARGUMENT 8u
 /* The answer does not fit into the buffer. bitmap 0; word: the words needed. */
 #define ZV_NO_ROOM 9u
+/* A fill of a body in WAH counts no segments, whether any are left or not. Its bitmap, and the fill's place. */
+#define ZV_NO_SEGMENTS 10u
 /* A slice of a column has a row that does not exist, since the column's existence bitmap has it not. The first such
  * slice in the list's order, the first column's before the second's: its bitmap number; word: its lowest such row. */
 #define ZV_STRAY_ROW 11u
@@ -176,7 +216,7 @@ static inline const char *zv_refusal_text(uint32_t number)
     case ZV_DIRTY_PAST_END:
         return "the marker's dirty words pass the body's end";
     case ZV_BAD_COUNT:
-        return "the marker counts more segments than are left, or the body ends with segments missing";
+        return "a word says more segments than are left, or the body ends with segments missing";
     case ZV_PAD_BIT:
         return "a bit behind the last row is set";
     case ZV_BAD_ARGUMENT:
@@ -184,6 +224,8 @@ static inline const char *zv_refusal_text(uint32_t number)
                "number of plain words is not one that can be";
     case ZV_NO_ROOM:
         return "the buffer is too short for the answer (word is how many words it needs)";
+    case ZV_NO_SEGMENTS:
+        return "the fill counts no segments";
     case ZV_STRAY_ROW:
         return "a slice of a column has a row that its existence bitmap has not (bitmap is the slice, word is the row)";
     default:
@@ -256,7 +298,7 @@ typedef struct zv_histogram_counts {
     uint32_t counts[ZV_HISTOGRAM_COUNTS];
 } zv_histogram_counts;
 
-/* ---- one body alone, of `rows` rows. Refusals: 3 (word 1), 5, 6, 7, then the call's own. */
+/* ---- one body alone in EWAH, of `rows` rows. Refusals: 3 (word 1), 5, 6, 7, then the call's own. */
 
 /* The first fault of the body. */
 zv_checked zv_check_body(const uint32_t *body, size_t body_words, uint32_t rows);
@@ -270,14 +312,49 @@ zv_number zv_body_count(const uint32_t *body, size_t body_words, uint32_t rows);
 /* The nth set row, n counted from 0. 8: n or fewer rows are set. */
 zv_number zv_body_nth(const uint32_t *body, size_t body_words, uint32_t rows, uint32_t n);
 
-/* The body's rows as plain words, one for each segment. 9: the buffer is shorter. */
+/* The body's rows as plain words. 9: the buffer is shorter. */
 zv_written zv_expand(const uint32_t *body, size_t body_words, uint32_t rows, uint32_t *out, size_t out_words);
 
-/* Plain words as a body, in the one form with the fewest words. 3 (word 1); 8: they are not one for each segment; 7:
- * the last one has a pad bit; 9. */
+/* Plain words as a body, in the one form with the fewest words. 3 (word 1); 8: they are not ZV_SEGMENTS(rows); 7: the
+ * last one has a pad bit; 9. */
 zv_written zv_compress(uint32_t rows, const uint32_t *plain, size_t plain_words, uint32_t *out, size_t out_words);
 
-/* ---- an index. Refusals: 1 to 7, then the call's own. */
+/* The body's rows as a body in EWAH, in that one form, which is what zv_compress writes of them. 9. */
+zv_written zv_body_to_ewah(const uint32_t *body, size_t body_words, uint32_t rows, uint32_t *out, size_t out_words);
+
+/* The body's rows as a body in WAH, in the one form with the fewest words, as zv_wah_compress writes it. 9. */
+zv_written zv_body_to_wah(const uint32_t *body, size_t body_words, uint32_t rows, uint32_t *out, size_t out_words);
+
+/* ---- one body alone in WAH, of `rows` rows. Refusals: 3 (word 1), 10, 6, 7, then the call's own. */
+
+/* The first fault of the body. */
+zv_checked zv_wah_check_body(const uint32_t *body, size_t body_words, uint32_t rows);
+
+/* Whether a row is set. 8: there is no such row. */
+zv_flag zv_wah_body_row(const uint32_t *body, size_t body_words, uint32_t rows, uint32_t row);
+
+/* How many rows are set. */
+zv_number zv_wah_body_count(const uint32_t *body, size_t body_words, uint32_t rows);
+
+/* The nth set row, n counted from 0. 8: n or fewer rows are set. */
+zv_number zv_wah_body_nth(const uint32_t *body, size_t body_words, uint32_t rows, uint32_t n);
+
+/* The body's rows as plain words. 9: the buffer is shorter. */
+zv_written zv_wah_expand(const uint32_t *body, size_t body_words, uint32_t rows, uint32_t *out, size_t out_words);
+
+/* Plain words as a body, in the one form with the fewest words: two or more clean segments of one value, one behind
+ * the other, are one fill, and any other segment is a literal. 3 (word 1); 8: they are not ZV_SEGMENTS(rows); 7: the
+ * last one has a pad bit; 9. */
+zv_written zv_wah_compress(uint32_t rows, const uint32_t *plain, size_t plain_words, uint32_t *out, size_t out_words);
+
+/* The body's rows as a body in EWAH, in the one form with the fewest words, as zv_compress writes it. 9. */
+zv_written zv_wah_body_to_ewah(const uint32_t *body, size_t body_words, uint32_t rows, uint32_t *out,
+                               size_t out_words);
+
+/* The body's rows as a body in WAH, in that one form, which is what zv_wah_compress writes of them. 9. */
+zv_written zv_wah_body_to_wah(const uint32_t *body, size_t body_words, uint32_t rows, uint32_t *out, size_t out_words);
+
+/* ---- an index, in either format. Refusals: 1 to 7 and 10, then the call's own. */
 
 /* The first fault of the index. */
 zv_checked zv_check(const uint32_t *index, size_t index_words);
@@ -285,7 +362,7 @@ zv_checked zv_check(const uint32_t *index, size_t index_words);
 /* Why zv_bitmap gives no part: the index's first fault, or 8 where there is no bitmap k. */
 zv_checked zv_bitmap_refusal(const uint32_t *index, size_t index_words, uint32_t k);
 
-/* Where in the index bitmap k's body lies. 8: there is no bitmap k. */
+/* Where in the index bitmap k's body lies, which is in the index's format. 8: there is no bitmap k. */
 zv_part zv_bitmap(const uint32_t *index, size_t index_words, uint32_t k);
 
 /* Whether a row of bitmap k is set. 8: there is no such bitmap, or no such row. */
@@ -297,10 +374,26 @@ zv_number zv_count(const uint32_t *index, size_t index_words, uint32_t k);
 /* The nth set row of bitmap k, n counted from 0. 8: there is no bitmap k, or n or fewer of its rows are set. */
 zv_number zv_nth(const uint32_t *index, size_t index_words, uint32_t k, uint32_t n);
 
-/* The rows of bitmap k as plain words, one for each segment. 8: there is no bitmap k; 9. */
+/* The rows of bitmap k as plain words. 8: there is no bitmap k; 9. */
 zv_written zv_expand_bitmap(const uint32_t *index, size_t index_words, uint32_t k, uint32_t *out, size_t out_words);
 
-/* ---- two bitmaps of an index, or one, as a body in the form with the fewest words. 8: one is not there; 9. */
+/* ---- an index, or a bitmap of it, rewritten in the format that the name says, each body in the form with the fewest
+ * words. The index may be in that format already: then what is wasteful in its bodies goes. */
+
+/* The rows of bitmap k as a body in EWAH. 8: there is no bitmap k; 9. */
+zv_written zv_bitmap_to_ewah(const uint32_t *index, size_t index_words, uint32_t k, uint32_t *out, size_t out_words);
+
+/* The rows of bitmap k as a body in WAH. 8: there is no bitmap k; 9. */
+zv_written zv_bitmap_to_wah(const uint32_t *index, size_t index_words, uint32_t k, uint32_t *out, size_t out_words);
+
+/* All bitmaps, in their order, as a new index in EWAH. 9. */
+zv_written zv_index_to_ewah(const uint32_t *index, size_t index_words, uint32_t *out, size_t out_words);
+
+/* All bitmaps, in their order, as a new index in WAH. 9. */
+zv_written zv_index_to_wah(const uint32_t *index, size_t index_words, uint32_t *out, size_t out_words);
+
+/* ---- two bitmaps of an index, or one, as a body in the index's format, in the form with the fewest words. 8: one is
+ * not there; 9. */
 
 /* The rows that both have. */
 zv_written zv_and(const uint32_t *index, size_t index_words, uint32_t j, uint32_t k, uint32_t *out, size_t out_words);
@@ -334,17 +427,17 @@ zv_answered zv_symmetric(const uint32_t *index, size_t index_words, const uint32
 zv_histogram_counts zv_histogram(const uint32_t *index, size_t index_words, const uint32_t *list, size_t list_words);
 
 /* ---- columns of an index, each named by a list: the existence bitmap, then the slices, the lowest first. Refusals:
- * 1 to 7, then 8, 11 and 9. 8: a list has too few or too many numbers, or one that is no bitmap's. */
+ * 1 to 7 and 10, then 8, 11 and 9. 8: a list has too few or too many numbers, or one that is no bitmap's. */
 
 /* The value of a row: what the slices that have it weigh. The list may have up to ZV_MOST_VALUE_COLUMN numbers. 8:
  * there is no such row, or it does not exist; 11. */
 zv_column_value zv_value(const uint32_t *index, size_t index_words, const uint32_t *column, size_t column_numbers,
                          uint32_t row);
 
-/* The sum of two columns, row by row, as a new index, which holds nothing else: the existence bitmap as bitmap 0,
- * then the slices, one more than the wider column has, empty ones included, each body in the form with the fewest
- * words. A row exists in the sum if it does in both. 0, 1 and so on, up to its last bitmap, name the sum in the new
- * index. 8; 11; 9. */
+/* The sum of two columns, row by row, as a new index in the same format, which holds nothing else: the existence
+ * bitmap as bitmap 0, then the slices, one more than the wider column has, empty ones included, each body in the form
+ * with the fewest words. A row exists in the sum if it does in both. 0, 1 and so on, up to its last bitmap, name the
+ * sum in the new index. 8; 11; 9. */
 zv_written zv_sum(const uint32_t *index, size_t index_words, const uint32_t *first, size_t first_numbers,
                   const uint32_t *second, size_t second_numbers, uint32_t *out, size_t out_words);
 

@@ -5,97 +5,11 @@
  *   gcc -std=c99 -Wall -Wextra -Werror -pedantic -Iinclude tests/c/readings.c \
  *       target/staticlib/libzvonurel_c.a -o target/readings && target/readings
  */
-#include "zvonurel.h"
-
-#include "shared.h"
-
-#define FINE(a) refusal(__LINE__, (a).number, (a).bitmap, (a).word, 0, 0, 0)
-#define REFUSED(a, n, b, w) refusal(__LINE__, (a).number, (a).bitmap, (a).word, n, b, w)
-
-#define UNTOUCHED 0x77777777u
+#include "answers.h"
 
 static const uint32_t looped[] = {1, 4, 3, 9, 2, 11, 2, 13, 2, 0x00020000, 0x3, 0x00020000, 0xE, 0x00020000, 0x8};
 static const uint32_t eight[] = {1, 8, 2, 7, 2, 9, 2, 0x00020000, 0x32, 0x00020000, 0xB0};
-static const uint32_t three[] = {0, 1, 2};
 static const uint32_t forty[] = {0x00040000, 0x00000001, 0x00000080};
-static uint32_t out[ZV_MOST_SUM_WORDS(8u, ZV_MOST_COLUMN - 1u) + 1u];
-
-static void refusal(int line, uint32_t number, uint32_t bitmap, uint64_t word, uint32_t n, uint32_t b, uint64_t w)
-{
-    same(line, "number", number, n);
-    same(line, "bitmap", bitmap, b);
-    same(line, "word", word, w);
-}
-
-static void clear(void)
-{
-    for (size_t i = 0; i < sizeof(out) / sizeof(out[0]); i++) {
-        out[i] = UNTOUCHED;
-    }
-}
-
-/* the buffer begins with these words, and the rest is as `clear` left it */
-static void buffer(int line, const uint32_t *want, size_t words)
-{
-    for (size_t i = 0; i < sizeof(out) / sizeof(out[0]); i++) {
-        same(line, "a word of the buffer", out[i], i < words ? want[i] : UNTOUCHED);
-    }
-}
-
-static void wrote(int line, zv_written got, const uint32_t *want, size_t words)
-{
-    refusal(line, got.number, got.bitmap, got.word, 0, 0, 0);
-    same(line, "words", got.words, words);
-    buffer(line, want, words);
-    clear();
-}
-
-static void not_written(int line, zv_written got, uint32_t n, uint32_t b, uint64_t w)
-{
-    refusal(line, got.number, got.bitmap, got.word, n, b, w);
-    same(line, "words", got.words, 0);
-    buffer(line, out, 0);
-}
-
-static void answered(int line, zv_answered got, const uint32_t *want, size_t words, uint32_t stretches)
-{
-    refusal(line, got.number, got.bitmap, got.word, 0, 0, 0);
-    same(line, "words", got.words, words);
-    same(line, "stretches", got.stretches, stretches);
-    buffer(line, want, words);
-    clear();
-}
-
-static void not_answered(int line, zv_answered got, uint32_t n, uint32_t b, uint64_t w)
-{
-    refusal(line, got.number, got.bitmap, got.word, n, b, w);
-    same(line, "words", got.words, 0);
-    same(line, "stretches", got.stretches, 0);
-    buffer(line, out, 0);
-}
-
-static const uint32_t zeros[ZV_HISTOGRAM_COUNTS];
-
-static void counted(int line, zv_histogram_counts got, const uint32_t *want, uint32_t n, uint32_t b, uint64_t w)
-{
-    refusal(line, got.number, got.bitmap, got.word, n, b, w);
-    for (size_t c = 0; c < ZV_HISTOGRAM_COUNTS; c++) {
-        same(line, "count", got.counts[c], want[c]);
-    }
-}
-
-static void valued(int line, zv_column_value got, uint64_t want, uint32_t n, uint32_t b, uint64_t w)
-{
-    refusal(line, got.number, got.bitmap, got.word, n, b, w);
-    same(line, "value", got.value, want);
-}
-
-#define VALUED(got, want, n, b, w) valued(__LINE__, got, want, n, b, w)
-#define COUNTED(got, want, n, b, w) counted(__LINE__, got, want, n, b, w)
-#define WROTE(got, want) wrote(__LINE__, got, WORDS(want))
-#define NOT_WRITTEN(got, n, b, w) not_written(__LINE__, got, n, b, w)
-#define ANSWERED(got, want, stretches) answered(__LINE__, got, WORDS(want), stretches)
-#define NOT_ANSWERED(got, n, b, w) not_answered(__LINE__, got, n, b, w)
 
 /* 40 rows, of which 0 and 39 are set */
 static void one_body(void)
@@ -156,83 +70,30 @@ static void full_tail(void)
 
 static void one_index(void)
 {
-    static const uint32_t plain[] = {0xE};
-    zv_part part = zv_bitmap(WORDS(looped), 1);
-
-    FINE(zv_check(WORDS(looped)));
-    FINE(zv_bitmap_refusal(WORDS(looped), 2));
-    REFUSED(zv_bitmap_refusal(WORDS(looped), 3), ZV_BAD_ARGUMENT, 0, 0);
-    FINE(part);
-    SAME("the start", part.start, 11);
-    SAME("the length", part.length, 2);
-    part = zv_bitmap(WORDS(looped), 3);
-    REFUSED(part, ZV_BAD_ARGUMENT, 0, 0);
-    SAME("a refused start", part.start, 0);
-    SAME("a refused length", part.length, 0);
-
-    FINE(zv_row(WORDS(looped), 0, 1));
-    SAME("row 1 of 0", zv_row(WORDS(looped), 0, 1).value, 1);
-    SAME("row 2 of 0", zv_row(WORDS(looped), 0, 2).value, 0);
-    REFUSED(zv_row(WORDS(looped), 0, 4), ZV_BAD_ARGUMENT, 0, 0);
-    FINE(zv_count(WORDS(looped), 1));
-    SAME("the count of 1", zv_count(WORDS(looped), 1).value, 3);
-    FINE(zv_nth(WORDS(looped), 1, 2));
-    SAME("set row 2 of 1", zv_nth(WORDS(looped), 1, 2).value, 3);
-    REFUSED(zv_nth(WORDS(looped), 1, 3), ZV_BAD_ARGUMENT, 0, 0);
-    WROTE(zv_expand_bitmap(WORDS(looped), 1, WORDS(out)), plain);
-    NOT_WRITTEN(zv_expand_bitmap(WORDS(looped), 1, out, 0), ZV_NO_ROOM, 0, 1);
+    one_bitmap(WORDS(looped), 11, 2);
 }
 
-/* every question on an index is refused for the index's own fault */
-static void every_index_call(const uint32_t *index, size_t words, uint32_t n, uint32_t b, uint64_t w)
-{
-    static const uint32_t table[] = {0, 1, 0, 0};
-
-    REFUSED(zv_check(index, words), n, b, w);
-    REFUSED(zv_bitmap_refusal(index, words, 0), n, b, w);
-    REFUSED(zv_bitmap(index, words, 0), n, b, w);
-    REFUSED(zv_row(index, words, 0, 0), n, b, w);
-    REFUSED(zv_count(index, words, 0), n, b, w);
-    REFUSED(zv_nth(index, words, 0, 0), n, b, w);
-    NOT_WRITTEN(zv_expand_bitmap(index, words, 0, WORDS(out)), n, b, w);
-    NOT_WRITTEN(zv_and(index, words, 0, 1, WORDS(out)), n, b, w);
-    NOT_WRITTEN(zv_or(index, words, 0, 1, WORDS(out)), n, b, w);
-    NOT_WRITTEN(zv_xor(index, words, 0, 1, WORDS(out)), n, b, w);
-    NOT_WRITTEN(zv_and_not(index, words, 0, 1, WORDS(out)), n, b, w);
-    NOT_WRITTEN(zv_not(index, words, 0, WORDS(out)), n, b, w);
-    NOT_ANSWERED(zv_threshold(index, words, WORDS(three), 2, WORDS(out)), n, b, w);
-    NOT_ANSWERED(zv_symmetric(index, words, WORDS(three), WORDS(table), WORDS(out)), n, b, w);
-    COUNTED(zv_histogram(index, words, WORDS(three)), zeros, n, b, w);
-    VALUED(zv_value(index, words, WORDS(three), 0), 0, n, b, w);
-    NOT_WRITTEN(zv_sum(index, words, WORDS(three), WORDS(three), WORDS(out)), n, b, w);
-}
-
-/* each of an index's faults, by one word of LOOPED changed, or by its length */
+/* each of an index's faults, by one word of LOOPED changed, or by its length. As an index in WAH, which word 0 then
+ * says, its first body begins with a literal that sets row 17 of 4. */
 static void bad_indexes(void)
 {
-    static const struct {
-        uint32_t place, value;
-        size_t words;
-        uint32_t number, bitmap, word;
-    } faults[] = {
-        {0, 1, 0, ZV_TOO_SHORT, 0, 0},       {0, 1, 8, ZV_TOO_SHORT, 0, 8},
-        {0, 2, 15, ZV_NOT_AN_INDEX, 0, 0},   {1, ZV_MOST_ROWS + 1, 15, ZV_TOO_LARGE, 0, 1},
+    static const fault faults[] = {
+        {0, 1, 0, ZV_TOO_SHORT, 0, 0},
+        {0, 1, 8, ZV_TOO_SHORT, 0, 8},
+        {0, 0, 15, ZV_NOT_AN_INDEX, 0, 0},
+        {0, 3, 15, ZV_NOT_AN_INDEX, 0, 0},
+        {0, ZV_WAH_INDEX_KIND, 15, ZV_PAD_BIT, 0, 9},
+        {1, ZV_MOST_ROWS + 1, 15, ZV_TOO_LARGE, 0, 1},
         {2, ZV_MOST_BITMAPS + 1, 15, ZV_TOO_LARGE, 0, 2},
         {5, 12, 15, ZV_BAD_CONTENTS, 1, 5},
-        {8, 3, 15, ZV_BAD_CONTENTS, 2, 8},   {8, 1, 15, ZV_BAD_CONTENTS, 0, 14},
+        {8, 3, 15, ZV_BAD_CONTENTS, 2, 8},
+        {8, 1, 15, ZV_BAD_CONTENTS, 0, 14},
         {11, 0x00040000, 15, ZV_DIRTY_PAST_END, 1, 11},
         {11, 0x00020002, 15, ZV_BAD_COUNT, 1, 11},
         {12, 0x1E, 15, ZV_PAD_BIT, 1, 12},
     };
-    uint32_t index[15];
 
-    for (size_t i = 0; i < sizeof(faults) / sizeof(faults[0]); i++) {
-        for (size_t j = 0; j < 15; j++) {
-            index[j] = looped[j];
-        }
-        index[faults[i].place] = faults[i].value;
-        every_index_call(index, faults[i].words, faults[i].number, faults[i].bitmap, faults[i].word);
-    }
+    every_fault(WORDS(looped), WORDS(faults));
 }
 
 /* 32 and B0 of 8 rows */

@@ -10,12 +10,19 @@
 
 /* An array as a call takes it. */
 #define WORDS(a) (a), sizeof(a) / sizeof((a)[0])
-#define SAME(what, got, want) same(__LINE__, what, (uint64_t)(got), (uint64_t)(want))
+#define HERE ((source){__FILE__, __LINE__})
+#define SAME(what, got, want) same(HERE, what, (uint64_t)(got), (uint64_t)(want))
 
-static inline void same(int line, const char *what, uint64_t got, uint64_t want)
+/* Where a comparison stands. */
+typedef struct source {
+    const char *file;
+    int line;
+} source;
+
+static inline void same(source at, const char *what, uint64_t got, uint64_t want)
 {
     if (got != want) {
-        printf("%s line %d: %s is %llu, not %llu\n", __BASE_FILE__, line, what, (unsigned long long)got,
+        printf("%s line %d: %s is %llu, not %llu\n", at.file, at.line, what, (unsigned long long)got,
                (unsigned long long)want);
         exit(1);
     }

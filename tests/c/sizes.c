@@ -26,16 +26,44 @@ HOLDS(segments_are_64_bits, sizeof(ZV_SEGMENTS(1u)) == sizeof(uint64_t));
 HOLDS(words_are_64_bits, sizeof(ZV_MOST_BODY_WORDS(1u)) == sizeof(uint64_t));
 HOLDS(sums_need_no_variable, ZV_MOST_SUM_WORDS(MOST_UINT32, MOST_UINT32) == 576478357508591622u);
 HOLDS(sums_are_64_bits, sizeof(ZV_MOST_SUM_WORDS(1u, 1u)) == sizeof(uint64_t));
+HOLDS(wah_segments_need_no_variable, ZV_WAH_SEGMENTS(MOST_UINT32) == 138547333u);
+HOLDS(wah_words_need_no_variable, ZV_WAH_MOST_BODY_WORDS(MOST_UINT32) == 138547333u);
+HOLDS(wah_words_are_64_bits, sizeof(ZV_WAH_MOST_BODY_WORDS(1u)) == sizeof(uint64_t));
+HOLDS(wah_sums_need_no_variable, ZV_WAH_MOST_SUM_WORDS(MOST_UINT32, MOST_UINT32) == 595056272911503498u);
+HOLDS(wah_sums_are_64_bits, sizeof(ZV_WAH_MOST_SUM_WORDS(1u, 1u)) == sizeof(uint64_t));
+HOLDS(indexes_need_no_variable, ZV_MOST_NEW_INDEX_WORDS(MOST_UINT32, MOST_UINT32) == 576478357240147968u);
+HOLDS(wah_indexes_need_no_variable, ZV_WAH_MOST_NEW_INDEX_WORDS(MOST_UINT32, MOST_UINT32) == 595056272634408828u);
+HOLDS(a_sum_is_an_index, ZV_MOST_NEW_INDEX_WORDS(33u, 3u) == ZV_MOST_SUM_WORDS(33u, 1u));
+HOLDS(a_wah_sum_is_an_index, ZV_WAH_MOST_NEW_INDEX_WORDS(33u, 3u) == ZV_WAH_MOST_SUM_WORDS(33u, 1u));
 HOLDS(an_argument_may_be_a_sum, ZV_SEGMENTS(1u + 31u) == 1u && ZV_MOST_BODY_WORDS(1u ? 33u : 0u) == 3u);
+HOLDS(a_wah_argument_may_be_a_sum, ZV_WAH_SEGMENTS(1u + 31u) == 2u && ZV_WAH_MOST_BODY_WORDS(1u ? 33u : 0u) == 2u);
 HOLDS(slices_may_be_a_sum, ZV_MOST_SUM_WORDS(1u ? 33u : 0u, 2u - 1u) == 18u);
+HOLDS(wah_slices_may_be_a_sum, ZV_WAH_MOST_SUM_WORDS(1u ? 33u : 0u, 2u - 1u) == 15u);
+HOLDS(bitmaps_may_be_a_sum, ZV_MOST_NEW_INDEX_WORDS(33u, 4u - 1u) == 18u);
+HOLDS(wah_bitmaps_may_be_a_sum, ZV_WAH_MOST_NEW_INDEX_WORDS(33u, 4u - 1u) == 15u);
 HOLDS(a_size_may_be_divided, 12u / ZV_SEGMENTS(33u) == 6u && 12u / ZV_MOST_BODY_WORDS(33u) == 4u);
 HOLDS(a_sum_may_be_divided, 36u / ZV_MOST_SUM_WORDS(33u, 1u) == 2u);
+HOLDS(a_wah_size_may_be_divided, 12u / ZV_WAH_SEGMENTS(33u) == 6u && 12u / ZV_WAH_MOST_BODY_WORDS(33u) == 6u);
+HOLDS(a_wah_sum_may_be_divided, 30u / ZV_WAH_MOST_SUM_WORDS(33u, 1u) == 2u);
 HOLDS(a_sum_has_a_slice_more, ZV_MOST_VALUE_COLUMN == ZV_MOST_COLUMN + 1u && ZV_MOST_VALUE_COLUMN <= ZV_MOST_BITMAPS);
+HOLDS(a_word_is_its_fields, ZV_WAH_FILL_SHIFT == ZV_WAH_SEGMENT_ROWS && ZV_WAH_VALUE_SHIFT == ZV_WAH_FILL_SHIFT - 1u);
+HOLDS(a_fill_has_the_bits_below, ZV_WAH_MOST_FILL == (1u << ZV_WAH_VALUE_SHIFT) - 1u);
 HOLDS(a_stack_is_a_power_of_two, ZV_MOST_STACK > 0u && (ZV_MOST_STACK & (ZV_MOST_STACK - 1u)) == 0u);
 
+/* In WAH so many rows can need more room than in EWAH. */
+HOLDS(wah_is_longer, ZV_WAH_MOST_SUM_WORDS(PAST_FULL_ROWS, 1u) > ZV_MOST_SUM_WORDS(PAST_FULL_ROWS, 1u));
+
 static uint32_t plain[ZV_SEGMENTS(PAST_FULL_ROWS)];
-static uint32_t body[ZV_MOST_BODY_WORDS(PAST_FULL_ROWS)];
-static uint32_t columns[ZV_MOST_SUM_WORDS(PAST_FULL_ROWS, 1u)], sum[ZV_MOST_SUM_WORDS(PAST_FULL_ROWS, 1u)];
+static uint32_t body[ZV_WAH_MOST_BODY_WORDS(PAST_FULL_ROWS)];
+static uint32_t columns[ZV_WAH_MOST_SUM_WORDS(PAST_FULL_ROWS, 1u)], sum[ZV_WAH_MOST_SUM_WORDS(PAST_FULL_ROWS, 1u)];
+
+/* What differs between the formats here: an index's word 0, and the call that writes a body. */
+typedef struct {
+    uint32_t kind;
+    zv_written (*compress)(uint32_t rows, const uint32_t *plain, size_t plain_words, uint32_t *out, size_t out_words);
+} format;
+
+static const format ewah = {ZV_INDEX_KIND, zv_compress}, wah = {ZV_WAH_INDEX_KIND, zv_wah_compress};
 
 static void version(void)
 {
@@ -65,62 +93,95 @@ static void sizes(void)
         SAME("most words of a body", ZV_MOST_BODY_WORDS(known[i].rows), known[i].words);
         SAME("most words of a sum of 1 slice", ZV_MOST_SUM_WORDS(known[i].rows, 1u), known[i].narrowest);
         SAME("most words of a sum of 32", ZV_MOST_SUM_WORDS(known[i].rows, ZV_MOST_COLUMN - 1u), known[i].widest);
+        SAME("most words of 34 bitmaps", ZV_MOST_NEW_INDEX_WORDS(known[i].rows, 34u), known[i].widest);
     }
 }
 
-/* Each text has words that belong to its number, and is no other number's. 10 and any number past the last have one. */
+static void wah_sizes(void)
+{
+    static const struct {
+        uint32_t rows;
+        uint64_t words, narrowest, widest;
+    } known[] = {
+        {0, 0, 9, 71},
+        {1, 1, 12, 105},
+        {31, 1, 12, 105},
+        {32, 2, 15, 139},
+        {62, 2, 15, 139},
+        {63, 3, 18, 173},
+        {FULL_ROWS, 33824, 101481, 1150087},
+        {PAST_FULL_ROWS, 33826, 101487, 1150155},
+        {ZV_MOST_ROWS, 541201, 1623612, 18400905},
+        {MOST_UINT32, 138547333, 415642008, 4710609393},
+    };
+
+    for (size_t i = 0; i < sizeof(known) / sizeof(known[0]); i++) {
+        SAME("segments in WAH", ZV_WAH_SEGMENTS(known[i].rows), known[i].words);
+        SAME("most words of a body in WAH", ZV_WAH_MOST_BODY_WORDS(known[i].rows), known[i].words);
+        SAME("most words of a sum of 1 slice in WAH", ZV_WAH_MOST_SUM_WORDS(known[i].rows, 1u), known[i].narrowest);
+        SAME("most words of a sum of 32 in WAH", ZV_WAH_MOST_SUM_WORDS(known[i].rows, ZV_MOST_COLUMN - 1u),
+             known[i].widest);
+        SAME("most words of 34 bitmaps in WAH", ZV_WAH_MOST_NEW_INDEX_WORDS(known[i].rows, 34u), known[i].widest);
+    }
+}
+
+/* Each text has words that belong to its number, and is no other number's. All numbers past the last have one text. */
 static void texts(void)
 {
-    static const char *const has[] = {"nothing",  "too short for its head", "word 0",   "too many",
-                                      "contents", "dirty words",            "segments", "behind the last row",
-                                      "argument", "buffer",                 "no call",  "existence"};
-    const uint32_t unknown = ZV_NO_ROOM + 1, past = ZV_STRAY_ROW + 1;
+    static const char *const has[] = {"nothing",  "too short for its head", "word 0",      "too many",
+                                      "contents", "dirty words",            "segments",    "behind the last row",
+                                      "argument", "buffer",                 "no segments", "existence"};
+    const uint32_t past = ZV_STRAY_ROW + 1;
 
     SAME("the number of texts", sizeof(has) / sizeof(has[0]), past);
     for (uint32_t n = 0; n < past; n++) {
         SAME("whether a text fits its number", strstr(zv_refusal_text(n), has[n]) != NULL, 1);
+        SAME("whether a known number has the unknown ones' text", zv_refusal_text(n) == zv_refusal_text(past), 0);
         for (uint32_t m = 0; m < n; m++) {
             SAME("whether two texts are one", strcmp(zv_refusal_text(m), zv_refusal_text(n)) == 0, 0);
         }
     }
-    SAME("whether unknown numbers have one text", zv_refusal_text(unknown) == zv_refusal_text(past), 1);
+    SAME("whether a text says that no call gives it", strstr(zv_refusal_text(past), "no call") != NULL, 1);
     SAME("whether the last one has it too", zv_refusal_text(past) == zv_refusal_text(MOST_UINT32), 1);
 }
 
-/* Mixed segments throughout have the longest body of their rows. It is measured, and written with just that room. */
-static void longest(uint32_t rows, uint64_t need)
+/* Plain words that are all this one, mixed in every segment but perhaps the last, have the longest body of their rows.
+ * It is measured, and written with just that room. */
+static void longest(format f, uint32_t word, uint32_t rows, uint64_t need, uint64_t most)
 {
     size_t segments = ZV_SEGMENTS(rows);
     zv_written told;
 
     for (size_t i = 0; i < segments; i++) {
-        plain[i] = 1;
+        plain[i] = word;
     }
-    told = zv_compress(rows, plain, segments, body, 0);
+    told = f.compress(rows, plain, segments, body, 0);
     SAME("the number of a measured body", told.number, ZV_NO_ROOM);
     SAME("the words needed", told.word, need);
-    SAME("whether a size is enough", need <= ZV_MOST_BODY_WORDS(rows), 1);
-    told = zv_compress(rows, plain, segments, body, need);
+    SAME("whether a size is enough", need <= most, 1);
+    told = f.compress(rows, plain, segments, body, (size_t)need);
     SAME("the number of a fitting body", told.number, ZV_FINE);
     SAME("the words written", told.words, need);
 }
 
-/* The longest sum of two columns of one slice: of each segment rows 0 and 1 exist, and get the values 2 and 1, so that
- * every segment of the sum's three bitmaps is mixed. It is measured, and written with just that room. */
-static void longest_sum(uint32_t rows, uint64_t need)
+/* The longest sum of two columns of one slice: of each four rows the first three exist, and get the values 2, 1 and 1,
+ * so that no segment of the sum's three bitmaps is part of a longer run. It is measured, and written with just that
+ * room. */
+static void longest_sum(format f, uint32_t rows, uint64_t need, uint64_t most)
 {
     static const uint32_t first[] = {0, 0}, second[] = {0, 1};
+    const size_t room = sizeof(columns) / sizeof(columns[0]);
     size_t words = ZV_HEAD_WORDS + 2 * ZV_ENTRY_WORDS;
     zv_written told;
 
-    columns[0] = ZV_INDEX_KIND;
+    columns[0] = f.kind;
     columns[1] = rows;
     columns[2] = 2;
     for (uint32_t k = 0; k < 2; k++) {
         for (size_t i = 0; i < ZV_SEGMENTS(rows); i++) {
-            plain[i] = k == 0 ? 3 : 1;
+            plain[i] = k == 0 ? 0x77777777u : 0x11111111u;
         }
-        told = zv_compress(rows, plain, ZV_SEGMENTS(rows), columns + words, ZV_MOST_BODY_WORDS(rows));
+        told = f.compress(rows, plain, ZV_SEGMENTS(rows), columns + words, room - words);
         SAME("the number of a bitmap", told.number, ZV_FINE);
         columns[ZV_HEAD_WORDS + k * ZV_ENTRY_WORDS] = (uint32_t)words;
         columns[ZV_HEAD_WORDS + k * ZV_ENTRY_WORDS + 1] = (uint32_t)told.words;
@@ -129,18 +190,18 @@ static void longest_sum(uint32_t rows, uint64_t need)
     told = zv_sum(columns, words, WORDS(first), WORDS(second), sum, 0);
     SAME("the number of a measured sum", told.number, ZV_NO_ROOM);
     SAME("the words needed", told.word, need);
-    SAME("whether a size is enough", need <= ZV_MOST_SUM_WORDS(rows, 1), 1);
+    SAME("whether a size is enough", need <= most, 1);
     told = zv_sum(columns, words, WORDS(first), WORDS(second), sum, (size_t)need);
     SAME("the number of a fitting sum", told.number, ZV_FINE);
     SAME("the words written", told.words, need);
 }
 
-#define MEASURES(call, need) measures(__LINE__, (call).number, (call).word, need)
+#define MEASURES(call, need) measures(HERE, (call).number, (call).word, need)
 
-static void measures(int line, uint32_t number, uint64_t word, uint64_t need)
+static void measures(source at, uint32_t number, uint64_t word, uint64_t need)
 {
-    same(line, "number", number, ZV_NO_ROOM);
-    same(line, "word", word, need);
+    same(at, "number", number, ZV_NO_ROOM);
+    same(at, "word", word, need);
 }
 
 /* Every call that writes measures where its buffer has length 0, and writes nothing. */
@@ -148,11 +209,18 @@ static void measuring(void)
 {
     static const uint32_t index[] = {1, 40, 2, 7, 3, 10, 1, 0x00040000, 0x00000001, 0x00000080, 0x00000004};
     static const uint32_t list[] = {0, 1}, table[] = {0, 1, 0}, column[] = {0, 0}, none[1];
+    static const uint32_t archive[] = {2, 40, 2, 7, 2, 9, 1, 0x00000001, 0x00000100, 0x80000002};
 
     body[0] = 77;
     MEASURES(zv_expand(index + 7, 3, 40, body, 0), 2);
     MEASURES(zv_compress(40, index + 8, 2, body, 0), 3);
+    MEASURES(zv_body_to_ewah(index + 7, 3, 40, body, 0), 3);
+    MEASURES(zv_body_to_wah(index + 7, 3, 40, body, 0), 2);
     MEASURES(zv_expand_bitmap(WORDS(index), 0, body, 0), 2);
+    MEASURES(zv_bitmap_to_ewah(WORDS(index), 0, body, 0), 3);
+    MEASURES(zv_bitmap_to_wah(WORDS(index), 0, body, 0), 2);
+    MEASURES(zv_index_to_ewah(WORDS(index), body, 0), 11);
+    MEASURES(zv_index_to_wah(WORDS(index), body, 0), 10);
     MEASURES(zv_and(WORDS(index), 0, 1, body, 0), 1);
     MEASURES(zv_or(WORDS(index), 0, 1, body, 0), 3);
     MEASURES(zv_xor(WORDS(index), 0, 1, body, 0), 3);
@@ -161,21 +229,35 @@ static void measuring(void)
     MEASURES(zv_threshold(WORDS(index), WORDS(list), 1, body, 0), 3);
     MEASURES(zv_symmetric(WORDS(index), WORDS(list), WORDS(table), body, 0), 3);
     MEASURES(zv_sum(WORDS(index), WORDS(column), WORDS(column), body, 0), 16);
+    MEASURES(zv_wah_expand(archive + 7, 2, 40, body, 0), 2);
+    MEASURES(zv_wah_compress(40, index + 8, 2, body, 0), 2);
+    MEASURES(zv_wah_body_to_ewah(archive + 7, 2, 40, body, 0), 3);
+    MEASURES(zv_wah_body_to_wah(archive + 7, 2, 40, body, 0), 2);
+    MEASURES(zv_index_to_ewah(WORDS(archive), body, 0), 11);
+    MEASURES(zv_or(WORDS(archive), 0, 1, body, 0), 2);
+    MEASURES(zv_threshold(WORDS(archive), WORDS(list), 1, body, 0), 2);
+    MEASURES(zv_sum(WORDS(archive), WORDS(column), WORDS(column), body, 0), 14);
     SAME("the buffer's first word", body[0], 77);
     SAME("the number for no rows", zv_compress(0, none, 0, body, 0).number, ZV_FINE);
+    SAME("the number for no rows in WAH", zv_wah_compress(0, none, 0, body, 0).number, ZV_FINE);
 }
 
 int main(void)
 {
     version();
     sizes();
+    wah_sizes();
     texts();
-    longest(33, 3);
-    longest(FULL_ROWS, 32768);
-    longest(PAST_FULL_ROWS, 32770);
-    longest_sum(64, 18);
-    longest_sum(FULL_ROWS, 98313);
-    longest_sum(PAST_FULL_ROWS, 98319);
+    longest(ewah, 1, 33, 3, ZV_MOST_BODY_WORDS(33));
+    longest(ewah, 1, FULL_ROWS, 32768, ZV_MOST_BODY_WORDS(FULL_ROWS));
+    longest(ewah, 1, PAST_FULL_ROWS, 32770, ZV_MOST_BODY_WORDS(PAST_FULL_ROWS));
+    longest(wah, 0x55555555u, 64, 3, ZV_WAH_MOST_BODY_WORDS(64));
+    longest(wah, 0x55555555u, PAST_FULL_ROWS, 33826, ZV_WAH_MOST_BODY_WORDS(PAST_FULL_ROWS));
+    longest_sum(ewah, 64, 18, ZV_MOST_SUM_WORDS(64, 1));
+    longest_sum(ewah, FULL_ROWS, 98313, ZV_MOST_SUM_WORDS(FULL_ROWS, 1));
+    longest_sum(ewah, PAST_FULL_ROWS, 98319, ZV_MOST_SUM_WORDS(PAST_FULL_ROWS, 1));
+    longest_sum(wah, 64, 18, ZV_WAH_MOST_SUM_WORDS(64, 1));
+    longest_sum(wah, PAST_FULL_ROWS, 101487, ZV_WAH_MOST_SUM_WORDS(PAST_FULL_ROWS, 1));
     measuring();
     printf("ok\n");
     return 0;

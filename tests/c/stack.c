@@ -1,8 +1,9 @@
 /*
  * The stack that each call needs. The call runs on a painted stack of its own, and what is used of it is all from the
  * lowest byte without paint: by the call, its caller here, and what starts and ends the two, which the first line has
- * alone. Writes a line for each call, and the most, with exit status 1 if that is not below ZV_MOST_STACK, or if a call
- * was refused, since then it may not have gone all its way.
+ * alone. A call on an index is asked of one in EWAH and of the same one in WAH. Writes a line for each call, and the
+ * most, with exit status 1 if that is not below ZV_MOST_STACK, or if a call was refused, since then it may not have
+ * gone all its way.
  *
  *   gcc -std=c99 -Wall -Wextra -Werror -pedantic -Iinclude tests/c/stack.c \
  *       target/staticlib/libzvonurel_c.a -o target/stack && target/stack
@@ -32,11 +33,22 @@
 #define MARKER(value, clean, dirty) ((value) + 2u * (clean) + 2u * (ZV_MOST_CLEAN + 1u) * (dirty))
 
 static uint32_t all[CONTENTS_END + ZV_MOST_BITMAPS * BODY_WORDS];
+static uint32_t all_in_wah[ZV_WAH_MOST_NEW_INDEX_WORDS(ROWS, ZV_MOST_BITMAPS)];
 static uint32_t list[ZV_MOST_NAMED], table[ZV_MOST_NAMED + 1u], plain[SEGMENTS];
 static uint32_t longest[ZV_MOST_VALUE_COLUMN], first[ZV_MOST_COLUMN], second[ZV_MOST_COLUMN];
-static uint32_t out[ZV_MOST_SUM_WORDS(ROWS, ZV_MOST_COLUMN - 1u)];
+/* Either format's: in WAH bitmaps of so many rows can have more words. */
+static uint32_t out[ZV_WAH_MOST_NEW_INDEX_WORDS(ROWS, ZV_MOST_BITMAPS)];
 static size_t room;
 static unsigned char stack[STACK_BYTES];
+
+/* The index that is asked, and a body of it. */
+typedef struct {
+    const uint32_t *index;
+    size_t words;
+    zv_part body;
+} asked;
+
+static asked in_ewah, in_wah, now;
 
 /* Every answer has its refusal at the front, where `checked` has it. */
 static union {
@@ -50,48 +62,67 @@ static union {
     zv_histogram_counts histogram;
 } told;
 
-#define BODY all + CONTENTS_END, BODY_WORDS, ROWS
-#define CALLS(X) \
+#define BODY now.index + now.body.start, (size_t)now.body.length, ROWS
+#define INDEX now.index, now.words
+#define BODY_CALLS(X) \
     X(checked, zv_check_body, BODY) \
     X(flag, zv_body_row, BODY, ROWS - 1u) \
     X(number, zv_body_count, BODY) \
     X(number, zv_body_nth, BODY, 40u) \
     X(written, zv_expand, BODY, out, room) \
     X(written, zv_compress, ROWS, WORDS(plain), out, room) \
-    X(checked, zv_check, WORDS(all)) \
-    X(checked, zv_bitmap_refusal, WORDS(all), 63u) \
-    X(part, zv_bitmap, WORDS(all), 63u) \
-    X(flag, zv_row, WORDS(all), 63u, ROWS - 1u) \
-    X(number, zv_count, WORDS(all), 63u) \
-    X(number, zv_nth, WORDS(all), 63u, 40u) \
-    X(written, zv_expand_bitmap, WORDS(all), 63u, out, room) \
-    X(written, zv_and, WORDS(all), 1u, 62u, out, room) \
-    X(written, zv_or, WORDS(all), 1u, 62u, out, room) \
-    X(written, zv_xor, WORDS(all), 1u, 62u, out, room) \
-    X(written, zv_and_not, WORDS(all), 1u, 62u, out, room) \
-    X(written, zv_not, WORDS(all), 63u, out, room) \
-    X(answered, zv_threshold, WORDS(all), WORDS(list), 20u, out, room) \
-    X(answered, zv_symmetric, WORDS(all), WORDS(list), WORDS(table), out, room) \
-    X(histogram, zv_histogram, WORDS(all), WORDS(list)) \
-    X(value, zv_value, WORDS(all), WORDS(longest), 0u) \
-    X(written, zv_sum, WORDS(all), WORDS(first), WORDS(second), out, room)
+    X(written, zv_body_to_ewah, BODY, out, room) \
+    X(written, zv_body_to_wah, BODY, out, room)
+#define WAH_BODY_CALLS(X) \
+    X(checked, zv_wah_check_body, BODY) \
+    X(flag, zv_wah_body_row, BODY, ROWS - 1u) \
+    X(number, zv_wah_body_count, BODY) \
+    X(number, zv_wah_body_nth, BODY, 40u) \
+    X(written, zv_wah_expand, BODY, out, room) \
+    X(written, zv_wah_compress, ROWS, WORDS(plain), out, room) \
+    X(written, zv_wah_body_to_ewah, BODY, out, room) \
+    X(written, zv_wah_body_to_wah, BODY, out, room)
+#define INDEX_CALLS(X) \
+    X(checked, zv_check, INDEX) \
+    X(checked, zv_bitmap_refusal, INDEX, 63u) \
+    X(part, zv_bitmap, INDEX, 63u) \
+    X(flag, zv_row, INDEX, 63u, ROWS - 1u) \
+    X(number, zv_count, INDEX, 63u) \
+    X(number, zv_nth, INDEX, 63u, 40u) \
+    X(written, zv_expand_bitmap, INDEX, 63u, out, room) \
+    X(written, zv_bitmap_to_ewah, INDEX, 63u, out, room) \
+    X(written, zv_bitmap_to_wah, INDEX, 63u, out, room) \
+    X(written, zv_index_to_ewah, INDEX, out, room) \
+    X(written, zv_index_to_wah, INDEX, out, room) \
+    X(written, zv_and, INDEX, 1u, 62u, out, room) \
+    X(written, zv_or, INDEX, 1u, 62u, out, room) \
+    X(written, zv_xor, INDEX, 1u, 62u, out, room) \
+    X(written, zv_and_not, INDEX, 1u, 62u, out, room) \
+    X(written, zv_not, INDEX, 63u, out, room) \
+    X(answered, zv_threshold, INDEX, WORDS(list), 20u, out, room) \
+    X(answered, zv_symmetric, INDEX, WORDS(list), WORDS(table), out, room) \
+    X(histogram, zv_histogram, INDEX, WORDS(list)) \
+    X(value, zv_value, INDEX, WORDS(longest), 0u) \
+    X(written, zv_sum, INDEX, WORDS(first), WORDS(second), out, room)
 
 #define RUN(kind, name, ...) \
     static void run_##name(void) \
     { \
         told.kind = name(__VA_ARGS__); \
     }
-#define NAMED(kind, name, ...) {#name, run_##name},
+#define IN_EWAH(kind, name, ...) {#name, "EWAH", &in_ewah, run_##name},
+#define IN_WAH(kind, name, ...) {#name, "WAH", &in_wah, run_##name},
 
-CALLS(RUN)
+BODY_CALLS(RUN)
+WAH_BODY_CALLS(RUN)
+INDEX_CALLS(RUN)
 
 static void run_nothing(void)
 {
     told.checked.number = ZV_FINE;
 }
 
-/* An index of ZV_MOST_BITMAPS such bitmaps, the list of them all, a table that is 1 at every other number; and columns
- * of the most slices, each of which is the existence bitmap itself. */
+/* An index of ZV_MOST_BITMAPS such bitmaps, the list of them all, a table that is 1 at every other number. */
 static void prepare(void)
 {
     const uint32_t head[ZV_HEAD_WORDS] = {ZV_INDEX_KIND, ROWS, ZV_MOST_BITMAPS};
@@ -109,6 +140,11 @@ static void prepare(void)
         table[k] = k % 2u;
         plain[k] = k % 4u == 0 ? MIXED : 0;
     }
+}
+
+/* Columns of the most slices, each of which is the existence bitmap itself. */
+static void prepare_columns(void)
+{
     for (uint32_t i = 0; i < ZV_MOST_VALUE_COLUMN; i++) {
         longest[i] = 63u;
     }
@@ -116,6 +152,25 @@ static void prepare(void)
         first[i] = 1u;
         second[i] = 62u;
     }
+}
+
+/* An index, with the body of its first bitmap. */
+static asked with_body(const uint32_t *index, size_t words)
+{
+    const asked a = {index, words, zv_bitmap(index, words, 0u)};
+
+    SAME("the number of a bitmap", a.body.number, ZV_FINE);
+    return a;
+}
+
+/* The same bitmaps in either format. */
+static void prepare_formats(void)
+{
+    const zv_written rewritten = zv_index_to_wah(WORDS(all), WORDS(all_in_wah));
+
+    SAME("the number of a rewritten index", rewritten.number, ZV_FINE);
+    in_ewah = with_body(WORDS(all));
+    in_wah = with_body(all_in_wah, (size_t)rewritten.words);
 }
 
 /* How many bytes of the stack were used. */
@@ -159,16 +214,23 @@ static size_t most_used(void (*call)(void))
 int main(void)
 {
     static const struct {
-        const char *name;
+        const char *name, *format;
+        const asked *of;
         void (*run)(void);
-    } calls[] = {{"(no call)", run_nothing}, CALLS(NAMED)};
+    } calls[] = {
+        {"(no call)", "", &in_ewah, run_nothing}, BODY_CALLS(IN_EWAH) WAH_BODY_CALLS(IN_WAH) INDEX_CALLS(IN_EWAH)
+        INDEX_CALLS(IN_WAH)
+    };
     size_t most = 0;
 
     prepare();
+    prepare_columns();
+    prepare_formats();
     for (size_t i = 0; i < sizeof(calls) / sizeof(calls[0]); i++) {
+        now = *calls[i].of;
         size_t used = most_used(calls[i].run);
         most = used > most ? used : most;
-        printf("%-18s %6zu bytes\n", calls[i].name, used);
+        printf("%-20s %-4s %6zu bytes\n", calls[i].name, calls[i].format, used);
     }
     printf("the most is %zu bytes; the header says less than %u\n", most, ZV_MOST_STACK);
     return most < ZV_MOST_STACK ? 0 : 1;

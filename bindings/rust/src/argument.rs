@@ -74,7 +74,7 @@ pub enum BadArgument {
         /// What stands there.
         entry: u32,
     },
-    /// There is not one plain word for each segment.
+    /// There is not just one plain word for each [`WORD_BITS`](crate::WORD_BITS) rows.
     PlainWords {
         /// How many words there are.
         words: usize,

@@ -1,9 +1,9 @@
 //! Indexes made of bodies.
 
-use crate::{check, check_body, compress, most_body_words, segments, BadArgument, Refusal};
-use crate::{ENTRY_WORDS, HEAD_WORDS, INDEX_KIND, MOST_COLUMN, WORD_BITS};
+use crate::{check, lone, segments, BadArgument, Format, Refusal};
+use crate::{ENTRY_WORDS, HEAD_WORDS, MOST_COLUMN, WORD_BITS};
 
-/// The words of an index of these bodies, in order, with its contents right.
+/// The words of an index in EWAH of these bodies, in order, with its contents right.
 ///
 /// The rows and the bodies are taken as they are: [`check`], or any question, says whether the index is sound.
 ///
@@ -12,10 +12,14 @@ use crate::{ENTRY_WORDS, HEAD_WORDS, INDEX_KIND, MOST_COLUMN, WORD_BITS};
 /// ```
 #[must_use]
 pub fn index_of<B: AsRef<[u32]>>(rows: u32, bodies: &[B]) -> Vec<u32> {
+    laid_out(Format::Ewah, rows, bodies)
+}
+
+pub(crate) fn laid_out<B: AsRef<[u32]>>(format: Format, rows: u32, bodies: &[B]) -> Vec<u32> {
     // an index in which one of these numbers passes a word is longer than an index may be, and so is refused
     let word = |n: usize| u32::try_from(n).unwrap_or(u32::MAX);
     let mut start = HEAD_WORDS + ENTRY_WORDS * bodies.len();
-    let mut index = vec![INDEX_KIND, rows, word(bodies.len())];
+    let mut index = vec![format.index_kind(), rows, word(bodies.len())];
     for body in bodies {
         let length = body.as_ref().len();
         index.extend([word(start), word(length)]);
@@ -37,7 +41,8 @@ fn refused<T>(argument: BadArgument) -> Result<T, Refusal> {
     Err(Refusal { number: Refusal::BAD_ARGUMENT, bitmap: 0, word: 0, argument: Some(argument) })
 }
 
-/// An index in the making. Every bitmap of it has the same rows, and is numbered from 0 in the order of the calls.
+/// An index in the making. Every bitmap of it has the same rows and the same format, and is numbered from 0 in the
+/// order of the calls.
 ///
 /// ```
 /// use zvonurel::IndexBuilder;
@@ -60,23 +65,40 @@ fn refused<T>(argument: BadArgument) -> Result<T, Refusal> {
 #[derive(Clone, Debug)]
 #[must_use = "an index is made by `build`"]
 pub struct IndexBuilder {
+    format: Format,
     rows: u32,
     bodies: Vec<Vec<u32>>,
 }
 
 impl IndexBuilder {
-    /// An index of that many rows, with no bitmap yet.
+    /// An index of that many rows in EWAH, with no bitmap yet.
     pub fn new(rows: u32) -> IndexBuilder {
-        IndexBuilder { rows, bodies: Vec::new() }
+        IndexBuilder::with_format(rows, Format::Ewah)
     }
 
-    /// Adds a bitmap by its body, which is kept as it is, and returns its number.
+    /// An index of that many rows in that format, with no bitmap yet.
+    ///
+    /// ```
+    /// use zvonurel::{Format, IndexBuilder};
+    ///
+    /// let mut builder = IndexBuilder::with_format(40, Format::Wah);
+    /// builder.add_plain(&[0xFFFF_FFFF, 0xFF])?;
+    /// builder.add_body(&[0x1, 0x100])?;
+    /// assert_eq!(builder.build()?, [2, 40, 2, 7, 1, 8, 2, 0xC000_0002, 0x1, 0x100]);
+    /// # Ok::<(), zvonurel::Refusal>(())
+    /// ```
+    pub fn with_format(rows: u32, format: Format) -> IndexBuilder {
+        IndexBuilder { format, rows, bodies: Vec::new() }
+    }
+
+    /// Adds a bitmap by its body in the index's format, which is kept as it is, and returns its number.
     ///
     /// # Errors
-    /// 3 for too many rows or bitmaps; 5, 6 or 7 for the body's first fault. Then nothing is added.
+    /// 3 for too many rows or bitmaps; 5, 6 or 7, in WAH 6, 7 or 10, for the body's first fault. Then nothing is
+    /// added.
     pub fn add_body(&mut self, body: &[u32]) -> Result<u32, Refusal> {
         self.check_room(1)?;
-        check_body(body, self.rows)?;
+        lone::check_body(self.format, body, self.rows)?;
         Ok(self.push(body.to_vec()))
     }
 
@@ -87,8 +109,8 @@ impl IndexBuilder {
     /// bit behind the last row. Then nothing is added.
     pub fn add_plain(&mut self, plain: &[u32]) -> Result<u32, Refusal> {
         self.check_room(1)?;
-        let mut body = vec![0; most_body_words(self.rows)];
-        let words = compress(self.rows, plain, &mut body)?;
+        let mut body = vec![0; self.format.most_body_words(self.rows)];
+        let words = lone::compress(self.format, self.rows, plain, &mut body)?;
         body.truncate(words);
         body.shrink_to_fit();
         Ok(self.push(body))
@@ -155,7 +177,7 @@ impl IndexBuilder {
     /// # Errors
     /// 3 for too many rows, or for too many words in all.
     pub fn build(&self) -> Result<Vec<u32>, Refusal> {
-        let index = index_of(self.rows, &self.bodies);
+        let index = laid_out(self.format, self.rows, &self.bodies);
         check(&index)?;
         Ok(index)
     }
@@ -169,7 +191,7 @@ impl IndexBuilder {
     /// rows is taken. That its contents are missing is told only where both are right.
     fn check_room(&self, more: usize) -> Result<(), Refusal> {
         let bitmaps = u32::try_from(self.bodies.len().saturating_add(more)).unwrap_or(u32::MAX);
-        match check(&[INDEX_KIND, self.rows, bitmaps]) {
+        match check(&[self.format.index_kind(), self.rows, bitmaps]) {
             Err(refusal) if refusal.number == Refusal::TOO_LARGE => Err(refusal),
             _ => Ok(()),
         }

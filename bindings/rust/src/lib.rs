@@ -1,14 +1,15 @@
-//! EWAH bitmaps of 32-bit words that answer a question rightly or refuse it.
+//! Bitmaps of 32-bit words, in EWAH or in WAH, that answer a question rightly or refuse it.
 //!
 //! Safe calls over a library whose every function is proved to meet its contract: what is returned, and every word of a
 //! buffer afterwards, is settled for every input. Nothing is asked of the words; what is wrong with them is refused,
 //! with a [`Refusal`], and then no word of a buffer changes. No call allocates, keeps anything, or panics.
 //!
-//! An **index** is words: [`INDEX_KIND`], the rows, the number of bitmaps, then for each bitmap where its body starts
-//! and how many words it has, then the bodies. The whole of it is checked for every question. A **body** says which rows
-//! of a bitmap are set, by markers and dirty words. **Plain words** have [`WORD_BITS`] rows each, the lowest bit first.
-//! A **column** gives each row that exists a value. A list of bitmap numbers names it: existence, then the slices, the
-//! lowest first; slice i has the rows whose value has the binary digit of weight 2^i set.
+//! An **index** is words: [`INDEX_KIND`] or [`WAH_INDEX_KIND`], the rows, the number of bitmaps, then for each bitmap
+//! where its body starts and how many words it has, then the bodies. The whole of it is checked for every question. A
+//! **body** says which rows of a bitmap are set, in EWAH by markers and dirty words. **Plain words** have
+//! [`WORD_BITS`] rows each, the lowest bit first. A **column** gives each row that exists a value. A list of bitmap
+//! numbers names it: existence, then the slices, the lowest first; slice i has the rows whose value has the binary
+//! digit of weight 2^i set.
 //!
 //! ```
 //! // three bitmaps of four rows: rows 0, 1; rows 1, 2, 3; row 3
@@ -28,6 +29,27 @@
 //! # Ok::<(), zvonurel::Refusal>(())
 //! ```
 //!
+//! # Two formats
+//!
+//! All bodies of an index are in one [`Format`], EWAH or WAH, and a call on an index takes either: what it writes, a
+//! body or a new index, is in the same one. A body alone does not tell its format. The calls here are for EWAH, and
+//! those of the module [`wah`], which says what the words of such a body are, for WAH. Rewriting goes from either to
+//! either: [`to_wah`] and [`wah::to_ewah`] for a body, [`bitmap_to_ewah`] and [`bitmap_to_wah`] for one of an index,
+//! [`index_to_ewah`] and [`index_to_wah`] for all of it.
+//!
+//! ```
+//! // the same three bitmaps in WAH, in which such a bitmap takes one word
+//! let index = [1, 4, 3, 9, 2, 11, 2, 13, 2, 0x20000, 0b0011, 0x20000, 0b1110, 0x20000, 0b1000];
+//! let mut out = [0; zvonurel::Format::Wah.most_new_index_words(4, 3)];
+//! let words = zvonurel::index_to_wah(&index, &mut out)?;
+//! assert_eq!(out[..words], [2, 4, 3, 9, 1, 10, 1, 11, 1, 0b0011, 0b1110, 0b1000]);
+//! // and what two of them have both
+//! let mut both = [0; 1];
+//! assert_eq!(zvonurel::and(&out[..words], 0, 1, &mut both), Ok(1));
+//! assert_eq!(both, [0b0010]);
+//! # Ok::<(), zvonurel::Refusal>(())
+//! ```
+//!
 //! # Linking
 //!
 //! The package links `libzvonurel_c.a`, which `./build` at the repository's root proves and writes to
@@ -37,24 +59,27 @@
 //!
 //! Plain Rust over the proved calls, not itself proved; these allocate what they return:
 //!
-//! - [`set_rows`] and [`spells`] list a body's rows. A loop of [`body_nth`] would walk the body anew for each row.
-//! - [`IndexBuilder`] makes an index of bodies, plain words, rows or the values of columns, and [`index_of`] of words
-//!   that may be anything.
+//! - [`set_rows`] and [`spells`] list a body's rows, and in [`wah`] those of one in WAH. A loop of [`body_nth`] would
+//!   walk the body anew for each row.
+//! - [`IndexBuilder`] makes an index in either format of bodies, plain words, rows or the values of columns, and
+//!   [`index_of`] and [`wah::index_of`] of words that may be anything.
 //! - [`import`] makes a body of the words that another EWAH library wrote, [`import_java`] of a whole file, or says why
 //!   not.
 //!
 //! # Room
 //!
-//! A buffer of [`most_body_words`] words takes every body of so many rows, one of [`segments`] words every body's plain
-//! words, one of [`most_sum_words`] words every sum of columns. A buffer of length 0 measures: the refusal is
-//! [`Refusal::NO_ROOM`], with the words needed, unless none are.
+//! A buffer of [`most_body_words`] words takes every body of so many rows, one of [`segments`] words every body's
+//! plain words, one of [`most_sum_words`] words every sum of columns. For bodies and indexes that are written in WAH,
+//! or in either, a [`Format`] has these sizes; of many rows WAH can need more words. A buffer of length 0 measures:
+//! the refusal is [`Refusal::NO_ROOM`], with the words needed, unless none are.
 //!
 //! # Cost
 //!
-//! A call on an index checks the whole of it first, so it costs at least that: the contents and every marker, though no
-//! dirty word but a last one. For many questions on one bitmap, take its body with [`bitmap`] once and ask the calls on
-//! a body. [`value`] also looks through all slices of its column, each time: for many values of one column, expand its
-//! bitmaps once. The library was built for Linux on x86-64; a call needs less than 32 KiB of stack.
+//! A call on an index checks the whole of it first, so it costs at least that: the contents and every marker, though
+//! no dirty word but a last one; in WAH every word. For many questions on one bitmap, take its body with [`bitmap`]
+//! once and ask the calls on a body of its format. [`value`] also looks through all slices of its column, each time:
+//! for many values of one column, expand its bitmaps once. The library was built for Linux on x86-64; a call needs
+//! less than 32 KiB of stack.
 #![deny(missing_docs)]
 #![deny(unsafe_op_in_unsafe_fn)]
 #![warn(clippy::undocumented_unsafe_blocks)]
@@ -64,11 +89,14 @@ compile_error!("the proved library is built for Linux on x86-64 alone");
 
 mod argument;
 mod builder;
+mod format;
 mod import;
 mod limits;
 mod listing;
+mod lone;
 mod raw;
 mod refusal;
+pub mod wah;
 
 /// The examples of the repository's pages run as tests.
 #[cfg(doctest)]
@@ -85,6 +113,7 @@ mod pages {
 
 pub use argument::{BadArgument, BadColumn};
 pub use builder::{index_of, IndexBuilder};
+pub use format::Format;
 pub use import::{import, import_java, NotImported};
 pub use limits::*;
 pub use listing::{set_rows, spells, SetRows, Spell, Spells};
@@ -126,9 +155,9 @@ fn words(n: u64) -> usize {
     n as usize
 }
 
-// ---- one body alone
+// ---- one body alone in EWAH; `wah` has the same for WAH
 
-/// Whether a body of that many rows is sound.
+/// Whether a body in EWAH of that many rows is sound.
 ///
 /// # Errors
 /// 3 for too many rows; 5, 6 or 7 for the body's first fault.
@@ -142,12 +171,10 @@ fn words(n: u64) -> usize {
 /// assert_eq!(zvonurel::check_body(&[0x40000, 0x1, 0x180], 40).unwrap_err().number, 7);
 /// ```
 pub fn check_body(body: &[u32], rows: u32) -> Result<(), Refusal> {
-    // SAFETY: each pointer is a slice's, with its length.
-    let told = unsafe { raw::zv_check_body(body.as_ptr(), body.len(), rows) };
-    settled(told.number, told.bitmap, told.word, (), none)
+    lone::check_body(Format::Ewah, body, rows)
 }
 
-/// Whether a row of the body is set.
+/// Whether a row of a body in EWAH is set.
 ///
 /// # Errors
 /// 3 for too many rows; 5, 6 or 7 for the body's first fault; 8 where there is no such row.
@@ -156,12 +183,10 @@ pub fn check_body(body: &[u32], rows: u32) -> Result<(), Refusal> {
 /// assert_eq!(zvonurel::body_row(&[0x40000, 0x1, 0x80], 40, 39), Ok(true));
 /// ```
 pub fn body_row(body: &[u32], rows: u32, row: u32) -> Result<bool, Refusal> {
-    // SAFETY: each pointer is a slice's, with its length.
-    let told = unsafe { raw::zv_body_row(body.as_ptr(), body.len(), rows, row) };
-    settled(told.number, told.bitmap, told.word, told.value == 1, || Some(BadArgument::Row { row, rows }))
+    lone::body_row(Format::Ewah, body, rows, row)
 }
 
-/// How many rows of the body are set.
+/// How many rows of a body in EWAH are set.
 ///
 /// # Errors
 /// 3 for too many rows; 5, 6 or 7 for the body's first fault.
@@ -170,12 +195,10 @@ pub fn body_row(body: &[u32], rows: u32, row: u32) -> Result<bool, Refusal> {
 /// assert_eq!(zvonurel::body_count(&[0x40000, 0x1, 0x80], 40), Ok(2));
 /// ```
 pub fn body_count(body: &[u32], rows: u32) -> Result<u32, Refusal> {
-    // SAFETY: each pointer is a slice's, with its length.
-    let told = unsafe { raw::zv_body_count(body.as_ptr(), body.len(), rows) };
-    settled(told.number, told.bitmap, told.word, told.value, none)
+    lone::body_count(Format::Ewah, body, rows)
 }
 
-/// The nth set row of the body, counted from 0.
+/// The nth set row of a body in EWAH, counted from 0.
 ///
 /// # Errors
 /// 3 for too many rows; 5, 6 or 7 for the body's first fault; 8 where n or fewer rows are set.
@@ -186,12 +209,10 @@ pub fn body_count(body: &[u32], rows: u32) -> Result<u32, Refusal> {
 /// assert_eq!(zvonurel::body_nth(&body, 40, 2).unwrap_err().number, 8);
 /// ```
 pub fn body_nth(body: &[u32], rows: u32, n: u32) -> Result<u32, Refusal> {
-    // SAFETY: each pointer is a slice's, with its length.
-    let told = unsafe { raw::zv_body_nth(body.as_ptr(), body.len(), rows, n) };
-    settled(told.number, told.bitmap, told.word, told.value, || Some(BadArgument::SetRow { n }))
+    lone::body_nth(Format::Ewah, body, rows, n)
 }
 
-/// Writes the body's rows as plain words, one for each [`WORD_BITS`] rows, and returns how many.
+/// Writes the rows of a body in EWAH as plain words, one for each [`WORD_BITS`] rows, and returns how many.
 ///
 /// # Errors
 /// 3 for too many rows; 5, 6 or 7 for the body's first fault; 9 for a short buffer.
@@ -202,12 +223,10 @@ pub fn body_nth(body: &[u32], rows: u32, n: u32) -> Result<u32, Refusal> {
 /// assert_eq!(plain, [0x1, 0x80]);
 /// ```
 pub fn expand(body: &[u32], rows: u32, out: &mut [u32]) -> Result<usize, Refusal> {
-    // SAFETY: each pointer is a slice's, with its length.
-    let told = unsafe { raw::zv_expand(body.as_ptr(), body.len(), rows, out.as_mut_ptr(), out.len()) };
-    settled(told.number, told.bitmap, told.word, words(told.words), none)
+    lone::expand(Format::Ewah, body, rows, out)
 }
 
-/// Writes plain words as a body, in the one form with the fewest words, and returns how many.
+/// Writes plain words as a body in EWAH, in the one form with the fewest words, and returns how many.
 ///
 /// # Errors
 /// 3 for too many rows; 8 unless there is one word for each [`WORD_BITS`] rows; 7 where the last has a bit behind the
@@ -219,19 +238,47 @@ pub fn expand(body: &[u32], rows: u32, out: &mut [u32]) -> Result<usize, Refusal
 /// assert_eq!(body, [0x40000, 0x1, 0x80]);
 /// ```
 pub fn compress(rows: u32, plain: &[u32], out: &mut [u32]) -> Result<usize, Refusal> {
-    // SAFETY: each pointer is a slice's, with its length.
-    let told = unsafe { raw::zv_compress(rows, plain.as_ptr(), plain.len(), out.as_mut_ptr(), out.len()) };
-    settled(told.number, told.bitmap, told.word, words(told.words), || {
-        Some(BadArgument::PlainWords { words: plain.len(), rows })
-    })
+    lone::compress(Format::Ewah, rows, plain, out)
 }
 
-// ---- an index
+/// Writes the rows of a body in EWAH as such a body again, in the one form with the fewest words, and returns how many
+/// words.
+///
+/// # Errors
+/// 3 for too many rows; 5, 6 or 7 for the body's first fault; 9 for a short buffer.
+///
+/// ```
+/// // 40 rows, all set: the last 8 as a dirty word, and then as part of the run
+/// let mut out = [0; 1];
+/// assert_eq!(zvonurel::to_ewah(&[0x20003, 0xFF], 40, &mut out), Ok(1));
+/// assert_eq!(out, [0x5]);
+/// ```
+pub fn to_ewah(body: &[u32], rows: u32, out: &mut [u32]) -> Result<usize, Refusal> {
+    lone::rewrite((Format::Ewah, Format::Ewah), body, rows, out)
+}
+
+/// Writes the rows of a body in EWAH as a body in WAH, in the one form with the fewest words, and returns how many
+/// words. [`wah::to_ewah`] goes the other way.
+///
+/// # Errors
+/// 3 for too many rows; 5, 6 or 7 for the body's first fault; 9 for a short buffer.
+///
+/// ```
+/// // rows 0 and 39 of 40
+/// let mut out = [0; 2];
+/// assert_eq!(zvonurel::to_wah(&[0x40000, 0x1, 0x80], 40, &mut out), Ok(2));
+/// assert_eq!(out, [0x1, 0x100]);
+/// ```
+pub fn to_wah(body: &[u32], rows: u32, out: &mut [u32]) -> Result<usize, Refusal> {
+    lone::rewrite((Format::Ewah, Format::Wah), body, rows, out)
+}
+
+// ---- an index, in either format
 
 /// Whether an index is sound.
 ///
 /// # Errors
-/// 1 to 7 for the index's first fault.
+/// 1 to 7, or 10, for the index's first fault.
 ///
 /// ```
 /// assert!(zvonurel::check(&[1, 0, 0]).is_ok());
@@ -258,10 +305,10 @@ pub fn bitmap_refusal(index: &[u32], k: u32) -> Option<Refusal> {
     settled(told.number, told.bitmap, told.word, (), || argument::bitmap(index, k)).err()
 }
 
-/// The part of the index that is bitmap k's body: the caller's own words.
+/// The part of the index that is bitmap k's body, in the index's format: the caller's own words.
 ///
 /// # Errors
-/// 1 to 7 for the index's first fault; 8 where there is no bitmap k.
+/// 1 to 7, or 10, for the index's first fault; 8 where there is no bitmap k.
 ///
 /// ```
 /// let index = [1, 64, 1, 5, 1, 0x4];
@@ -278,7 +325,7 @@ pub fn bitmap(index: &[u32], k: u32) -> Result<&[u32], Refusal> {
 /// Whether a row of bitmap k is set.
 ///
 /// # Errors
-/// 1 to 7 for the index's first fault; 8 where there is no such bitmap or row.
+/// 1 to 7, or 10, for the index's first fault; 8 where there is no such bitmap or row.
 ///
 /// ```
 /// let index = [1, 4, 3, 9, 2, 11, 2, 13, 2, 0x20000, 0x3, 0x20000, 0xE, 0x20000, 0x8];
@@ -293,7 +340,7 @@ pub fn row(index: &[u32], k: u32, row: u32) -> Result<bool, Refusal> {
 /// How many rows of bitmap k are set.
 ///
 /// # Errors
-/// 1 to 7 for the index's first fault; 8 where there is no bitmap k.
+/// 1 to 7, or 10, for the index's first fault; 8 where there is no bitmap k.
 ///
 /// ```
 /// let index = [1, 4, 3, 9, 2, 11, 2, 13, 2, 0x20000, 0x3, 0x20000, 0xE, 0x20000, 0x8];
@@ -308,7 +355,7 @@ pub fn count(index: &[u32], k: u32) -> Result<u32, Refusal> {
 /// The nth set row of bitmap k, counted from 0.
 ///
 /// # Errors
-/// 1 to 7 for the index's first fault; 8 where there is no bitmap k, or n or fewer of its rows are set.
+/// 1 to 7, or 10, for the index's first fault; 8 where there is no bitmap k, or n or fewer of its rows are set.
 ///
 /// ```
 /// let index = [1, 4, 3, 9, 2, 11, 2, 13, 2, 0x20000, 0x3, 0x20000, 0xE, 0x20000, 0x8];
@@ -323,7 +370,7 @@ pub fn nth(index: &[u32], k: u32, n: u32) -> Result<u32, Refusal> {
 /// Writes the rows of bitmap k as plain words, one for each [`WORD_BITS`] rows, and returns how many.
 ///
 /// # Errors
-/// 1 to 7 for the index's first fault; 8 where there is no bitmap k; 9 for a short buffer.
+/// 1 to 7, or 10, for the index's first fault; 8 where there is no bitmap k; 9 for a short buffer.
 ///
 /// ```
 /// let index = [1, 4, 3, 9, 2, 11, 2, 13, 2, 0x20000, 0x3, 0x20000, 0xE, 0x20000, 0x8];
@@ -337,12 +384,104 @@ pub fn expand_bitmap(index: &[u32], k: u32, out: &mut [u32]) -> Result<usize, Re
     settled(told.number, told.bitmap, told.word, words(told.words), || argument::bitmap(index, k))
 }
 
-// ---- two bitmaps of an index, or one
+// ---- an index or a bitmap of it, rewritten
+
+fn bitmap_to(format: Format, index: &[u32], k: u32, out: &mut [u32]) -> Result<usize, Refusal> {
+    let call = match format {
+        Format::Ewah => raw::zv_bitmap_to_ewah,
+        Format::Wah => raw::zv_bitmap_to_wah,
+    };
+    // SAFETY: each pointer is a slice's, with its length.
+    let told = unsafe { call(index.as_ptr(), index.len(), k, out.as_mut_ptr(), out.len()) };
+    settled(told.number, told.bitmap, told.word, words(told.words), || argument::bitmap(index, k))
+}
+
+/// Writes the rows of bitmap k as a body in EWAH, whatever the index's format, in the one form with the fewest words,
+/// and returns how many words.
+///
+/// # Errors
+/// 1 to 7, or 10, for the index's first fault; 8 where there is no bitmap k; 9 for a short buffer.
+///
+/// ```
+/// // three bitmaps of four rows in WAH
+/// let index = [2, 4, 3, 9, 1, 10, 1, 11, 1, 0x3, 0xE, 0x8];
+/// let mut body = [0; 2];
+/// assert_eq!(zvonurel::bitmap_to_ewah(&index, 1, &mut body), Ok(2));
+/// assert_eq!(body, [0x20000, 0xE]);
+/// ```
+pub fn bitmap_to_ewah(index: &[u32], k: u32, out: &mut [u32]) -> Result<usize, Refusal> {
+    bitmap_to(Format::Ewah, index, k, out)
+}
+
+/// Writes the rows of bitmap k as a body in WAH, whatever the index's format, in the one form with the fewest words,
+/// and returns how many words.
+///
+/// # Errors
+/// 1 to 7, or 10, for the index's first fault; 8 where there is no bitmap k; 9 for a short buffer.
+///
+/// ```
+/// let index = [1, 4, 3, 9, 2, 11, 2, 13, 2, 0x20000, 0x3, 0x20000, 0xE, 0x20000, 0x8];
+/// let mut body = [0; 1];
+/// assert_eq!(zvonurel::bitmap_to_wah(&index, 1, &mut body), Ok(1));
+/// assert_eq!(body, [0xE]);
+/// ```
+pub fn bitmap_to_wah(index: &[u32], k: u32, out: &mut [u32]) -> Result<usize, Refusal> {
+    bitmap_to(Format::Wah, index, k, out)
+}
+
+fn index_to(format: Format, index: &[u32], out: &mut [u32]) -> Result<usize, Refusal> {
+    let call = match format {
+        Format::Ewah => raw::zv_index_to_ewah,
+        Format::Wah => raw::zv_index_to_wah,
+    };
+    // SAFETY: each pointer is a slice's, with its length.
+    let told = unsafe { call(index.as_ptr(), index.len(), out.as_mut_ptr(), out.len()) };
+    settled(told.number, told.bitmap, told.word, words(told.words), none)
+}
+
+/// Writes all bitmaps of an index, in their order, as a new index in EWAH, whatever the index's format, and returns
+/// how many words. Each body is in the one form with the fewest words.
+///
+/// # Errors
+/// 1 to 7, or 10, for the index's first fault; 9 for a short buffer. [`Format::most_new_index_words`]
+/// says how long is long enough.
+///
+/// ```
+/// // 40 rows in WAH, all of them set, and rows 0 and 39
+/// let archive = [2, 40, 2, 7, 1, 8, 2, 0xC000_0002, 0x1, 0x100];
+/// let mut out = [0; zvonurel::Format::Ewah.most_new_index_words(40, 2)];
+/// let words = zvonurel::index_to_ewah(&archive, &mut out)?;
+/// assert_eq!(out[..words], [1, 40, 2, 7, 1, 8, 3, 0x5, 0x40000, 0x1, 0x80]);
+/// # Ok::<(), zvonurel::Refusal>(())
+/// ```
+pub fn index_to_ewah(index: &[u32], out: &mut [u32]) -> Result<usize, Refusal> {
+    index_to(Format::Ewah, index, out)
+}
+
+/// Writes all bitmaps of an index, in their order, as a new index in WAH, whatever the index's format, and returns how
+/// many words. Each body is in the one form with the fewest words.
+///
+/// # Errors
+/// 1 to 7, or 10, for the index's first fault; 9 for a short buffer. [`Format::most_new_index_words`]
+/// says how long is long enough.
+///
+/// ```
+/// let index = [1, 40, 2, 7, 1, 8, 3, 0x5, 0x40000, 0x1, 0x80];
+/// let mut out = [0; zvonurel::Format::Wah.most_new_index_words(40, 2)];
+/// let words = zvonurel::index_to_wah(&index, &mut out)?;
+/// assert_eq!(out[..words], [2, 40, 2, 7, 1, 8, 2, 0xC000_0002, 0x1, 0x100]);
+/// # Ok::<(), zvonurel::Refusal>(())
+/// ```
+pub fn index_to_wah(index: &[u32], out: &mut [u32]) -> Result<usize, Refusal> {
+    index_to(Format::Wah, index, out)
+}
+
+// ---- two bitmaps of an index, or one; the answer is in the index's format
 
 /// Writes the rows that both bitmaps have, as a body in the one form with the fewest words, and returns how many words.
 ///
 /// # Errors
-/// 1 to 7 for the index's first fault; 8 where one of the bitmaps is not there; 9 for a short buffer.
+/// 1 to 7, or 10, for the index's first fault; 8 where one of the bitmaps is not there; 9 for a short buffer.
 ///
 /// ```
 /// let index = [1, 8, 2, 7, 2, 9, 2, 0x20000, 0x32, 0x20000, 0xB0];
@@ -360,7 +499,7 @@ pub fn and(index: &[u32], j: u32, k: u32, out: &mut [u32]) -> Result<usize, Refu
 /// many words.
 ///
 /// # Errors
-/// 1 to 7 for the index's first fault; 8 where one of the bitmaps is not there; 9 for a short buffer.
+/// 1 to 7, or 10, for the index's first fault; 8 where one of the bitmaps is not there; 9 for a short buffer.
 ///
 /// ```
 /// let index = [1, 8, 2, 7, 2, 9, 2, 0x20000, 0x32, 0x20000, 0xB0];
@@ -378,7 +517,7 @@ pub fn or(index: &[u32], j: u32, k: u32, out: &mut [u32]) -> Result<usize, Refus
 /// how many words.
 ///
 /// # Errors
-/// 1 to 7 for the index's first fault; 8 where one of the bitmaps is not there; 9 for a short buffer.
+/// 1 to 7, or 10, for the index's first fault; 8 where one of the bitmaps is not there; 9 for a short buffer.
 ///
 /// ```
 /// let index = [1, 8, 2, 7, 2, 9, 2, 0x20000, 0x32, 0x20000, 0xB0];
@@ -396,7 +535,7 @@ pub fn xor(index: &[u32], j: u32, k: u32, out: &mut [u32]) -> Result<usize, Refu
 /// returns how many words.
 ///
 /// # Errors
-/// 1 to 7 for the index's first fault; 8 where one of the bitmaps is not there; 9 for a short buffer.
+/// 1 to 7, or 10, for the index's first fault; 8 where one of the bitmaps is not there; 9 for a short buffer.
 ///
 /// ```
 /// let index = [1, 8, 2, 7, 2, 9, 2, 0x20000, 0x32, 0x20000, 0xB0];
@@ -413,7 +552,7 @@ pub fn and_not(index: &[u32], j: u32, k: u32, out: &mut [u32]) -> Result<usize, 
 /// Writes the rows that bitmap k has not, as a body in the one form with the fewest words, and returns how many words.
 ///
 /// # Errors
-/// 1 to 7 for the index's first fault; 8 where there is no bitmap k; 9 for a short buffer.
+/// 1 to 7, or 10, for the index's first fault; 8 where there is no bitmap k; 9 for a short buffer.
 ///
 /// ```
 /// let index = [1, 8, 2, 7, 2, 9, 2, 0x20000, 0x32, 0x20000, 0xB0];
@@ -433,8 +572,8 @@ pub fn not(index: &[u32], k: u32, out: &mut [u32]) -> Result<usize, Refusal> {
 /// of the named bodies is always room enough.
 ///
 /// # Errors
-/// 1 to 7 for the index's first fault; 8 for a list of no numbers, more than [`MOST_NAMED`] or one that is no bitmap's,
-/// or a t of 0 or above the list's length; 9 for a short buffer.
+/// 1 to 7, or 10, for the index's first fault; 8 for a list of no numbers, more than [`MOST_NAMED`] or one that is no
+/// bitmap's, or a t of 0 or above the list's length; 9 for a short buffer.
 ///
 /// ```
 /// let index = [1, 4, 3, 9, 2, 11, 2, 13, 2, 0x20000, 0x3, 0x20000, 0xE, 0x20000, 0x8];
@@ -458,7 +597,7 @@ pub fn threshold(index: &[u32], list: &[u32], t: u32, out: &mut [u32]) -> Result
 /// has one entry, 0 or 1, for each number from 0 to the list's length.
 ///
 /// # Errors
-/// 1 to 7 for the index's first fault; 8 for a bad list or table; 9 for a short buffer.
+/// 1 to 7, or 10, for the index's first fault; 8 for a bad list or table; 9 for a short buffer.
 ///
 /// ```
 /// let index = [1, 4, 3, 9, 2, 11, 2, 13, 2, 0x20000, 0x3, 0x20000, 0xE, 0x20000, 0x8];
@@ -490,7 +629,7 @@ pub fn symmetric(index: &[u32], list: &[u32], table: &[u32], out: &mut [u32]) ->
 /// For each c from 0 to [`MOST_NAMED`], how many rows exactly c of the list have.
 ///
 /// # Errors
-/// 1 to 7 for the index's first fault; 8 for a bad list.
+/// 1 to 7, or 10, for the index's first fault; 8 for a bad list.
 ///
 /// ```
 /// let index = [1, 4, 3, 9, 2, 11, 2, 13, 2, 0x20000, 0x3, 0x20000, 0xE, 0x20000, 0x8];
@@ -509,9 +648,9 @@ pub fn histogram(index: &[u32], list: &[u32]) -> Result<[u32; HISTOGRAM_COUNTS],
 /// The value of a row of a column: what the slices that have the row weigh, slice i 2^i.
 ///
 /// # Errors
-/// 1 to 7 for the index's first fault; 8 for a list of fewer than [`LEAST_COLUMN`] numbers, more than
-/// [`MOST_VALUE_COLUMN`] or one that is no bitmap's, or where there is no such row or it does not exist; 11 where a slice
-/// has a row that does not exist.
+/// 1 to 7, or 10, for the index's first fault; 8 for a list of fewer than [`LEAST_COLUMN`] numbers, more than
+/// [`MOST_VALUE_COLUMN`] or one that is no bitmap's, or where there is no such row or it does not exist; 11 where a
+/// slice has a row that does not exist.
 ///
 /// ```
 /// // of eight rows 0 to 3 exist, and have the values 1, 2, 3 and 0
@@ -529,13 +668,15 @@ pub fn value(index: &[u32], column: &[u32], row: u32) -> Result<u64, Refusal> {
     settled(told.number, told.bitmap, told.word, told.value, || argument::value(index, column, row))
 }
 
-/// Writes the sum of two columns, row by row, as a new index, and returns how many words. A row exists in the sum if it
-/// does in both columns. Bitmap 0 of the new index is existence; the others are the slices, one more than the wider
-/// column has, empty ones included, each in the one form with the fewest words. Their numbers, from 0 on, name the sum.
+/// Writes the sum of two columns, row by row, as a new index in the same format, and returns how many words. A row
+/// exists in the sum if it does in both columns. Bitmap 0 of the new index is existence; the others are the slices,
+/// one more than the wider column has, empty ones included, each in the one form with the fewest words. Their numbers,
+/// from 0 on, name the sum.
 ///
 /// # Errors
-/// 1 to 7 for the index's first fault; 8 for a list of fewer than [`LEAST_COLUMN`] numbers, more than [`MOST_COLUMN`] or
-/// one that is no bitmap's; 11 where a slice has a row that does not exist in its column; 9 for a short buffer.
+/// 1 to 7, or 10, for the index's first fault; 8 for a list of fewer than [`LEAST_COLUMN`] numbers, more than
+/// [`MOST_COLUMN`] or one that is no bitmap's; 11 where a slice has a row that does not exist in its column; 9 for a
+/// short buffer.
 ///
 /// ```
 /// // rows 0 to 3 have the values 1, 2, 3 and 0, and then rows 1 to 4 the values 1, 1, 0 and 1

@@ -1,5 +1,7 @@
 //! Every limit and size, once.
 
+use crate::Format;
+
 /// The most rows that a bitmap can have.
 pub const MOST_ROWS: u32 = 16_777_216;
 
@@ -24,10 +26,14 @@ pub const MOST_COLUMN: usize = 33;
 /// The most numbers that name a column of which only a value is asked: a sum has one slice more than what was added.
 pub const MOST_VALUE_COLUMN: usize = MOST_COLUMN + 1;
 
-/// What word 0 of an index says.
+/// What word 0 of an index says where its bodies are in EWAH.
 pub const INDEX_KIND: u32 = 1;
 
-/// The words of an index before its contents: [`INDEX_KIND`], the rows and the number of bitmaps.
+/// What word 0 of an index says where its bodies are in WAH.
+pub const WAH_INDEX_KIND: u32 = 2;
+
+/// The words of an index before its contents: [`INDEX_KIND`] or [`WAH_INDEX_KIND`], the rows and the number of
+/// bitmaps.
 pub const HEAD_WORDS: usize = 3;
 
 /// The words of a bitmap's entry in the contents: where its body starts, and how many words it has.
@@ -45,10 +51,22 @@ pub const CLEAN_SHIFT: u32 = 1;
 /// The lowest bit of a marker's dirty count, which goes up to the highest bit.
 pub const DIRTY_SHIFT: u32 = 17;
 
-/// The bits of a word: as many rows stand in a segment, and in a plain word.
+/// The bits of a word: as many rows stand in a plain word, and in a segment of a body in EWAH.
 pub const WORD_BITS: usize = 32;
 
-/// The segments of that many rows, which are also its plain words.
+/// The rows of a segment of a body in WAH.
+pub const WAH_SEGMENT_ROWS: usize = 31;
+
+/// The highest bit of a word of a body in WAH: set in a fill, clear in a literal.
+pub const WAH_FILL_SHIFT: u32 = 31;
+
+/// The bit of a fill that is its segments' value. The bits below it are their number.
+pub const WAH_VALUE_SHIFT: u32 = 30;
+
+/// The most segments that one fill can count.
+pub const WAH_MOST_FILL: usize = 1_073_741_823;
+
+/// The plain words of that many rows, whatever the format, which are also its segments in EWAH.
 ///
 /// ```
 /// assert_eq!(zvonurel::segments(0), 0);
@@ -56,10 +74,11 @@ pub const WORD_BITS: usize = 32;
 /// ```
 #[must_use]
 pub const fn segments(rows: u32) -> usize {
-    (rows as u64).div_ceil(WORD_BITS as u64) as usize
+    Format::Ewah.segments(rows)
 }
 
-/// Room for every body of that many rows that the library writes: none in canonical form has more words.
+/// Room for every body of that many rows that the library writes in EWAH: none in canonical form has more words. In
+/// WAH it is [`Format::most_body_words`] that says so.
 ///
 /// ```
 /// assert_eq!(zvonurel::most_body_words(40), 3);
@@ -68,11 +87,11 @@ pub const fn segments(rows: u32) -> usize {
 /// ```
 #[must_use]
 pub const fn most_body_words(rows: u32) -> usize {
-    segments(rows) + segments(rows) / MOST_DIRTY + 1
+    Format::Ewah.most_body_words(rows)
 }
 
-/// Room for every sum of two columns of that many rows, of which the wider has at most that many slices: [`sum`] is not
-/// refused such a buffer.
+/// Room for every sum of two columns of that many rows of an index in EWAH, of which the wider has at most that many
+/// slices: [`sum`] is not refused such a buffer. In WAH it is [`Format::most_sum_words`] that says so.
 ///
 /// A list of n numbers names n - 1 slices. The sum is an index of the existence bitmap and one slice more.
 ///
@@ -83,5 +102,5 @@ pub const fn most_body_words(rows: u32) -> usize {
 /// ```
 #[must_use]
 pub const fn most_sum_words(rows: u32, slices: usize) -> usize {
-    HEAD_WORDS + (slices + 2) * (ENTRY_WORDS + most_body_words(rows))
+    Format::Ewah.most_sum_words(rows, slices)
 }

@@ -6,13 +6,13 @@
 use std::iter::FusedIterator;
 use std::ops::Range;
 
-use crate::{check_body, expand, segments, Refusal, WORD_BITS};
+use crate::{lone, segments, Format, Refusal, WORD_BITS};
 
 /// The body's rows as plain words. A wrong body is refused before room for its rows is taken.
-fn plain_words(body: &[u32], rows: u32) -> Result<Vec<u32>, Refusal> {
-    check_body(body, rows)?;
+fn plain_words(format: Format, body: &[u32], rows: u32) -> Result<Vec<u32>, Refusal> {
+    lone::check_body(format, body, rows)?;
     let mut plain = vec![0; segments(rows)];
-    expand(body, rows, &mut plain)?;
+    lone::expand(format, body, rows, &mut plain)?;
     Ok(plain)
 }
 
@@ -28,7 +28,7 @@ fn next_row(plain: &[u32], flip: u32, from: usize) -> Option<usize> {
     Some((segment + 1 + past) * WORD_BITS + (rest[past] ^ flip).trailing_zeros() as usize)
 }
 
-/// The set rows of a body, lowest first.
+/// The set rows of a body in EWAH, lowest first.
 ///
 /// # Errors
 /// 3 for too many rows; 5, 6 or 7 for the body's first fault.
@@ -44,12 +44,10 @@ fn next_row(plain: &[u32], flip: u32, from: usize) -> Option<usize> {
 /// # Ok::<(), zvonurel::Refusal>(())
 /// ```
 pub fn set_rows(body: &[u32], rows: u32) -> Result<SetRows, Refusal> {
-    let plain = plain_words(body, rows)?;
-    let left = plain.iter().map(|word| word.count_ones() as usize).sum();
-    Ok(SetRows { plain, at: 0, left })
+    SetRows::of(Format::Ewah, body, rows)
 }
 
-/// The spells of a body, first to last: its unbroken runs of set rows, each as long as it goes.
+/// The spells of a body in EWAH, first to last: its unbroken runs of set rows, each as long as it goes.
 ///
 /// # Errors
 /// 3 for too many rows; 5, 6 or 7 for the body's first fault.
@@ -64,10 +62,10 @@ pub fn set_rows(body: &[u32], rows: u32) -> Result<SetRows, Refusal> {
 /// # Ok::<(), zvonurel::Refusal>(())
 /// ```
 pub fn spells(body: &[u32], rows: u32) -> Result<Spells, Refusal> {
-    Ok(Spells { plain: plain_words(body, rows)?, rows: rows as usize, at: 0 })
+    Spells::of(Format::Ewah, body, rows)
 }
 
-/// Iterates over the set rows of a body: see [`set_rows`].
+/// Iterates over the set rows of a body: see [`set_rows`], and [`wah::set_rows`](crate::wah::set_rows).
 #[derive(Clone, Debug)]
 #[must_use = "an iterator does nothing until it is asked"]
 pub struct SetRows {
@@ -76,6 +74,14 @@ pub struct SetRows {
     at: usize,
     /// How many are still to come.
     left: usize,
+}
+
+impl SetRows {
+    pub(crate) fn of(format: Format, body: &[u32], rows: u32) -> Result<SetRows, Refusal> {
+        let plain = plain_words(format, body, rows)?;
+        let left = plain.iter().map(|word| word.count_ones() as usize).sum();
+        Ok(SetRows { plain, at: 0, left })
+    }
 }
 
 impl Iterator for SetRows {
@@ -121,7 +127,7 @@ impl Spell {
     }
 }
 
-/// Iterates over the spells of a body: see [`spells`].
+/// Iterates over the spells of a body: see [`spells`], and [`wah::spells`](crate::wah::spells).
 #[derive(Clone, Debug)]
 #[must_use = "an iterator does nothing until it is asked"]
 pub struct Spells {
@@ -129,6 +135,12 @@ pub struct Spells {
     rows: usize,
     /// Every spell that begins below this row was given.
     at: usize,
+}
+
+impl Spells {
+    pub(crate) fn of(format: Format, body: &[u32], rows: u32) -> Result<Spells, Refusal> {
+        Ok(Spells { plain: plain_words(format, body, rows)?, rows: rows as usize, at: 0 })
+    }
 }
 
 impl Iterator for Spells {

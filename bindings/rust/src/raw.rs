@@ -82,6 +82,16 @@ extern "C" {
     pub fn zv_body_nth(body: In, body_words: usize, rows: u32, n: u32) -> Number;
     pub fn zv_expand(body: In, body_words: usize, rows: u32, out: Out, out_words: usize) -> Written;
     pub fn zv_compress(rows: u32, plain: In, plain_words: usize, out: Out, out_words: usize) -> Written;
+    pub fn zv_body_to_ewah(body: In, body_words: usize, rows: u32, out: Out, out_words: usize) -> Written;
+    pub fn zv_body_to_wah(body: In, body_words: usize, rows: u32, out: Out, out_words: usize) -> Written;
+    pub fn zv_wah_check_body(body: In, body_words: usize, rows: u32) -> Checked;
+    pub fn zv_wah_body_row(body: In, body_words: usize, rows: u32, row: u32) -> Flag;
+    pub fn zv_wah_body_count(body: In, body_words: usize, rows: u32) -> Number;
+    pub fn zv_wah_body_nth(body: In, body_words: usize, rows: u32, n: u32) -> Number;
+    pub fn zv_wah_expand(body: In, body_words: usize, rows: u32, out: Out, out_words: usize) -> Written;
+    pub fn zv_wah_compress(rows: u32, plain: In, plain_words: usize, out: Out, out_words: usize) -> Written;
+    pub fn zv_wah_body_to_ewah(body: In, body_words: usize, rows: u32, out: Out, out_words: usize) -> Written;
+    pub fn zv_wah_body_to_wah(body: In, body_words: usize, rows: u32, out: Out, out_words: usize) -> Written;
     pub fn zv_check(index: In, index_words: usize) -> Checked;
     pub fn zv_bitmap_refusal(index: In, index_words: usize, k: u32) -> Checked;
     pub fn zv_bitmap(index: In, index_words: usize, k: u32) -> Part;
@@ -89,6 +99,10 @@ extern "C" {
     pub fn zv_count(index: In, index_words: usize, k: u32) -> Number;
     pub fn zv_nth(index: In, index_words: usize, k: u32, n: u32) -> Number;
     pub fn zv_expand_bitmap(index: In, index_words: usize, k: u32, out: Out, out_words: usize) -> Written;
+    pub fn zv_bitmap_to_ewah(index: In, index_words: usize, k: u32, out: Out, out_words: usize) -> Written;
+    pub fn zv_bitmap_to_wah(index: In, index_words: usize, k: u32, out: Out, out_words: usize) -> Written;
+    pub fn zv_index_to_ewah(index: In, index_words: usize, out: Out, out_words: usize) -> Written;
+    pub fn zv_index_to_wah(index: In, index_words: usize, out: Out, out_words: usize) -> Written;
     pub fn zv_and(index: In, index_words: usize, j: u32, k: u32, out: Out, out_words: usize) -> Written;
     pub fn zv_or(index: In, index_words: usize, j: u32, k: u32, out: Out, out_words: usize) -> Written;
     pub fn zv_xor(index: In, index_words: usize, j: u32, k: u32, out: Out, out_words: usize) -> Written;

@@ -3,9 +3,10 @@
 use std::error::Error;
 use std::fmt;
 
-use crate::{BadArgument, ENTRY_WORDS, HEAD_WORDS, INDEX_KIND, MOST_BITMAPS, MOST_INDEX_WORDS, MOST_ROWS};
+use crate::{BadArgument, ENTRY_WORDS, HEAD_WORDS, INDEX_KIND, WAH_INDEX_KIND};
+use crate::{MOST_BITMAPS, MOST_INDEX_WORDS, MOST_ROWS};
 
-/// Why a call was refused: a number from 1 to 9, or 11, and where.
+/// Why a call was refused: a number from 1 to 11, and where.
 ///
 /// A body that stands alone is bitmap 0, with places counted in the body. As text it is a sentence:
 ///
@@ -16,6 +17,11 @@ use crate::{BadArgument, ENTRY_WORDS, HEAD_WORDS, INDEX_KIND, MOST_BITMAPS, MOST
 /// let refusal = zvonurel::check_body(&[0x0004_0000, 1], 40).unwrap_err();
 /// assert_eq!(refusal.numbers(), (Refusal::DIRTY_PAST_END, 0, 0));
 /// assert_eq!(refusal.to_string(), "bitmap 0, word 0: the marker's dirty words pass the body's end (refusal 5)");
+///
+/// // in WAH, a fill that counts nothing
+/// let refusal = zvonurel::wah::check_body(&[0x0000_0001, 0x8000_0000], 40).unwrap_err();
+/// assert_eq!(refusal.numbers(), (Refusal::NO_SEGMENTS, 0, 1));
+/// assert_eq!(refusal.to_string(), "bitmap 0, word 1: the fill counts no segments (refusal 10)");
 ///
 /// let refusal = zvonurel::body_row(&[0x0000_0004], 40, 40).unwrap_err();
 /// assert_eq!(refusal.to_string(), "a bad argument: there is no row 40, of 40 counted from 0 (refusal 8)");
@@ -36,7 +42,7 @@ pub struct Refusal {
 impl Refusal {
     /// The index is too short for its head and its contents; `word` is its length.
     pub const TOO_SHORT: u32 = 1;
-    /// Word 0 of the index isn't [`INDEX_KIND`].
+    /// Word 0 of the index is neither [`INDEX_KIND`] nor [`WAH_INDEX_KIND`].
     pub const NOT_AN_INDEX: u32 = 2;
     /// More than [`MOST_INDEX_WORDS`] words (`word` 0), [`MOST_ROWS`] rows (`word` 1) or [`MOST_BITMAPS`] bitmaps (`word` 2).
     pub const TOO_LARGE: u32 = 3;
@@ -45,14 +51,17 @@ impl Refusal {
     pub const BAD_CONTENTS: u32 = 4;
     /// The dirty words of the marker at `word` pass the body's end.
     pub const DIRTY_PAST_END: u32 = 5;
-    /// The marker at `word` counts more segments than are left, or the body ends at `word` with segments missing.
+    /// The marker, the literal or the fill at `word` says more segments than are left, or the body ends at `word` with
+    /// segments missing.
     pub const BAD_COUNT: u32 = 6;
-    /// The dirty word, or plain word, at `word` sets a bit behind the last row.
+    /// The dirty word, literal or plain word at `word` sets a bit behind the last row.
     pub const PAD_BIT: u32 = 7;
     /// A bad argument; `argument` says which.
     pub const BAD_ARGUMENT: u32 = 8;
     /// The answer doesn't fit into the buffer; `word` is how many words it has.
     pub const NO_ROOM: u32 = 9;
+    /// The fill at `word`, of a body in WAH, counts no segments.
+    pub const NO_SEGMENTS: u32 = 10;
     /// Bitmap `bitmap`, a slice of a column, has row `word`, which does not exist in that column.
     pub const STRAY_ROW: u32 = 11;
 
@@ -68,7 +77,9 @@ impl fmt::Display for Refusal {
         let Refusal { number, bitmap, word, argument } = *self;
         match number {
             Refusal::TOO_SHORT => write!(f, "the index has {word} words, too few for its head and its contents")?,
-            Refusal::NOT_AN_INDEX => write!(f, "word 0 is not {INDEX_KIND}, so this is no index")?,
+            Refusal::NOT_AN_INDEX => {
+                write!(f, "word 0 is neither {INDEX_KIND} nor {WAH_INDEX_KIND}, so this is no index")?
+            }
             Refusal::TOO_LARGE => match word {
                 0 => write!(f, "the index has more than {MOST_INDEX_WORDS} words")?,
                 1 => write!(f, "there are more than {MOST_ROWS} rows")?,
@@ -80,7 +91,7 @@ impl fmt::Display for Refusal {
             }
             Refusal::BAD_COUNT => write!(
                 f,
-                "bitmap {bitmap}, word {word}: the marker counts more segments than are left, or the body ends here \
+                "bitmap {bitmap}, word {word}: this word says more segments than are left, or the body ends here \
                  with segments missing"
             )?,
             Refusal::PAD_BIT => write!(f, "bitmap {bitmap}, word {word}: a bit behind the last row is set")?,
@@ -89,6 +100,7 @@ impl fmt::Display for Refusal {
                 None => write!(f, "a bad argument")?,
             },
             Refusal::NO_ROOM => write!(f, "the buffer is too short for an answer of {word} words")?,
+            Refusal::NO_SEGMENTS => write!(f, "bitmap {bitmap}, word {word}: the fill counts no segments")?,
             Refusal::STRAY_ROW => {
                 write!(f, "bitmap {bitmap}: this slice has row {word}, which is not in the existence bitmap")?
             }

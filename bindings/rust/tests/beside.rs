@@ -80,12 +80,33 @@ fn listing_and_nth() {
     }
 }
 
+/// In WAH the same rows and spells are listed, also over the ends of its segments.
+#[test]
+fn wah_listings() {
+    let body = [0x20, 0, 0x4, 0];
+    let mut listed = wah::set_rows(&body, 96).unwrap();
+    assert_eq!((listed.size_hint(), listed.clone().count()), ((2, Some(2)), 2));
+    assert_eq!((listed.next(), listed.next()), (Some(5), Some(64)));
+    assert_eq!((listed.len(), listed.next(), listed.next()), (0, None, None));
+    let mut told = wah::spells(&[0x4000_0000, 0xC000_0001, 0x3], 93).unwrap();
+    assert_eq!(told.next(), Some(Spell { first: 30, length: 34 }));
+    assert_eq!((told.next(), told.next()), (None, None));
+    for rows in [62, 40, 32] {
+        let mut all = wah::spells(&[0xC000_0002], rows).unwrap();
+        assert_eq!((all.next(), all.next()), (Some(Spell { first: 0, length: rows }), None));
+        assert!(wah::set_rows(&[0xC000_0002], rows).unwrap().eq(0..rows));
+    }
+}
+
 /// A wrong body, or too many rows, are refused as by the calls.
 #[test]
 fn listings_refuse() {
     assert_eq!(set_rows(&[0x20003, 0x100], 40).unwrap_err().numbers(), (Refusal::PAD_BIT, 0, 1));
     assert_eq!(spells(&[0x2], 40).unwrap_err().numbers(), (Refusal::BAD_COUNT, 0, 1));
     assert_eq!(set_rows(&[], u32::MAX).unwrap_err().numbers(), (Refusal::TOO_LARGE, 0, 1));
+    assert_eq!(wah::set_rows(&[0x1, 0x8000_0000], 40).unwrap_err().numbers(), (Refusal::NO_SEGMENTS, 0, 1));
+    assert_eq!(wah::spells(&[0x1], 40).unwrap_err().numbers(), (Refusal::BAD_COUNT, 0, 1));
+    assert_eq!(wah::set_rows(&[], u32::MAX).unwrap_err().numbers(), (Refusal::TOO_LARGE, 0, 1));
 }
 
 #[test]
@@ -111,18 +132,55 @@ fn sizes() {
     assert_eq!(compress(1_048_576, &vec![1; 32_768], &mut body), Ok(32_770));
 }
 
-/// The C header has the same version and the same numbers.
+/// Those of EWAH are the ones without a format.
+#[test]
+fn sizes_by_format() {
+    for rows in [0, 1, 31, 32, 33, 62, 63, 1_048_544, 1_048_576, MOST_ROWS, u32::MAX] {
+        assert_eq!(Format::Ewah.segments(rows), segments(rows));
+        assert_eq!(Format::Ewah.most_body_words(rows), most_body_words(rows));
+        assert_eq!(Format::Ewah.most_sum_words(rows, 7), most_sum_words(rows, 7));
+        assert_eq!(Format::Ewah.most_new_index_words(rows, 9), most_sum_words(rows, 7));
+        assert_eq!(Format::Wah.segments(rows), Format::Wah.most_body_words(rows));
+        assert_eq!(Format::Wah.most_new_index_words(rows, 34), Format::Wah.most_sum_words(rows, MOST_COLUMN - 1));
+    }
+    let sizes = |rows| {
+        let sums = [LEAST_COLUMN, MOST_COLUMN].map(|numbers| Format::Wah.most_sum_words(rows, numbers - 1));
+        (Format::Wah.most_body_words(rows), sums)
+    };
+    assert_eq!(sizes(0), (0, [9, 71]));
+    assert_eq!(sizes(1), (1, [12, 105]));
+    assert_eq!(sizes(31), (1, [12, 105]));
+    assert_eq!(sizes(32), (2, [15, 139]));
+    assert_eq!(sizes(62), (2, [15, 139]));
+    assert_eq!(sizes(63), (3, [18, 173]));
+    assert_eq!(sizes(1_048_544), (33_824, [101_481, 1_150_087]));
+    assert_eq!(sizes(1_048_576), (33_826, [101_487, 1_150_155]));
+    assert_eq!(sizes(MOST_ROWS), (541_201, [1_623_612, 18_400_905]));
+    assert_eq!(sizes(u32::MAX), (138_547_333, [415_642_008, 4_710_609_393]));
+    let words = [Format::Ewah, Format::Wah].map(|format| (format.index_kind(), format.segment_rows()));
+    assert_eq!(words, [(1, 32), (2, 31)]);
+}
+
+/// What the C header defines a name as.
+fn defined(name: &str) -> &'static str {
+    let header = include_str!("../../../include/zvonurel.h");
+    let line = header.lines().find_map(|line| line.strip_prefix(&format!("#define ZV_{name} ")));
+    line.unwrap_or_else(|| panic!("ZV_{name} is not there"))
+}
+
+fn same_in_header(numbers: &[(&str, usize)]) {
+    for (name, value) in numbers {
+        assert_eq!(defined(name), format!("{value}u"), "ZV_{name}");
+    }
+}
+
+/// The C header has the same version and the same limits.
 #[test]
 fn header() {
-    let header = include_str!("../../../include/zvonurel.h");
-    let defined = |name: &str| {
-        let line = header.lines().find_map(|line| line.strip_prefix(&format!("#define ZV_{name} ")));
-        line.unwrap_or_else(|| panic!("ZV_{name} is not there")).to_string()
-    };
     assert_eq!(defined("VERSION"), format!("{:?}", env!("CARGO_PKG_VERSION")));
     let version = ["MAJOR", "MINOR", "PATCH"].map(|part| defined(&format!("VERSION_{part}")));
     assert_eq!(version.join("."), env!("CARGO_PKG_VERSION"));
-    let same = [
+    same_in_header(&[
         ("MOST_ROWS", MOST_ROWS as usize),
         ("MOST_BITMAPS", MOST_BITMAPS as usize),
         ("MOST_INDEX_WORDS", MOST_INDEX_WORDS),
@@ -131,6 +189,7 @@ fn header() {
         ("MOST_COLUMN", MOST_COLUMN),
         ("MOST_VALUE_COLUMN", MOST_VALUE_COLUMN),
         ("INDEX_KIND", INDEX_KIND as usize),
+        ("WAH_INDEX_KIND", WAH_INDEX_KIND as usize),
         ("HEAD_WORDS", HEAD_WORDS),
         ("ENTRY_WORDS", ENTRY_WORDS),
         ("MOST_CLEAN", MOST_CLEAN),
@@ -138,6 +197,17 @@ fn header() {
         ("CLEAN_SHIFT", CLEAN_SHIFT as usize),
         ("DIRTY_SHIFT", DIRTY_SHIFT as usize),
         ("WORD_BITS", WORD_BITS),
+        ("WAH_SEGMENT_ROWS", WAH_SEGMENT_ROWS),
+        ("WAH_FILL_SHIFT", WAH_FILL_SHIFT as usize),
+        ("WAH_VALUE_SHIFT", WAH_VALUE_SHIFT as usize),
+        ("WAH_MOST_FILL", WAH_MOST_FILL),
+    ]);
+}
+
+/// And the same numbers of refusal.
+#[test]
+fn header_refusals() {
+    same_in_header(&[
         ("TOO_SHORT", Refusal::TOO_SHORT as usize),
         ("NOT_AN_INDEX", Refusal::NOT_AN_INDEX as usize),
         ("TOO_LARGE", Refusal::TOO_LARGE as usize),
@@ -147,11 +217,9 @@ fn header() {
         ("PAD_BIT", Refusal::PAD_BIT as usize),
         ("BAD_ARGUMENT", Refusal::BAD_ARGUMENT as usize),
         ("NO_ROOM", Refusal::NO_ROOM as usize),
+        ("NO_SEGMENTS", Refusal::NO_SEGMENTS as usize),
         ("STRAY_ROW", Refusal::STRAY_ROW as usize),
-    ];
-    for (name, value) in same {
-        assert_eq!(defined(name), format!("{value}u"), "ZV_{name}");
-    }
+    ]);
 }
 
 #[test]
@@ -170,6 +238,32 @@ fn builder() {
     let index = builder.build().unwrap();
     let want = [1, 40, 3, 9, 3, 12, 1, 13, 3, 0x40000, 0x1, 0x80, 0x5, 0x40000, 0x1, 0x80];
     assert_eq!(index, want);
+}
+
+#[test]
+fn wah_builder() {
+    let mut builder = IndexBuilder::with_format(40, Format::Wah);
+    assert_eq!(builder.add_body(&[0x8000_0001, 0x0]), Ok(0)); // wasteful, and kept so
+    assert_eq!(builder.add_plain(&[!0, 0xFF]), Ok(1));
+    assert_eq!(builder.add_rows([39, 0, 39]), Ok(2));
+    // what is refused adds nothing
+    assert_eq!(builder.add_body(&[0x8000_0000]).unwrap_err().numbers(), (Refusal::NO_SEGMENTS, 0, 0));
+    assert_eq!(builder.add_body(&[0x1, 0x200]).unwrap_err().numbers(), (Refusal::PAD_BIT, 0, 1));
+    assert_eq!(builder.add_body(&[0x40000, 0x1, 0x80]).unwrap_err().numbers(), (Refusal::BAD_COUNT, 0, 2));
+    assert_eq!(builder.add_plain(&[0, 0x100]).unwrap_err().numbers(), (Refusal::PAD_BIT, 0, 1));
+    assert_eq!(builder.add_plain(&[0]).unwrap_err().numbers(), (Refusal::BAD_ARGUMENT, 0, 0));
+    let refusal = builder.add_rows([0, 40]).unwrap_err();
+    assert_eq!(refusal.argument, Some(BadArgument::Row { row: 40, rows: 40 }));
+    let index = builder.build().unwrap();
+    assert_eq!(index, [2, 40, 3, 9, 2, 11, 1, 12, 2, 0x8000_0001, 0x0, 0xC000_0002, 0x1, 0x100]);
+    assert_eq!(wah::index_of(40, &[&index[9..11], &index[11..12], &index[12..]]), index);
+
+    let mut columns = IndexBuilder::with_format(3, Format::Wah);
+    assert_eq!(columns.add_column(&[Some(3), None, Some(2)], 2), Ok(vec![0, 1, 2]));
+    assert_eq!(columns.build(), Ok(vec![2, 3, 3, 9, 1, 10, 1, 11, 1, 0b101, 0b001, 0b101]));
+    assert_eq!(IndexBuilder::with_format(7, Format::Wah).build(), Ok(vec![2, 7, 0]));
+    let mut long = IndexBuilder::with_format(MOST_ROWS + 1, Format::Wah);
+    assert_eq!(long.add_rows([]).unwrap_err().numbers(), (Refusal::TOO_LARGE, 0, 1));
 }
 
 #[test]

@@ -138,7 +138,7 @@ fn bad_arguments() {
 /// Both are refused for the index's own fault, whatever the lists are.
 #[test]
 fn bad_indexes() {
-    let faults = [(0, 2), (1, MOST_ROWS + 1), (2, MOST_BITMAPS + 1), (5, 12), (8, 3), (8, 1)];
+    let faults = [(0, 3), (1, MOST_ROWS + 1), (2, MOST_BITMAPS + 1), (5, 12), (8, 3), (8, 1)];
     for (place, word) in faults.into_iter().chain([(11, 0x40000), (11, 0x20002), (12, 0x1E)]) {
         let index = shared::changed(place, word);
         let fault = check(&index).unwrap_err();

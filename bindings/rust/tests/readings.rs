@@ -1,8 +1,10 @@
 //! Every call, on an index of four rows, one of eight and others, a refusal of each number, and each limit.
 
+#[path = "shared/calls.rs"]
+mod calls;
 mod shared;
 
-use shared::{no_room, said, told, writes, BAD, LOOPED, UNTOUCHED};
+use shared::{no_room, said, told, writes, BAD, LOOPED};
 use zvonurel::*;
 
 const EIGHT: [u32; 11] = [1, 8, 2, 7, 2, 9, 2, 0x20000, 0x32, 0x20000, 0xB0];
@@ -76,40 +78,20 @@ fn one_index() {
     writes(&[0xE], |out| expand_bitmap(&LOOPED, 1, out));
 }
 
-/// What each question on the index is refused with.
-fn refused_by_all(index: &[u32]) -> [Option<Refusal>; 14] {
-    let mut out = [UNTOUCHED; HISTOGRAM_COUNTS];
-    let all = [
-        bitmap_refusal(index, 0),
-        bitmap(index, 0).err(),
-        row(index, 0, 0).err(),
-        count(index, 0).err(),
-        nth(index, 0, 0).err(),
-        expand_bitmap(index, 0, &mut out).err(),
-        and(index, 0, 1, &mut out).err(),
-        or(index, 0, 1, &mut out).err(),
-        xor(index, 0, 1, &mut out).err(),
-        and_not(index, 0, 1, &mut out).err(),
-        not(index, 0, &mut out).err(),
-        threshold(index, &ALL, 2, &mut out).err(),
-        symmetric(index, &ALL, &[0, 1, 0, 0], &mut out).err(),
-        histogram(index, &ALL).err(),
-    ];
-    assert_eq!(out, [UNTOUCHED; HISTOGRAM_COUNTS]);
-    all
-}
-
 #[test]
 fn bad_indexes() {
     let changed = |place: usize, value: u32| {
         let index = shared::changed(place, value);
         let told = check(&index).unwrap_err();
-        assert!(refused_by_all(&index).iter().all(|r| *r == Some(told)));
+        assert!(calls::refused_by_all(&index).iter().all(|r| *r == Some(told)));
         told.numbers()
     };
     assert_eq!(told(check(&[])), Err((1, 0, 0)));
     assert_eq!(told(check(&LOOPED[..8])), Err((1, 0, 8)));
-    assert_eq!(changed(0, 2), (2, 0, 0));
+    assert_eq!(changed(0, 0), (2, 0, 0));
+    assert_eq!(changed(0, 3), (2, 0, 0));
+    // as WAH the first body begins with a literal that sets row 17 of 4
+    assert_eq!(changed(0, 2), (7, 0, 9));
     assert_eq!(changed(1, MOST_ROWS + 1), (3, 0, 1));
     assert_eq!(changed(2, MOST_BITMAPS + 1), (3, 0, 2));
     assert_eq!(changed(5, 12), (4, 1, 5));
@@ -197,7 +179,7 @@ fn sentences() {
         check(&LOOPED[..8]).unwrap_err().to_string(),
         "the index has 8 words, too few for its head and its contents (refusal 1)"
     );
-    assert_eq!(changed(0, 2), "word 0 is not 1, so this is no index (refusal 2)");
+    assert_eq!(changed(0, 3), "word 0 is neither 1 nor 2, so this is no index (refusal 2)");
     assert_eq!(changed(1, MOST_ROWS + 1), "there are more than 16777216 rows (refusal 3)");
     assert_eq!(changed(2, MOST_BITMAPS + 1), "there are more than 64 bitmaps (refusal 3)");
     let first = "word 3: bitmap 0 has the wrong start, or there is no bitmap and the index goes on (refusal 4)";
@@ -212,7 +194,7 @@ fn sentences() {
     assert_eq!(changed(8, 3), "bitmap 2, word 8: this length passes the index's end (refusal 4)");
     assert_eq!(changed(8, 1), "word 14: the last body ends here, and the index goes on (refusal 4)");
     assert_eq!(changed(11, 0x40000), "bitmap 1, word 11: the marker's dirty words pass the body's end (refusal 5)");
-    let count = "the marker counts more segments than are left, or the body ends here with segments missing";
+    let count = "this word says more segments than are left, or the body ends here with segments missing";
     assert_eq!(changed(11, 0x20002), format!("bitmap 1, word 11: {count} (refusal 6)"));
     assert_eq!(changed(12, 0x1E), "bitmap 1, word 12: a bit behind the last row is set (refusal 7)");
     let room = and(&LOOPED, 0, 1, &mut []).unwrap_err().to_string();

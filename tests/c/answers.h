@@ -1,0 +1,178 @@
+/*
+ * What the tests of the calls share: a buffer, comparisons of whole answers with it, the questions on a
+ * bitmap, and every call on an index that is wrong.
+ */
+#ifndef ZVONUREL_TESTS_ANSWERS_H
+#define ZVONUREL_TESTS_ANSWERS_H
+
+#include "zvonurel.h"
+
+#include "shared.h"
+
+#define FINE(a) refusal(HERE, (a).number, (a).bitmap, (a).word, 0, 0, 0)
+#define REFUSED(a, n, b, w) refusal(HERE, (a).number, (a).bitmap, (a).word, n, b, w)
+
+#define UNTOUCHED 0x77777777u
+
+static const uint32_t three[] = {0, 1, 2};
+static const uint32_t zeros[ZV_HISTOGRAM_COUNTS];
+/* what the calls write to: longer than any answer of these tests */
+static uint32_t out[ZV_MOST_SUM_WORDS(8u, ZV_MOST_COLUMN - 1u) + 1u];
+
+static inline void refusal(source at, uint32_t number, uint32_t bitmap, uint64_t word, uint32_t n, uint32_t b,
+                           uint64_t w)
+{
+    same(at, "number", number, n);
+    same(at, "bitmap", bitmap, b);
+    same(at, "word", word, w);
+}
+
+static inline void clear(void)
+{
+    for (size_t i = 0; i < sizeof(out) / sizeof(out[0]); i++) {
+        out[i] = UNTOUCHED;
+    }
+}
+
+/* the buffer begins with these words, and the rest is as `clear` left it */
+static inline void buffer(source at, const uint32_t *want, size_t words)
+{
+    for (size_t i = 0; i < sizeof(out) / sizeof(out[0]); i++) {
+        same(at, "a word of the buffer", out[i], i < words ? want[i] : UNTOUCHED);
+    }
+}
+
+static inline void wrote(source at, zv_written got, const uint32_t *want, size_t words)
+{
+    refusal(at, got.number, got.bitmap, got.word, 0, 0, 0);
+    same(at, "words", got.words, words);
+    buffer(at, want, words);
+    clear();
+}
+
+static inline void not_written(source at, zv_written got, uint32_t n, uint32_t b, uint64_t w)
+{
+    refusal(at, got.number, got.bitmap, got.word, n, b, w);
+    same(at, "words", got.words, 0);
+    buffer(at, out, 0);
+}
+
+static inline void answered(source at, zv_answered got, const uint32_t *want, size_t words, uint32_t stretches)
+{
+    refusal(at, got.number, got.bitmap, got.word, 0, 0, 0);
+    same(at, "words", got.words, words);
+    same(at, "stretches", got.stretches, stretches);
+    buffer(at, want, words);
+    clear();
+}
+
+static inline void not_answered(source at, zv_answered got, uint32_t n, uint32_t b, uint64_t w)
+{
+    refusal(at, got.number, got.bitmap, got.word, n, b, w);
+    same(at, "words", got.words, 0);
+    same(at, "stretches", got.stretches, 0);
+    buffer(at, out, 0);
+}
+
+static inline void counted(source at, zv_histogram_counts got, const uint32_t *want, uint32_t n, uint32_t b,
+                           uint64_t w)
+{
+    refusal(at, got.number, got.bitmap, got.word, n, b, w);
+    for (size_t c = 0; c < ZV_HISTOGRAM_COUNTS; c++) {
+        same(at, "count", got.counts[c], want[c]);
+    }
+}
+
+static inline void valued(source at, zv_column_value got, uint64_t want, uint32_t n, uint32_t b, uint64_t w)
+{
+    refusal(at, got.number, got.bitmap, got.word, n, b, w);
+    same(at, "value", got.value, want);
+}
+
+#define VALUED(got, want, n, b, w) valued(HERE, got, want, n, b, w)
+#define COUNTED(got, want, n, b, w) counted(HERE, got, want, n, b, w)
+#define WROTE(got, want) wrote(HERE, got, WORDS(want))
+#define NOT_WRITTEN(got, n, b, w) not_written(HERE, got, n, b, w)
+#define ANSWERED(got, want, stretches) answered(HERE, got, WORDS(want), stretches)
+#define NOT_ANSWERED(got, n, b, w) not_answered(HERE, got, n, b, w)
+
+/* every question on an index is refused for the index's own fault */
+static inline void every_index_call(const uint32_t *index, size_t words, uint32_t n, uint32_t b, uint64_t w)
+{
+    static const uint32_t table[] = {0, 1, 0, 0};
+
+    REFUSED(zv_check(index, words), n, b, w);
+    REFUSED(zv_bitmap_refusal(index, words, 0), n, b, w);
+    REFUSED(zv_bitmap(index, words, 0), n, b, w);
+    REFUSED(zv_row(index, words, 0, 0), n, b, w);
+    REFUSED(zv_count(index, words, 0), n, b, w);
+    REFUSED(zv_nth(index, words, 0, 0), n, b, w);
+    NOT_WRITTEN(zv_expand_bitmap(index, words, 0, WORDS(out)), n, b, w);
+    NOT_WRITTEN(zv_bitmap_to_ewah(index, words, 0, WORDS(out)), n, b, w);
+    NOT_WRITTEN(zv_bitmap_to_wah(index, words, 0, WORDS(out)), n, b, w);
+    NOT_WRITTEN(zv_index_to_ewah(index, words, WORDS(out)), n, b, w);
+    NOT_WRITTEN(zv_index_to_wah(index, words, WORDS(out)), n, b, w);
+    NOT_WRITTEN(zv_and(index, words, 0, 1, WORDS(out)), n, b, w);
+    NOT_WRITTEN(zv_or(index, words, 0, 1, WORDS(out)), n, b, w);
+    NOT_WRITTEN(zv_xor(index, words, 0, 1, WORDS(out)), n, b, w);
+    NOT_WRITTEN(zv_and_not(index, words, 0, 1, WORDS(out)), n, b, w);
+    NOT_WRITTEN(zv_not(index, words, 0, WORDS(out)), n, b, w);
+    NOT_ANSWERED(zv_threshold(index, words, WORDS(three), 2, WORDS(out)), n, b, w);
+    NOT_ANSWERED(zv_symmetric(index, words, WORDS(three), WORDS(table), WORDS(out)), n, b, w);
+    COUNTED(zv_histogram(index, words, WORDS(three)), zeros, n, b, w);
+    VALUED(zv_value(index, words, WORDS(three), 0), 0, n, b, w);
+    NOT_WRITTEN(zv_sum(index, words, WORDS(three), WORDS(three), WORDS(out)), n, b, w);
+}
+
+/* the questions on a bitmap of LOOPED, which has the same rows in either format: bitmap 1 begins at `start` */
+static inline void one_bitmap(const uint32_t *index, size_t words, uint64_t start, uint64_t length)
+{
+    static const uint32_t plain[] = {0xE};
+    zv_part part = zv_bitmap(index, words, 1);
+
+    FINE(zv_check(index, words));
+    FINE(zv_bitmap_refusal(index, words, 2));
+    REFUSED(zv_bitmap_refusal(index, words, 3), ZV_BAD_ARGUMENT, 0, 0);
+    FINE(part);
+    SAME("the start", part.start, start);
+    SAME("the length", part.length, length);
+    part = zv_bitmap(index, words, 3);
+    REFUSED(part, ZV_BAD_ARGUMENT, 0, 0);
+    SAME("a refused start", part.start, 0);
+    SAME("a refused length", part.length, 0);
+
+    FINE(zv_row(index, words, 0, 1));
+    SAME("row 1 of 0", zv_row(index, words, 0, 1).value, 1);
+    SAME("row 2 of 0", zv_row(index, words, 0, 2).value, 0);
+    REFUSED(zv_row(index, words, 0, 4), ZV_BAD_ARGUMENT, 0, 0);
+    FINE(zv_count(index, words, 1));
+    SAME("the count of 1", zv_count(index, words, 1).value, 3);
+    FINE(zv_nth(index, words, 1, 2));
+    SAME("set row 2 of 1", zv_nth(index, words, 1, 2).value, 3);
+    REFUSED(zv_nth(index, words, 1, 3), ZV_BAD_ARGUMENT, 0, 0);
+    WROTE(zv_expand_bitmap(index, words, 1, WORDS(out)), plain);
+    NOT_WRITTEN(zv_expand_bitmap(index, words, 1, out, 0), ZV_NO_ROOM, 0, 1);
+}
+
+/* a fault of an index: one word of it changed, or its length, and what every call says of it */
+typedef struct {
+    uint32_t place, value;
+    size_t words;
+    uint32_t number, bitmap, word;
+} fault;
+
+/* each fault by itself, in a copy of a sound index of at most 15 words */
+static inline void every_fault(const uint32_t *sound, size_t words, const fault *faults, size_t count)
+{
+    uint32_t index[15];
+
+    for (size_t i = 0; i < count; i++) {
+        for (size_t j = 0; j < words; j++) {
+            index[j] = sound[j];
+        }
+        index[faults[i].place] = faults[i].value;
+        every_index_call(index, faults[i].words, faults[i].number, faults[i].bitmap, faults[i].word);
+    }
+}
+
+#endif
