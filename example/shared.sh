@@ -22,13 +22,50 @@ help_first() {
     done
 }
 
-check_log() {
+# A file that should be `a log` or `an archive`.
+check_file() {
     [ -e "$1" ] || refuse "$1: there is no such file: mend its name or its folder."
-    [ ! -d "$1" ] || refuse "$1: this is a folder: name a log in it."
+    [ ! -d "$1" ] || refuse "$1: this is a folder: name $2 in it."
     [ -r "$1" ] || refuse "$1: you may not read this file: ask its owner to allow it."
 }
 
-# Standard input is left to the demo, whose log may be that. The archive that was just proved is linked, and the demo
+check_colours() {
+    local colours=$1 rest=$1+ part seen=+
+    while [ -n "$rest" ]; do
+        part=${rest%%+*}
+        rest=${rest#*+}
+        case $part in
+        '') refuse "A colour is missing in \`$colours\`: join green, amber and red by +, as amber+red." ;;
+        green | amber | red) ;;
+        *) refuse "\`$part\` is no colour: ask for green, amber or red, or for several, as amber+red." ;;
+        esac
+        [[ $seen != *"+$part+"* ]] || refuse "\`$part\` is named twice: name each colour once."
+        seen+=$part+
+    done
+}
+
+# The number of the line `tanks N`, if so many lines of tanks are there. Of another log, or of one that can be read but
+# once, the demo judges.
+tanks_of() {
+    [ ! -f "$1" ] || LC_ALL=C awk '
+        NR == 1 { sub(/^\xEF\xBB\xBF/, "") }
+        { sub(/\r$/, "") }
+        /^[ \t]*tanks[ \t]+([1-9]|1[0-9]|2[01])[ \t]*$/ { said = $2 + 0; heads++; next }
+        /^[ \t]*(#|$|tanks|from)/ { next }
+        { there++ }
+        END { if (heads == 1 && there == said) print said }' <"$1"
+}
+
+check_threshold() {
+    local t=$1 tanks=$2 n
+    for ((n = 1; n <= tanks; n++)); do
+        [ "$t" != "$n" ] || return 0
+    done
+    [ "$tanks" != 1 ] || refuse "There is 1 tank, so ask for 1."
+    refuse "There are $tanks tanks, so ask for 1 to $tanks."
+}
+
+# Standard input is left to the demo, whose log may be that. The library that was just proved is linked, and the demo
 # lands in $commands, whatever the caller has set.
 build_demo() {
     command -v cargo >/dev/null || refuse "There is no cargo, which builds the demo: install Rust."

@@ -16,7 +16,7 @@ pub enum Colour {
 impl Colour {
     pub const ALL: [Colour; 3] = [Colour::Green, Colour::Amber, Colour::Red];
 
-    fn name(self) -> &'static str {
+    pub fn name(self) -> &'static str {
         match self {
             Colour::Green => "green",
             Colour::Amber => "amber",

@@ -2,6 +2,7 @@
 //!
 //! A question is answered whole, on standard output, or refused with a sentence on the error stream.
 
+pub mod archive;
 mod calendar;
 mod colour;
 mod columns;

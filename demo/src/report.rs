@@ -3,22 +3,55 @@
 use std::ffi::{OsStr, OsString};
 use std::path::Path;
 
+use zvonurel::Format;
+
 use crate::colour::{self, Colour};
-use crate::index::{told, Asked};
+use crate::index::{bitmaps, told, Answer, Asked};
 use crate::log::{Entry, Log};
 use crate::number::{count, from_one_to};
 use crate::{draw, file, program};
 
+/// A log, and what is asked of it.
+pub struct Question {
+    pub log: Log<Colour>,
+    pub colours: Vec<Colour>,
+    pub t: usize,
+}
+
 pub fn report(log: &OsStr, colours: &OsStr, t: &OsStr, program: Option<&OsString>) -> Result<String, String> {
-    let colours = colour::asked(&colours.to_string_lossy())?;
-    let log = file::read(Path::new(log))?;
-    let t = threshold(&t.to_string_lossy(), log.tanks.len())?;
-    let asked = Asked::new(&log, &colours, t).map_err(told)?;
+    let question = Question::read(log, colours, t)?;
+    let asked = question.of_log()?;
     let answer = asked.answer().map_err(told)?;
-    let compared = program.map_or(Ok(String::new()), |program| program::compare(program, &asked, &answer))?;
-    let (read, counted) = (read_line(&log), counted_line(log.tanks.len(), &colours, t));
-    let (picture, spells) = (draw::picture(log.span(), &answer.rows), draw::spells(log.span(), &answer.spells));
-    Ok(format!("{read}\n{counted}\n\n{picture}\n{spells}{compared}"))
+    let compared = compared(program, &asked, &answer)?;
+    Ok(question.drawn(&answer) + &compared)
+}
+
+/// What the program says to it, where one is named.
+pub fn compared(program: Option<&OsString>, asked: &Asked, answer: &Answer) -> Result<String, String> {
+    program.map_or(Ok(String::new()), |program| program::compare(program, asked, answer))
+}
+
+impl Question {
+    pub fn read(log: &OsStr, colours: &OsStr, t: &OsStr) -> Result<Question, String> {
+        let colours = colour::asked(&colours.to_string_lossy())?;
+        let log: Log<Colour> = file::read(Path::new(log))?;
+        let t = threshold(&t.to_string_lossy(), log.tanks.len())?;
+        Ok(Question { log, colours, t })
+    }
+
+    /// The question to an index of the log itself.
+    pub fn of_log(&self) -> Result<Asked, String> {
+        let index = bitmaps(&self.log, Format::Ewah).map_err(told)?;
+        Ok(Asked::new(Format::Ewah, index, &self.colours, self.t))
+    }
+
+    /// What was asked, and the answer as a picture and in spells.
+    pub fn drawn(&self, answer: &Answer) -> String {
+        let span = self.log.span();
+        let (read, counted) = (read_line(&self.log), counted_line(self.log.tanks.len(), &self.colours, self.t));
+        let (picture, spells) = (draw::picture(span, &answer.rows), draw::spells(span, &answer.spells));
+        format!("{read}\n{counted}\n\n{picture}\n{spells}")
+    }
 }
 
 /// T, which the library would let pass up to the length of the list, and that has several bitmaps of each tank.

@@ -1,5 +1,5 @@
-//! The scripts `example/run` and `example/ammonia`: what they refuse before anything is built, and what they print
-//! where all was built.
+//! The scripts `example/run`, `example/ammonia` and `example/archive`: what they refuse before anything is built, and
+//! what they print where all was built.
 
 mod common;
 #[path = "common/mock.rs"]
@@ -10,7 +10,7 @@ use std::os::unix::fs::symlink;
 use std::path::Path;
 use std::process::Command;
 
-use common::{log_text, readings_text, repository, run, Folder, Told, AMMONIA, TANKS};
+use common::{log_text, readings_text, repository, run, Folder, Told, AMMONIA, ARCHIVE, TANKS};
 use mock::Mock;
 
 fn unbuilt(folder: &Folder, arguments: &[&str]) -> Told {
@@ -101,6 +101,29 @@ fn a_wrong_time_is_refused_in_the_words_of_the_demo() {
 }
 
 #[test]
+fn a_wrong_question_to_an_archive_is_refused_in_the_words_of_the_demo() {
+    let folder = Folder::new();
+    folder.write("old.wah", fs::read(repository("example/archive.wah")).expect("the archive"));
+    folder.write("week.txt", fs::read(repository("example/week.txt")).expect("the week"));
+    for arguments in [
+        ["old.wah", "week.txt", "blue", "13"],
+        ["none.wah", "none.txt", "red+red", "5"],
+        ["none.wah", "none.txt", "red", "5"],
+        ["none.wah", ".", "red", "5"],
+        ["none.wah", "week.txt", "red", "13"],
+        ["none.wah", "week.txt", "red", "5"],
+        ["none/old.wah", "week.txt", "red", "5"],
+        ["old.wah/old", "week.txt", "red", "5"],
+        [".", "week.txt", "red", "5"],
+        ["", "week.txt", "red", "5"],
+    ] {
+        refused_alike(&folder, "example/archive", ARCHIVE, &arguments);
+    }
+    let usage = "Usage: example/archive [ARCHIVE [LOG [COLOURS [T]]]].";
+    unbuilt_script(&folder, "example/archive", &["old.wah", "week.txt", "red", "5", "more"]).refused(usage);
+}
+
+#[test]
 fn wrong_arguments_beside_those_of_the_week() {
     let folder = Folder::new();
     let week = repository("example/week.txt");
@@ -127,6 +150,8 @@ fn help_builds_nothing() {
         assert!(out.starts_with("Usage: example/run [LOG [COLOURS [T]]].\n"), "{out}");
         let out = unbuilt_script(&folder, "example/ammonia", arguments).answered();
         assert!(out.starts_with("Usage: example/ammonia [LOG [DATE TIME [FIRST SECOND]]].\n"), "{out}");
+        let out = unbuilt_script(&folder, "example/archive", arguments).answered();
+        assert!(out.starts_with("Usage: example/archive [ARCHIVE [LOG [COLOURS [T]]]].\n"), "{out}");
     }
 }
 
@@ -143,6 +168,9 @@ fn what_is_right_is_built() {
         ("example/ammonia", &["log.txt"]),
         ("example/ammonia", &["log.txt", "2024-02-29", "23:30"]),
         ("example/ammonia", &["log.txt", "0001-01-01", "00:00", "tank 1", "tank 2"]),
+        ("example/archive", &[]),
+        // whether it is an archive is told by the demo
+        ("example/archive", &["log.txt", "log.txt", "red", "2"]),
         // what can't be seen is shown by the demo
         ("example/ammonia", &["log.txt", "2026-03-09\u{200b}", "00:00"]),
     ] {
@@ -207,6 +235,30 @@ fn readings_stand_alone_on_standard_output() {
     let told = run(mock.command("sh").args(["-c", piped, "sh"]).arg(&week).arg(&script));
     assert_eq!((told.status, told.out.as_str()), (Some(0), expected.as_str()), "{}", told.err);
     let told = run(mock.command(&script).arg(&week).args(["2026-03-16", "00:00"]));
+    assert!(told.status == Some(1) && told.out.is_empty() && told.err.ends_with("Nothing was answered.\n"), "{told:?}");
+}
+
+/// The answer to an archive is that to its log, with more before and behind it.
+#[test]
+fn an_archive_stands_alone_on_standard_output() {
+    let mock = Mock::new();
+    listing(&mock);
+    let whole = fs::read_to_string(repository("example/archive-amber-red-5.txt")).expect("the expected answer");
+    let told = run(mock.command(mock.path("example/archive")).env("ZVONUREL_LIB", "elsewhere"));
+    assert_eq!((told.status, told.out.as_str()), (Some(0), whole.as_str()), "{}", told.err);
+    let log = "The log, put into EWAH, lists the same 95 half hours.\n";
+    let drawn = expected().replace("The program", &format!("{log}The program"));
+    assert!(whole.contains(&format!("\n{drawn}\n")), "{whole}");
+    for (name, copy) in [("archive.wah", "my old.wah"), ("week.txt", "my week.txt")] {
+        let bytes = fs::read(mock.path(&format!("example/{name}"))).expect(name);
+        mock.folder.write(&format!("else where/{copy}"), bytes);
+    }
+    let mut command = mock.command(mock.path("example/archive"));
+    command.args(["my old.wah", "my week.txt", "amber+red", "5"]).current_dir(mock.path("else where"));
+    let told = run(&mut command);
+    assert_eq!((told.status, told.out.as_str()), (Some(0), whole.as_str()), "{}", told.err);
+    mock.folder.write("else where/my old.wah", "cut off");
+    let told = run(&mut command);
     assert!(told.status == Some(1) && told.out.is_empty() && told.err.ends_with("Nothing was answered.\n"), "{told:?}");
 }
 

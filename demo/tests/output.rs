@@ -7,7 +7,7 @@ use std::os::fd::OwnedFd;
 use std::os::unix::net::UnixStream;
 use std::process::{Command, Stdio};
 
-use common::{ammonia, repository, run, tanks, TANKS};
+use common::{ammonia, archive, repository, run, tanks, TANKS};
 
 fn week() -> Command {
     let mut command = Command::new(TANKS);
@@ -26,6 +26,15 @@ fn help_is_no_fault() {
         let out = ammonia(arguments).answered();
         assert!(out.starts_with("Usage: ammonia LOG [DATE TIME [FIRST SECOND]].\n"), "{out}");
         assert!(["LOG", "DATE TIME", "FIRST SECOND"].iter().all(|word| out.contains(&format!("\n  {word}"))), "{out}");
+    }
+    for arguments in [&["-h"][..], &["--help"], &["--make", "-h"], &["x", "x", "x", "x", "x", "x", "x", "--help"]] {
+        let out = archive(arguments).answered();
+        assert!(
+            out.starts_with("Usage: archive ARCHIVE LOG COLOURS T [--program PROGRAM], or archive --make"),
+            "{out}"
+        );
+        let words = ["ARCHIVE", "LOG", "COLOURS", "T ", "PROGRAM"];
+        assert!(words.iter().all(|word| out.contains(&format!("\n  {word}"))), "{out}");
     }
 }
 

@@ -6,7 +6,7 @@ use std::ffi::OsStr;
 use std::fs;
 use std::path::{Path, PathBuf};
 
-use common::{log_text, repository, tanks, Folder, Told};
+use common::{archive, log_text, repository, tanks, Folder, Told};
 
 /// Two tanks; amber or red together at half hours 1, 2, 35 and 39 of 40.
 fn small_log(folder: &Folder) -> PathBuf {
@@ -186,4 +186,24 @@ fn the_program_itself_agrees() {
     let log = folder.write("log.txt", log_text("2026-03-02 00:00", &letters));
     let told = asked(&log, "amber", "4", &program).answered();
     assert!(told.ends_with("\nThe program lists the same 65,472 half hours.\n"));
+}
+
+/// It takes an index in WAH as it takes one in EWAH.
+#[test]
+fn the_program_itself_agrees_with_an_archive() {
+    let [old, week, program] = ["example/archive.wah", "example/week.txt", "target/bin/threshold"]
+        .map(|name| repository(name).into_os_string());
+    let asked = |colours: &str, t: usize| {
+        let t = t.to_string();
+        let [colours, t, option] = [colours, &t, "--program"].map(OsStr::new);
+        archive(&[&old, &week, colours, t, option, &program]).answered()
+    };
+    let expected = repository("example/archive-amber-red-5.txt");
+    assert_eq!(asked("amber+red", 5), fs::read_to_string(expected).expect("the expected answer"));
+    for colours in ["green", "amber", "red", "green+amber+red"] {
+        for t in 1..=12 {
+            let told = asked(colours, t);
+            assert!(told.contains("\nThe program lists "), "{told}");
+        }
+    }
 }

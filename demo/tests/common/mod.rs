@@ -9,9 +9,10 @@ use std::process::{Command, Output};
 use std::sync::atomic::{AtomicUsize, Ordering};
 use std::{env, fs, process};
 
-/// The demo: its command on colours, and that on readings.
+/// The demo: its command on colours, that on readings, and that on an old archive.
 pub const TANKS: &str = env!("CARGO_BIN_EXE_tanks");
 pub const AMMONIA: &str = env!("CARGO_BIN_EXE_ammonia");
+pub const ARCHIVE: &str = env!("CARGO_BIN_EXE_archive");
 
 /// What every refusal ends with.
 pub const REFUSED: &str = "Nothing was answered.\n";
@@ -117,4 +118,8 @@ pub fn tanks<S: AsRef<OsStr>>(arguments: &[S]) -> Told {
 
 pub fn ammonia<S: AsRef<OsStr>>(arguments: &[S]) -> Told {
     run(Command::new(AMMONIA).args(arguments))
+}
+
+pub fn archive<S: AsRef<OsStr>>(arguments: &[S]) -> Told {
+    run(Command::new(ARCHIVE).args(arguments))
 }
