@@ -1,7 +1,7 @@
 -- The canonical form is the one that is told by longest runs. The last marker of a draft is a group that is still open:
 -- what follows is put into it segment by segment, and its words are those of that group joined to the groups of the rest.
 -- Assumes nothing.
-use Prim.Native.Nat.{ℕ, zero, suc, _+_, _-_, _*_, _/_, _≤_}
+use Prim.Native.Nat.{ℕ, zero, suc, _+_, _-_, _*_, _/_, _≤_, _<_}
 use mathlib.Core.Bool.{Bool, true, false, cond, _&&_}
 use mathlib.Core.Path.{_≡_, refl, sym, ap, _∙_}
 use mathlib.Core.List.{List, [], _∷_, _++_, foldl, append-nil, append-assoc}
@@ -9,13 +9,15 @@ use lib.Dec.{eqb, ltb}
 use lib.ListN.{length, replicate, length-append}
 use lib.Seq.{take-at, drop-at}
 use native.Mathlib.Omega.{arith}
-use borrow.Author.Tests.{ltb-true, ltb-false, eqb-true, eq-eqb, ne-eqb}
-use Rattle.meaning.specs.Limits.{mostClean, mostDirty}
-use Rattle.meaning.specs.Segment.{Segment, clean, mixed}
+use borrow.Author.Tests.{lt-ltb, ltb-true, ltb-false, eqb-true, eq-eqb, ne-eqb}
+use Rattle.meaning.specs.Limits.{mostClean, mostDirty, mostFill}
+use Rattle.meaning.specs.Segment.{Segment, clean, mixed, lastRows}
 use Rattle.meaning.specs.Ewah.{marker}
 use Rattle.meaning.specs.Canonical.{draft, body, opened, put, ewahOf}
-use Rattle.meaning.specs.Paragraph.{Group, group, before, groups, withDirty, groupWords, groupsWords}
+use Rattle.meaning.specs.Wah.{wahDraft, runWords, wahBody, wahPut, wahOf}
+use Rattle.meaning.specs.Paragraph.{Group, group, before, groups, withDirty, groupWords, groupsWords, lastOfRun, wahGroupsWords}
 use Rattle.meaning.proofs.Segments.{both, fits-clean}
+use Rattle.meaning.proofs.WahBody.{joins}
 
 -- an open group in front of groups
 joined : (v c : ℕ) → List ℕ → List Group → List Group
@@ -206,3 +208,91 @@ unfolding ewahOf body put opened groups groupsWords
 by-runs [] = refl
 by-runs (clean b ∷ ss) = from-draft [] b 1 [] ss (omega arith) (omega arith) ∙ rw (open-clean b (groups ss))
 by-runs (mixed x ∷ ss) = from-draft [] 0 0 (x ∷ []) ss (omega arith) (omega arith) ∙ rw (open-mixed x (groups ss))
+
+-- ---- WAH: a draft's last run is a group that is still open, and has no mixed segments yet
+
+first-false : (t : Bool) → t && true ≡ false → t ≡ false
+first-false true e = e
+first-false false e = refl
+
+module _ (real : ℕ) where
+  -- a group of no clean segments
+  wah-no-run : (v : ℕ) (xs : List ℕ) (gs : List Group) → wahGroupsWords real (group v 0 xs ∷ gs) ≡ xs ++ wahGroupsWords real gs
+  unfolding wahGroupsWords runWords
+  wah-no-run v xs gs = refl
+
+  -- a run that ends before another one begins, or before a mixed segment
+  wah-run-then : (v n u m : ℕ) (ys : List ℕ) (gs : List Group)
+      → wahGroupsWords real (group v n [] ∷ group u (suc m) ys ∷ gs) ≡ runWords 31 v n ++ wahGroupsWords real (group u (suc m) ys ∷ gs)
+  unfolding wahGroupsWords runWords lastOfRun
+  wah-run-then v n u zero ys gs = refl
+  wah-run-then v n u (suc m) ys gs = refl
+
+  wah-mixed-then : (v n x : ℕ) (ys : List ℕ) (gs : List Group)
+      → wahGroupsWords real (group v n (x ∷ ys) ∷ gs) ≡ runWords 31 v n ++ x ∷ (ys ++ wahGroupsWords real gs)
+  unfolding wahGroupsWords lastOfRun
+  wah-mixed-then v n x ys gs = refl
+
+  -- an open run of no segments
+  wah-none-open : (v : ℕ) (gs : List Group) → wahGroupsWords real (joined v 0 [] gs) ≡ wahGroupsWords real gs
+  unfolding joined
+  wah-none-open v [] = unfold wahGroupsWords runWords in refl
+  wah-none-open v (group u zero ys ∷ gs) = wah-no-run v ys gs ∙ sym (wah-no-run u ys gs)
+  wah-none-open v (group u (suc m) ys ∷ gs) = go (eqb v u) refl
+    where
+      go : (t : Bool) → eqb v u ≡ t
+          → wahGroupsWords real (cond t (group v (0 + suc m) ys ∷ gs) (group v 0 [] ∷ group u (suc m) ys ∷ gs))
+          ≡ wahGroupsWords real (group u (suc m) ys ∷ gs)
+      go true e = rw (← eqb-true v u e) (ap (wahGroupsWords real) (same-count v ys gs (omega arith)))
+      go false e = wah-no-run v [] (group u (suc m) ys ∷ gs)
+
+  -- a run that the next clean segment does not join, since there is none or it has the other value
+  wah-closed : (v n b : ℕ) (gs : List Group) → n < mostFill → ltb 0 n && eqb v b && ltb n mostFill ≡ false
+      → wahGroupsWords real (joined v n [] (before (clean b) gs)) ≡ runWords 31 v n ++ wahGroupsWords real (before (clean b) gs)
+  unfolding joined runWords
+  wah-closed v zero b gs h e = wah-none-open v (before (clean b) gs)
+  wah-closed v (suc n) b gs h e =
+      let f = first-clean b gs in
+      let other : eqb v b ≡ false = first-false (eqb v b) (rw (lt-ltb 0 (suc n) (omega arith), lt-ltb (suc n) mostFill h) at e) in
+      rw (f .3, other) (wah-run-then v (suc n) b (f .0) (f .1) (f .2))
+
+  -- a mixed segment behind it
+  wah-mixed : (v n x : ℕ) (gs : List Group) → wahGroupsWords real (joined v n (x ∷ []) gs) ≡ runWords 31 v n ++ x ∷ wahGroupsWords real gs
+  unfolding joined
+  wah-mixed v n x [] = unfold wahGroupsWords in wah-mixed-then v n x [] []
+  wah-mixed v n x (group u zero ys ∷ gs) = wah-mixed-then v n x ys gs ∙ rw (wah-no-run u ys gs)
+  wah-mixed v n x (group u (suc m) ys ∷ gs) = wah-mixed-then v n x [] (group u (suc m) ys ∷ gs)
+
+  wah-from : (done : List ℕ) (v n : ℕ) (ss : List Segment) → n + length ss ≤ mostFill
+      → wahBody real (foldl wahPut (wahDraft done v n) ss) ≡ done ++ wahGroupsWords real (joined v n [] (groups ss))
+  unfolding wahPut groups
+  wah-from done v n [] h = unfold wahBody joined wahGroupsWords lastOfRun in rw append-nil
+  wah-from done v n (clean b ∷ ss) h =
+      go (ltb 0 n && eqb v b && ltb n mostFill) refl
+      (wah-from done v (suc n) ss (omega arith))
+      (wah-from (done ++ runWords 31 v n) b 1 ss (omega arith))
+    where
+      gs : List Group
+      gs = groups ss
+
+      go : (t : Bool) → ltb 0 n && eqb v b && ltb n mostFill ≡ t
+          → wahBody real (foldl wahPut (wahDraft done v (suc n)) ss) ≡ done ++ wahGroupsWords real (joined v (suc n) [] gs)
+          → wahBody real (foldl wahPut (wahDraft (done ++ runWords 31 v n) b 1) ss) ≡ (done ++ runWords 31 v n) ++ wahGroupsWords real (joined b 1 [] gs)
+          → wahBody real (foldl wahPut (cond t (wahDraft done v (suc n)) (wahDraft (done ++ runWords 31 v n) b 1)) ss)
+          ≡ done ++ wahGroupsWords real (joined v n [] (before (clean b) gs))
+      go true e into anew = into ∙ rw (← (joins n v b e) .1, join-clean v n gs)
+      go false e into anew =
+          anew
+          ∙ rw (open-clean b gs, append-assoc)
+          (ap (λ (l : List ℕ). done ++ l) (sym (wah-closed v n b gs (omega arith) e)))
+  wah-from done v n (mixed x ∷ ss) h =
+      wah-from (done ++ runWords 31 v n ++ x ∷ []) 0 0 ss (omega arith)
+      ∙ rw (wah-none-open 0 (groups ss), ← join-mixed v n [] x (groups ss), wah-mixed v n x (groups ss))
+      (append-assoc (done ++ runWords 31 v n) (x ∷ []) rest ∙ append-assoc done (runWords 31 v n) (x ∷ rest))
+    where
+      rest : List ℕ
+      rest = wahGroupsWords real (groups ss)
+
+pub wah-by-runs : (R : ℕ) (ss : List Segment) → length ss ≤ mostFill → wahOf R ss ≡ wahGroupsWords (lastRows 31 R) (groups ss)
+unfolding wahOf
+wah-by-runs R ss h = wah-from (lastRows 31 R) [] 0 0 ss (omega arith) ∙ wah-none-open (lastRows 31 R) 0 (groups ss)

@@ -1,10 +1,10 @@
--- `BodyLaws` of both formats, and `EwahLaws`, of `specs/Laws` hold.
+-- `BodyLaws` of both formats, `EwahLaws` and `WahLaws`, of `specs/Laws`, hold.
 -- Assumes nothing.
 use Rattle.meaning.specs.declared.Format.{Format}
-use Rattle.meaning.specs.Laws.{BodyLaws, EwahLaws}
+use Rattle.meaning.specs.Laws.{BodyLaws, EwahLaws, WahLaws}
 use Rattle.meaning.proofs.Least.{run-adds, segment-adds}
 use Rattle.meaning.proofs.Lengthen.{never-shorter}
-use Rattle.meaning.proofs.ByRuns.{by-runs}
+use Rattle.meaning.proofs.ByRuns.{by-runs, wah-by-runs}
 use Rattle.meaning.proofs.Formats.{spells, sound-means, canonical-body, canonical-form, canonical-fewest, canonical-ext, canonical-none, rewrite-keeps, rewrite-back}
 
 pub body-laws : (F : Format) → BodyLaws F
@@ -22,3 +22,6 @@ body-laws F = record {
 
 pub ewah-laws : EwahLaws
 ewah-laws = record { by-runs = by-runs; never-shorter = never-shorter; run-adds = run-adds; segment-adds = segment-adds }
+
+pub wah-laws : WahLaws
+wah-laws = record { by-runs = wah-by-runs }

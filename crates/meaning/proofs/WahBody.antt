@@ -186,7 +186,7 @@ unfolding wahBody
 body-neat real (wahDraft done v n) h g = neat-join done (runWords real v n) (g .neat) (neat-run real v n (g .hv) (g .hn) h)
 
 -- what `wahPut` tests of a clean segment
-joins : (n v b : ℕ) → ltb 0 n && eqb v b && ltb n mostFill ≡ true → (0 < n) × (v ≡ b) × (n < mostFill)
+pub joins : (n v b : ℕ) → ltb 0 n && eqb v b && ltb n mostFill ≡ true → (0 < n) × (v ≡ b) × (n < mostFill)
 joins n v b e =
     let p = both (ltb 0 n && eqb v b) (ltb n mostFill) e in
     let q = both (ltb 0 n) (eqb v b) (p .0) in

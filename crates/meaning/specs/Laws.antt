@@ -1,4 +1,4 @@
--- What holds of the definitions, for a reader to find in one place. `BodyLaws` and `EwahLaws` are proved in `proofs/Lawful`, `IndexMeans` in
+-- What holds of the definitions, for a reader to find in one place. `BodyLaws`, `EwahLaws` and `WahLaws` are proved in `proofs/Lawful`, `IndexMeans` in
 -- `IndexSound`, `PartLaws` in `BitmapPart`, `AnswerLaws` in `Answering`.
 -- Assumes nothing.
 use Prim.Native.Nat.{ℕ, _+_, _≤_, _<_}
@@ -7,13 +7,13 @@ use mathlib.Core.Path.{_≡_}
 use mathlib.Core.Logic.{_↔_}
 use mathlib.Core.List.{List, [], foldl}
 use lib.ListN.{length, getD, replicate}
-use Rattle.meaning.specs.Limits.{mostClean, mostRows, mostBitmaps, mostIndexWords, headWords, histogramCounts}
-use Rattle.meaning.specs.Segment.{Segment, clean, segmentCount, lastLimit}
+use Rattle.meaning.specs.Limits.{mostClean, mostFill, mostRows, mostBitmaps, mostIndexWords, headWords, histogramCounts}
+use Rattle.meaning.specs.Segment.{Segment, clean, segmentCount, lastRows, lastLimit}
 use Rattle.meaning.specs.Refusal.{refused, answer, sound}
 use Rattle.meaning.specs.Piece.{lastDirty, flat}
 use Rattle.meaning.specs.Ewah.{segments, dueAfter, pieces}
 use Rattle.meaning.specs.Canonical.{Draft, body, put, ewahOf}
-use Rattle.meaning.specs.Wah.{wahSegments, wahPieces}
+use Rattle.meaning.specs.Wah.{wahSegments, wahPieces, wahOf}
 use Rattle.meaning.specs.Format.{kindOf, width, piecesOf, segmentsOf, rowsOf, Sound, canonical, Canonical}
 use Rattle.meaning.specs.declared.Format.{Format}
 use Rattle.meaning.specs.declared.Format.the-variants.{Ewah, Wah}
@@ -21,7 +21,7 @@ use Rattle.meaning.specs.Index.{formatOf, rowCount, bitmapCount, entryPl
 use Rattle.meaning.specs.Question.{complement, byTable, sumOf}
 use Rattle.meaning.specs.Answer.{bitmap, bitmapRefusal, partOf, logical, notOf, named, rightRows, threshold, symmetric, histogram}
 use Rattle.meaning.specs.Demands.{BodyOf, Fewest}
-use Rattle.meaning.specs.Paragraph.{groups, groupsWords}
+use Rattle.meaning.specs.Paragraph.{groups, groupsWords, wahGroupsWords}
 use Rattle.meaning.specs.Ahead.{NoneEmpty}
 
 -- the plain facts of a sound EWAH body of R rows: its last marker has all its dirty words, it stands for as many segments as
@@ -70,6 +70,11 @@ pub record EwahLaws : Type 0 where
   -- a clean run that one marker can hold adds at most one word, and one segment at most two
   pub run-adds : (d : Draft) (v n : ℕ) → n ≤ mostClean → length (body (foldl put d (replicate n (clean v)))) ≤ length (body d) + 1
   pub segment-adds : (d : Draft) (s : Segment) → length (body (put d s)) ≤ length (body d) + 2
+
+-- of WAH
+pub record WahLaws : Type 0 where
+  -- the canonical form is the one that request 4 tells by longest runs, each of them one word: of no more segments than a fill can count
+  pub by-runs : (R : ℕ) (ss : List Segment) → length ss ≤ mostFill → wahOf R ss ≡ wahGroupsWords (lastRows 31 R) (groups ss)
 
 -- ---- an index
 

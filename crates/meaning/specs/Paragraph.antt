@@ -1,5 +1,5 @@
--- Section "Settled form" of paper 01 as it is told there: longest runs, and the dirty words that follow each.
--- The law `by-runs` of `EwahLaws` says that this is the canonical form.
+-- The canonical form as the papers tell it: longest runs, and the mixed segments that follow each. Section "Settled form" of paper 01
+-- for EWAH, request 4 for WAH. The laws `by-runs` of `EwahLaws` and `WahLaws` say that this is the canonical form.
 -- Assumes nothing.
 use Prim.Native.Nat.{ℕ, zero, suc, _-_, _/_, _*_}
 use mathlib.Core.Bool.{cond}
@@ -9,6 +9,7 @@ use lib.ListN.{length, take, drop, replicate}
 use Rattle.meaning.specs.Limits.{mostClean, mostDirty}
 use Rattle.meaning.specs.Segment.{Segment, clean, mixed}
 use Rattle.meaning.specs.Ewah.{marker}
+use Rattle.meaning.specs.Wah.{runWords}
 
 -- a longest run of n equal clean segments of value v, and the mixed segments up to the next clean one.
 -- n is 0 only in a first group that begins with mixed segments, and v is 0 there
@@ -30,6 +31,8 @@ unfolding before
 groups [] = []
 groups (s ∷ ss) = before s (groups ss)
 
+-- ---- EWAH
+
 -- a marker of value v and clean count c with the dirty words xs, of which `more` further markers, of value 0 and clean
 -- count 0, have what passes the most: every marker is full but the last
 unfoldable pub withDirty : (more v c : ℕ) → List ℕ → List ℕ
@@ -48,3 +51,18 @@ unfoldable pub groupsWords : List Group → List ℕ
 unfolding groupWords
 groupsWords [] = []
 groupsWords (g ∷ gs) = groupWords g ++ groupsWords gs
+
+-- ---- WAH
+
+-- how many rows the last segment of a run has, by the words behind it: `real`, those of the last of all, where there are none
+unfoldable pub lastOfRun : (real : ℕ) → List ℕ → ℕ
+lastOfRun real [] = real
+lastOfRun real (x ∷ xs) = 31
+
+-- each run as one word, a lone segment as a literal and more as a fill, and then the mixed segments
+unfoldable pub wahGroupsWords : (real : ℕ) → List Group → List ℕ
+unfolding runWords lastOfRun
+wahGroupsWords real [] = []
+wahGroupsWords real (group v n xs ∷ gs) =
+    let behind = xs ++ wahGroupsWords real gs in
+    runWords (lastOfRun real behind) v n ++ behind
