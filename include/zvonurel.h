@@ -57,7 +57,7 @@
  *
  * ROOM. A buffer of ZV_SEGMENTS(rows) words is always long enough for plain words, one of ZV_MOST_BODY_WORDS(rows) for
  * a body, one of ZV_MOST_NEW_INDEX_WORDS(rows, bitmaps) for an index rewritten, and one of ZV_MOST_SUM_WORDS(rows,
- * slices) for a sum of columns. These are for EWAH; what is written in WAH may be longer or shorter, and has the sizes
+ * slices) for a sum of columns. The last three are for EWAH; in WAH these may be longer or shorter, and have the sizes
  * ZV_WAH_MOST_BODY_WORDS, ZV_WAH_MOST_NEW_INDEX_WORDS and ZV_WAH_MOST_SUM_WORDS. A call with a buffer of length 0
  * measures: it is refused with ZV_NO_ROOM, and `word` is the words needed, unless none are, as with plain words or a
  * body of no rows. The pointer must still not be NULL.

@@ -283,7 +283,7 @@ static void lists(void)
     NOT_ANSWERED(zv_symmetric(WORDS(looped), WORDS(three), table, 3, WORDS(out)), ZV_BAD_ARGUMENT, 0, 0);
     COUNTED(zv_histogram(WORDS(looped), WORDS(three)), counts, 0, 0, 0);
     COUNTED(zv_histogram(WORDS(looped), three, 0), zeros, ZV_BAD_ARGUMENT, 0, 0);
-    /* a piece is one fill or one literal: those of the first two end at segments 1 and 3, the third's at each one */
+    /* each word is a piece: those of the first two end at segments 1 and 3, the third's at each one */
     ANSWERED(zv_threshold(WORDS(pieces), WORDS(three), 1, WORDS(out)), any, 4);
     ANSWERED(zv_threshold(WORDS(pieces), WORDS(three), 3, WORDS(out)), all, 4);
     ANSWERED(zv_threshold(WORDS(pieces), WORDS(fills), 1, WORDS(out)), first, 2);
