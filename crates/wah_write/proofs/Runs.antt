@@ -33,13 +33,11 @@ single-low (suc zero) full h g = omega arith
 single-low (suc (suc v)) full h g = absurd (omega arith)
 
 -- more are a fill
-pub word-many : (v n real : ℕ) → 1 ≤ n → (n ≡ 1 → ⊥) → runWords real v n ≡ (2147483648 + v * 1073741824 + n) ∷ []
-unfolding runWords fillWord
+pub word-many : (v n real : ℕ) → 1 ≤ n → (n ≡ 1 → ⊥) → runWords real v n ≡ fillWord v n ∷ []
+unfolding runWords
 word-many v zero real h k = absurd (omega arith)
 word-many v (suc zero) real h k = absurd (k refl)
-word-many v (suc (suc n)) real h k =
-    let e : 2147483648 + 1073741824 * v + suc (suc n) ≡ 2147483648 + v * 1073741824 + suc (suc n) = omega arith in
-    ap (λ (x : ℕ). x ∷ []) e
+word-many v (suc (suc n)) real h k = refl
 
 -- ---- how many words a draft has
 

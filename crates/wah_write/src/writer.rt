@@ -12,6 +12,7 @@ ghost use Rattle.meaning.specs.Wah.{wahDraft, runWords};
 ghost use Rattle.wah_write.specs.WahDrafts.{WahTracks, Grown, RoomFor, Pushed, ending};
 use ewah::marker::Marker;
 use ewah_write::writer::Writer;
+use wah::word;
 use words::rows;
 
 // So many words in use, which end with a clean run of n segments.
@@ -79,7 +80,7 @@ fn run_word(value: u32, n: u32, full: u32) -> u32
     if n == 1 {
         return value * full;
     }
-    0x8000_0000 + value * 0x4000_0000 + n
+    word::fill_word(value, n)
 }
 
 // `grow_run`, with the run's word, which is the last in use.

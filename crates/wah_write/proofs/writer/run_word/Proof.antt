@@ -1,6 +1,8 @@
 -- `wah_write::writer::run_word` meets its contract: `word-single` and `word-many` are its two ways. Assumes nothing.
+use Prim.Native.Nat.{ℕ}
+use mathlib.Core.Path.{ap, sym, _∙_}
+use mathlib.Core.List.{[], _∷_}
 use native.Mathlib.Omega.{arith}
-use borrow.Author.Needs.{needs}
 use Rattle.wah_write.proofs.Runs.{word-single, word-many, single-low}
 use Rattle.wah_write.proofs.writer.run_word.Statement.{statement}
 use Rattle.wah_write.proofs.writer.run_word.Tie as tie
@@ -13,18 +15,14 @@ mul-result c =
 returns : tie.Need-returns
 returns c = λ real e. rw (c .if1 .taken) (word-single (c .before .args .value) (c .before .args .full) real e)
 
-mul-result-2 : tie.Need-mul-result-2
-mul-result-2 c = search needs
-
-add-result : tie.Need-add-result
-add-result c = search needs
-
-add-result-2 : tie.Need-add-result-2
-add-result-2 c = search needs
+fill-word-requires : tie.Need-fill-word-requires
+fill-word-requires c κs = (c .before .pre .0, c .before .pre .2)
 
 returns-2 : tie.Need-returns-2
-returns-2 c = λ real e. word-many (c .before .args .value) (c .before .args .n) real (c .before .pre .1) (c .if1 .left)
+returns-2 c =
+    let s = c .before .before in
+    λ real e. word-many (s .args .value) (s .args .n) real (s .pre .1) (c .before .if1 .left) ∙ ap (λ (x : ℕ). x ∷ []) (sym (c .fill-word .ensures))
 
 pub run-word-spec : {M : Type 1} → statement M
 run-word-spec =
-    tie.close (tie.spec mul-result returns mul-result-2 add-result add-result-2 returns-2)
+    tie.close (tie.spec mul-result returns fill-word-requires returns-2)
