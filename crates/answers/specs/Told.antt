@@ -15,6 +15,8 @@ use Rattle.answers.specs.declared.answer.Flag.{Flag}
 use Rattle.answers.specs.declared.answer.Flag.the-variants as flag
 use Rattle.answers.specs.declared.answer.Number.{Number}
 use Rattle.answers.specs.declared.answer.Number.the-variants as number
+use Rattle.answers.specs.declared.answer.Found.{Found}
+use Rattle.answers.specs.declared.answer.Found.the-variants as found
 use Rattle.answers.specs.declared.answer.Value.{Value}
 use Rattle.answers.specs.declared.answer.Value.the-variants as value
 use Rattle.answers.specs.declared.answer.Answered.{Answered}
@@ -45,6 +47,10 @@ flagOf (flag.Refused r) = refusedBy r
 unfoldable pub numberOf : Number → Outcome ℕ
 numberOf (number.Is n) = answer n
 numberOf (number.Refused r) = refusedBy r
+
+unfoldable pub foundOf : Found → Outcome ℕ
+foundOf (found.Row r) = answer r
+foundOf found.Past = refused 8 0 0
 
 -- named apart from `valueOf`, a column's value itself
 unfoldable pub valueTold : Value → Outcome ℕ

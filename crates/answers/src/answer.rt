@@ -17,6 +17,12 @@ pub enum Number {
     Refused(Refusal),
 }
 
+// The nth set row, or that no more than n rows are set.
+pub enum Found {
+    Row(u32),
+    Past,
+}
+
 // A value of a column.
 pub enum Value {
     Is(u64),

@@ -9,8 +9,10 @@ ghost use Rattle.meaning.specs.Ewah.{ewahRows};
 ghost use Rattle.meaning.specs.Laws.{EwahFacts};
 ghost use Rattle.meaning.specs.Answer.{askNth};
 ghost use Rattle.meaning.specs.Demands.{IsNth};
-ghost use Rattle.ewah_read.specs.Found.{foundOf, SoughtIn};
+ghost use Rattle.answers.specs.Told.{foundOf};
+ghost use Rattle.ewah_read.specs.Seeking.{SoughtIn};
 use crate::count;
+use answers::answer::Found;
 use ewah::marker;
 use popcount::BLOCK;
 use words::bits;
@@ -103,12 +105,6 @@ fn seek(value: u32, clean: u32, body: &[u32], from: usize, to: usize, k: u32) ->
         return Sought::Here(clean * 32 + find(&body[from..to], ahead));
     }
     Sought::Ahead(ahead - here)
-}
-
-// The row that was asked for, or that there are not so many set rows.
-pub enum Found {
-    Row(u32),
-    Past,
 }
 
 // The nth set row, from 0. Where the bit that is found lies past the last row it is a pad bit, and not so many rows are

@@ -11,11 +11,11 @@ ghost use Rattle.meaning.specs.Answer as meaning;
 ghost use Rattle.answers.specs.Told.{flagOf, numberOf, Wrote};
 use answers::answer;
 use answers::answer::Flag;
+use answers::answer::Found;
 use answers::answer::Number;
 use answers::answer::Written;
 use body_read::nth;
 use body_read::row;
-use ewah_read::nth::Found;
 use meaning::Format;
 use words::rows;
 

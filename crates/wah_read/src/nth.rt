@@ -9,8 +9,9 @@ ghost use Rattle.meaning.specs.Wah.{wahSegments, wahRows};
 ghost use Rattle.meaning.specs.Laws.{WahFacts};
 ghost use Rattle.meaning.specs.Answer.{askNth};
 ghost use Rattle.meaning.specs.Demands.{IsNth};
-ghost use Rattle.wah_read.specs.Found.{foundOf};
+ghost use Rattle.answers.specs.Told.{foundOf};
 use crate::count;
+use answers::answer::Found;
 use wah::word;
 use words::bits;
 
@@ -23,12 +24,6 @@ fn nth_in_word(x: u32, k: u32) -> u32
         return k;
     }
     bits::nth(x, k)
-}
-
-// The row that was asked for, or that there are not so many set rows.
-pub enum Found {
-    Row(u32),
-    Past,
 }
 
 // The nth set row, from 0. Where the bit that is found lies past the last row it is a pad bit, and not so many rows are

@@ -23,8 +23,8 @@ nth-requires c κs =
 enum-told-2 : tie.Need-enum-told-2
 enum-told-2 c = search needs
 
-nth-wah-requires : tie.Need-nth-wah-requires
-nth-wah-requires c κs =
+nth-requires-2 : tie.Need-nth-requires-2
+nth-requires-2 c κs =
     let s = c .before .before .before in
     let a = s .args in
     (s .pre .0, facts-as (a .format) (a .rows) (now (a .body)) Wah (c .enum-told2 .given .1) (s .pre .1))
@@ -39,7 +39,7 @@ returns-2 : tie.Need-returns-2
 returns-2 c =
     let a = c .before .before .before .before .args in
     let same = rows-wah (a .format) (now (a .body)) (c .before .enum-told2 .given .1) in
-    c .nth-wah .ensures ∙ ap (λ (p : ℕ → Bool). askNth (a .rows) p (a .n)) same
+    c .nth2 .ensures ∙ ap (λ (p : ℕ → Bool). askNth (a .rows) p (a .n)) same
 
 pub nth-spec : {M : Type 1} → statement M
-nth-spec = tie.close (tie.spec enum-told nth-requires enum-told-2 nth-wah-requires returns returns-2)
+nth-spec = tie.close (tie.spec enum-told nth-requires enum-told-2 nth-requires-2 returns returns-2)

@@ -18,7 +18,8 @@ use Rattle.meaning.specs.Ewah.{segments, ewahRows}
 use Rattle.meaning.proofs.Walk.{At, Step, at-start, at-end}
 use Rattle.meaning.proofs.Asked.{ones-step, nth-step, nth-found, nth-pad, nth-past}
 use Rattle.ewah_read.specs.declared.nth.Sought.the-variants.{Here, Ahead}
-use Rattle.ewah_read.specs.Found.{foundOf, SoughtIn}
+use Rattle.answers.specs.Told.{foundOf}
+use Rattle.ewah_read.specs.Seeking.{SoughtIn}
 use Rattle.meaning.proofs.Parts.{part-is}
 use Rattle.meaning.proofs.RowWords.{segments-few}
 use Rattle.ewah.proofs.MarkerStep.{read-step}

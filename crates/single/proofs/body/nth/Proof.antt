@@ -1,8 +1,7 @@
 -- `single::body::nth` meets its contract: what `body_read::nth::nth` found, its row or 8. Assumes nothing.
 use borrow.Author.Needs.{needs}
 use mathlib.Core.Path.{sym, ap, _∙_}
-use Rattle.ewah_read.specs.Found.{foundOf}
-use Rattle.answers.specs.Told.{refusedBy, numberOf}
+use Rattle.answers.specs.Told.{refusedBy, numberOf, foundOf}
 use Rattle.single.proofs.body.nth.Statement.{statement}
 use Rattle.single.proofs.body.nth.Tie as tie
 

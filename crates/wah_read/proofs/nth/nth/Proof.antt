@@ -9,7 +9,7 @@ use Rattle.meaning.specs.Limits.{mostSegments}
 use Rattle.meaning.specs.Segment.{hasRow}
 use Rattle.meaning.specs.Demands.{IsNth}
 use Rattle.meaning.specs.Wah.{wahSegments}
-use Rattle.wah_read.specs.Found.{foundOf}
+use Rattle.answers.specs.Told.{foundOf}
 use Rattle.wah_read.proofs.Passing.{segmentsBehind, onesBehind, none-behind, segments-behind, segments-next, ones-next, nth-here}
 use Rattle.wah_read.proofs.Passing.{all-behind, segments-few, word-few, row-found, pad-found, none-found}
 use borrow.Author.Needs.{needs}

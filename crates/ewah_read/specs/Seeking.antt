@@ -1,21 +1,13 @@
--- What a search for a set row answers.
+-- What a search for a set row answers while it goes on.
 -- Assumes nothing.
 use Prim.Native.Nat.{ℕ, _+_, _*_}
 use mathlib.Core.Path.{_≡_}
 use mathlib.Core.List.{List}
 use lib.ListN.{length}
-use Rattle.meaning.specs.Refusal.{Outcome, refused, answer}
 use Rattle.meaning.specs.Segment.{hasRow, ones}
 use Rattle.meaning.specs.Demands.{IsNth}
 use Rattle.ewah_read.specs.declared.nth.Sought.{Sought}
 use Rattle.ewah_read.specs.declared.nth.Sought.the-variants.{Here, Ahead}
-use Rattle.ewah_read.specs.declared.nth.Found.{Found}
-use Rattle.ewah_read.specs.declared.nth.Found.the-variants.{Row, Past}
-
--- paper 01's outcome for each case of the answer
-unfoldable pub foundOf : Found → Outcome ℕ
-foundOf (Row r) = answer r
-foundOf Past = refused 8 0 0
 
 -- in these segments: the set row with k set rows before it, or how many of k are left when all of theirs are passed
 abbrev pub SoughtIn : List ℕ → (k : ℕ) → Sought → Type 0
