@@ -17,7 +17,7 @@ use Rattle.meaning.specs.Format.{mostRun, wordsOf}
 use Rattle.meaning.specs.declared.Format.{Format}
 use Rattle.meaning.specs.declared.Format.the-variants.{Ewah, Wah}
 use Rattle.meaning.proofs.Least.{size, put-two, run-then-two}
-use Rattle.meaning.proofs.WahSize.{wah-size, size-none, wah-run-two}
+use Rattle.meaning.proofs.WahSize.{wah-size, wah-run-two}
 use Rattle.meaning.proofs.Ends.{Near}
 
 -- ---- a run that one piece can hold, with a segment after it, adds two words at most
@@ -48,7 +48,7 @@ stretch-two Wah R ss v n s h =
 words-none : (F : Format) (R : ℕ) → length (wordsOf F R []) ≡ 0
 unfolding ewahOf body
 words-none Ewah R = refl
-words-none Wah R = wah-size R [] ∙ size-none
+words-none Wah R = wah-size R []
 
 -- ---- from end to end
 

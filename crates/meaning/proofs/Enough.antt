@@ -21,7 +21,7 @@ use Rattle.meaning.proofs.Tests.{or-false}
 use Rattle.meaning.proofs.Segments.{kinds-length}
 use Rattle.meaning.proofs.RowWords.{has-at, from-length}
 use Rattle.meaning.proofs.Least.{most-words-div}
-use Rattle.meaning.proofs.WahSize.{wah-size, size-none, puts-one}
+use Rattle.meaning.proofs.WahSize.{wah-size, puts-add}
 use Rattle.meaning.proofs.Even.{bit-fill, even-clean}
 use Rattle.meaning.proofs.Formats.{width-pos, spells, facts-some, facts-count}
 use Rattle.meaning.proofs.Ends.{Near, Steady, pieces-fine, ends-near, quiet-steady}
@@ -156,7 +156,7 @@ most Wah n = n
 -- they are enough
 most-of : (F : Format) (R : ℕ) (ss : List Segment) → length (wordsOf F R ss) ≤ most F (length ss)
 most-of Ewah R ss = most-words-div ss
-most-of Wah R ss = omega (arith, wah-size R ss, puts-one (wahDraft [] 0 0) ss, size-none)
+most-of Wah R ss = omega (arith, wah-size R ss, puts-add ss (wahDraft [] 0 0))
 
 -- the most words of a body of R rows in canonical form
 abbrev pub mostWords : Format → (R : ℕ) → ℕ

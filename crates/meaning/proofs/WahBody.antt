@@ -23,7 +23,7 @@ use Rattle.meaning.specs.Laws.{WahFacts}
 use Rattle.meaning.proofs.Segments.{both, word, cut, cut-length, seen, seen-run, seen-word, words-cut, last-le, fill-cut}
 use Rattle.meaning.proofs.Pieces.{replicate-suc, flat-length, flat-append, some-append, last-append, last-rest, limit-pos, pad-clear, pad-last, below-join, below-one, fill-lt, LowPieces, flat-below, Ok, AllOk, kinds-ok, mixedWord, mixed-le}
 use Rattle.meaning.proofs.Decoded.{not-refused, let-through}
-use Rattle.meaning.proofs.WahSize.{size, size-none, wah-size, put-one, run-one}
+use Rattle.meaning.proofs.WahSize.{size, wah-size, put-one, run-one}
 
 -- ---- sound, as facts on the pieces
 
@@ -266,7 +266,7 @@ words-cheap R (x ∷ xs) d = unfold pieceOf in go (isFill x) (λ e. words-cheap 
 
 -- no WAH body with these segments has fewer words
 pub wah-least : (R : ℕ) (b : List ℕ) → length (wahOf R (seen 31 R (wahSegments b))) ≤ length b
-wah-least R b = omega (arith, wah-size R (seen 31 R (wahSegments b)), words-cheap R b (wahDraft [] 0 0), size-none)
+wah-least R b = omega (arith, wah-size R (seen 31 R (wahSegments b)), words-cheap R b (wahDraft [] 0 0))
 
 -- ---- the last segment
 

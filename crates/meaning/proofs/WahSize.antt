@@ -15,34 +15,30 @@ use Rattle.meaning.specs.Wah.{WahDraft, wahDraft, runWords, wahBody, wah
 use Rattle.meaning.proofs.Segments.{both}
 
 -- the finished words, and one for the run at the end
-unfoldable pub size : WahDraft → ℕ
+abbrev pub size : WahDraft → ℕ
 size (wahDraft done v n) = length done + min n 1
 
 -- a run at the end is one word
-run-words : (real v n : ℕ) → length (runWords real v n) ≡ min n 1
+pub run-words : (real v n : ℕ) → length (runWords real v n) ≡ min n 1
 unfolding runWords
 run-words real v zero = refl
 run-words real v (suc zero) = refl
 run-words real v (suc (suc n)) = omega arith
 
 -- however many rows the last segment has
-pub body-size : (real : ℕ) (d : WahDraft) → length (wahBody real d) ≡ size d
-unfolding size wahBody
-body-size real (wahDraft done v n) = omega (arith, length-append done (runWords real v n), run-words real v n)
+pub body-length : (real : ℕ) (d : WahDraft) → length (wahBody real d) ≡ size d
+unfolding wahBody
+body-length real (wahDraft done v n) = omega (arith, length-append done (runWords real v n), run-words real v n)
 
 -- of the segments of R rows in canonical form
 pub wah-size : (R : ℕ) (ss : List Segment) → length (wahOf R ss) ≡ size (foldl wahPut (wahDraft [] 0 0) ss)
 unfolding wahOf
-wah-size R ss = body-size (lastRows 31 R) (foldl wahPut (wahDraft [] 0 0) ss)
-
-pub size-none : size (wahDraft [] 0 0) ≡ 0
-unfolding size
-size-none = refl
+wah-size R ss = body-length (lastRows 31 R) (foldl wahPut (wahDraft [] 0 0) ss)
 
 -- a clean segment joins the run at the end, and no word is added, or begins one
 put-either : (d : WahDraft) (b : ℕ)
     → (size (wahPut d (clean b)) ≡ size d) ⊎ (wahPut d (clean b) ≡ wahDraft (wahBody 31 d) b 1)
-unfolding wahPut wahBody size
+unfolding wahPut wahBody
 put-either (wahDraft done v n) b = go (ltb 0 n && eqb v b && ltb n mostFill) refl
   where
     new : WahDraft
@@ -63,16 +59,16 @@ put-one d (clean b) = go (put-either d b)
     go : (size (wahPut d (clean b)) ≡ size d) ⊎ (wahPut d (clean b) ≡ wahDraft (wahBody 31 d) b 1)
         → size (wahPut d (clean b)) ≤ size d + 1
     go (inl e) = omega arith
-    go (inr e) = rw e (unfold size in omega (arith, body-size 31 d))
+    go (inr e) = rw e (omega (arith, body-length 31 d))
 put-one (wahDraft done v n) (mixed x) =
-    unfold wahPut size in
+    unfold wahPut in
     let old = done ++ runWords 31 v n in
     omega (arith, length-append old (x ∷ []), length-append done (runWords 31 v n), run-words 31 v n)
 
 -- and many no more than they are
-pub puts-one : (d : WahDraft) (ss : List Segment) → size (foldl wahPut d ss) ≤ size d + length ss
-puts-one d [] = omega arith
-puts-one d (s ∷ ss) = omega (arith, put-one d s, puts-one (wahPut d s) ss)
+pub puts-add : (ss : List Segment) (d : WahDraft) → size (foldl wahPut d ss) ≤ size d + length ss
+puts-add [] d = omega arith
+puts-add (s ∷ ss) d = omega (arith, put-one d s, puts-add ss (wahPut d s))
 
 -- the run is longer by one
 put-more : (done : List ℕ) (b c : ℕ) → 0 < c → c < mostFill
@@ -104,7 +100,7 @@ run-one d b (suc n) h = go (put-either d b) (run-one (wahPut d (clean b)) b n (o
     go (inr e) ih =
         subst (λ (z : WahDraft). size z ≤ size d + 1)
         (sym (ap (λ (z : WahDraft). foldl wahPut z rest) e ∙ run-in (wahBody 31 d) b 1 n (omega arith) (omega arith)))
-        (unfold size in omega (arith, body-size 31 d))
+        (omega (arith, body-length 31 d))
 
 -- and with a segment after it two
 pub wah-run-two : (d : WahDraft) (b n : ℕ) (s : Segment) → n ≤ mostFill

@@ -9,9 +9,10 @@ use lib.ListN.{length, replicate, length-append}
 use Rattle.meaning.specs.Limits.{mostFill}
 use Rattle.meaning.specs.Segment.{clean, mixed}
 use Rattle.meaning.specs.Wah.{WahDraft, wahDraft, runWords, wahBody, wahPut}
+use Rattle.meaning.proofs.WahSize.{body-length, run-in}
 use Rattle.ewah_write.specs.declared.writer.Writer.{Writer}
 use Rattle.wah_write.specs.WahDrafts.{WahTracks, Grown, ending}
-use Rattle.wah_write.proofs.Runs.{body-length, lastRun, Closed, run-in, run-new}
+use Rattle.wah_write.proofs.Runs.{lastRun, Closed, run-new}
 
 pub used-is : {w : Writer} (real : ℕ) (d : WahDraft) → WahTracks w d → w .used ≡ length (wahBody real d)
 used-is real (wahDraft done v n) t = t .same .0 ∙ sym (body-length real (wahDraft done v n))

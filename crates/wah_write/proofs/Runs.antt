@@ -1,26 +1,23 @@
--- The WAH draft, run by run: its words, how many they are, and where a run's word stands.
+-- The WAH draft, run by run: the words of a run, what a segment adds, and where a run's word stands.
 -- Assumes nothing.
-use Prim.Native.Nat.{ℕ, zero, suc, _+_, _-_, _*_, _^_, _≤_, _<_, min}
-use mathlib.Core.Bool.{Bool, true, false, cond, _&&_}
+use Prim.Native.Nat.{ℕ, zero, suc, _+_, _-_, _*_, _^_, _≤_, _<_}
+use mathlib.Core.Bool.{Bool, true, false, cond, _&&_, and-false}
 use mathlib.Core.Path.{_≡_, refl, sym, ap, _∙_}
 use mathlib.Core.Logic.{_⊎_, inl, inr}
 use mathlib.Core.List.{List, [], _∷_, _++_, foldl, append-nil}
 use native.Mathlib.Omega.{arith}
 use lib.Dec.{eqb, ltb}
 use lib.ListN.{length, replicate, length-append}
-use borrow.Author.Tests.{lt-ltb, le-ltb, eq-eqb, ne-eqb, eqb-true, eqb-false, ltb-true}
+use borrow.Author.Tests.{le-ltb, ne-eqb, eqb-true, eqb-false, ltb-true}
 use Rattle.meaning.specs.Limits.{mostFill}
 use Rattle.meaning.specs.Segment.{Segment, clean, mixed, fill, allSet}
 use Rattle.meaning.specs.Wah.{WahDraft, wahDraft, fillWord, runWords, wahBody, wahPut}
 use Rattle.meaning.proofs.Segments.{both}
+use Rattle.meaning.proofs.WahSize.{size, run-words, run-in}
+-- passed on to `body_write`
+pub use Rattle.meaning.proofs.WahSize.{body-length, puts-add}
 
 -- ---- the words of a run
-
-run-length : (real v n : ℕ) → length (runWords real v n) ≡ min n 1
-unfolding runWords
-run-length real v zero = refl
-run-length real v (suc zero) = refl
-run-length real v (suc (suc n)) = omega arith
 
 -- a lone segment is a literal of all its rows
 pub word-single : (v full real : ℕ) → full ≡ 2 ^ real - 1 → runWords real v 1 ≡ v * full ∷ []
@@ -39,16 +36,9 @@ word-many v zero real h k = absurd (omega arith)
 word-many v (suc zero) real h k = absurd (k refl)
 word-many v (suc (suc n)) real h k = refl
 
--- ---- how many words a draft has
+-- ---- what one segment more adds
 
-abbrev pub size : WahDraft → ℕ
-size (wahDraft done v n) = length done + min n 1
-
-pub body-length : (real : ℕ) (d : WahDraft) → length (wahBody real d) ≡ size d
-unfolding wahBody
-body-length real (wahDraft done v n) = omega (arith, length-append done (runWords real v n), run-length real v n)
-
--- the segments of its last run
+-- the segments of a draft's last run
 abbrev pub lastRun : WahDraft → ℕ
 lastRun (wahDraft done v n) = n
 
@@ -65,7 +55,6 @@ joinable-means v n b e =
 -- what one segment more does to the numbers of words and of segments of the last run
 pub record OneMore (d e : WahDraft) : Type 0 where
   pub no-fewer : size d ≤ size e
-  pub one-more : size e ≤ size d + 1
   pub run-more : lastRun e ≤ lastRun d + 1
 
 put-more : (d : WahDraft) (s : Segment) → OneMore d (wahPut d s)
@@ -76,25 +65,20 @@ put-more (wahDraft done v n) (clean b) = go (joinable v n b) refl
         → OneMore (wahDraft done v n) (cond t (wahDraft done v (suc n)) (wahDraft (done ++ runWords 31 v n) b 1))
     go true e =
         let p = joinable-means v n b e in
-        record { no-fewer = omega arith; one-more = omega arith; run-more = omega arith }
+        record { no-fewer = omega arith; run-more = omega arith }
     go false e =
         let l = length-append done (runWords 31 v n) in
-        let k = run-length 31 v n in
-        record { no-fewer = omega arith; one-more = omega arith; run-more = omega arith }
+        let k = run-words 31 v n in
+        record { no-fewer = omega arith; run-more = omega arith }
 put-more (wahDraft done v n) (mixed x) =
     let l = length-append (done ++ runWords 31 v n) (x ∷ []) in
     let m = length-append done (runWords 31 v n) in
-    let k = run-length 31 v n in
-    record { no-fewer = omega arith; one-more = omega arith; run-more = omega arith }
+    let k = run-words 31 v n in
+    record { no-fewer = omega arith; run-more = omega arith }
 
 pub puts-grow : (ss : List Segment) (d : WahDraft) → size d ≤ size (foldl wahPut d ss)
 puts-grow [] d = omega arith
 puts-grow (s ∷ ss) d = omega (arith, put-more d s .no-fewer, puts-grow ss (wahPut d s))
-
--- at most a word for each segment
-pub puts-add : (ss : List Segment) (d : WahDraft) → size (foldl wahPut d ss) ≤ size d + length ss
-puts-add [] d = omega arith
-puts-add (s ∷ ss) d = omega (arith, put-more d s .one-more, puts-add ss (wahPut d s))
 
 pub puts-run : (ss : List Segment) (d : WahDraft) → lastRun (foldl wahPut d ss) ≤ lastRun d + length ss
 puts-run [] d = omega arith
@@ -102,32 +86,14 @@ puts-run (s ∷ ss) d = omega (arith, put-more d s .run-more, puts-run ss (wahPu
 
 -- ---- a whole run
 
-put-in : (done : List ℕ) (b c : ℕ) → 0 < c → c < mostFill
-    → wahPut (wahDraft done b c) (clean b) ≡ wahDraft done b (suc c)
-unfolding wahPut
-put-in done b c g h = rw (lt-ltb 0 c g, eq-eqb b b refl, lt-ltb c mostFill h)
-
--- a run that goes on in the last one
-pub run-in : (done : List ℕ) (b c n : ℕ) → 0 < c → c + n ≤ mostFill
-    → foldl wahPut (wahDraft done b c) (replicate n (clean b)) ≡ wahDraft done b (c + n)
-run-in done b c zero g h = ap (λ (k : ℕ). wahDraft done b k) (omega arith)
-run-in done b c (suc n) g h =
-    ap (λ (d : WahDraft). foldl wahPut d (replicate n (clean b))) (put-in done b c g (omega arith))
-    ∙ run-in done b (suc c) n (omega arith) (omega arith)
-    ∙ ap (λ (k : ℕ). wahDraft done b k) (omega arith)
-
 -- the last run can't go on with value b
 abbrev pub Closed : ℕ → WahDraft → Type 0
 Closed b (wahDraft done v n) = (n ≡ 0) ⊎ (v ≡ b → ⊥)
 
-and-false : (a : Bool) → a && false ≡ false
-and-false true = refl
-and-false false = refl
-
 put-new : (d : WahDraft) (b : ℕ) → Closed b d → wahPut d (clean b) ≡ wahDraft (wahBody 31 d) b 1
 unfolding wahPut wahBody
 put-new (wahDraft done v n) b (inl e) = rw (le-ltb 0 n (omega arith))
-put-new (wahDraft done v n) b (inr h) = rw (ne-eqb v b h, and-false (ltb 0 n))
+put-new (wahDraft done v n) b (inr h) = rw (ne-eqb v b h, and-false)
 
 -- a run that is a new word
 pub run-new : (d : WahDraft) (b n : ℕ) → 1 ≤ n → n ≤ mostFill → Closed b d
