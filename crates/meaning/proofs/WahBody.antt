@@ -113,7 +113,7 @@ unfolding wahPieces
 pieces-append [] b = refl
 pieces-append (x ∷ xs) b = ap (λ (l : List Piece). pieceOf x ∷ l) (pieces-append xs b)
 
-segments-append : (a b : List ℕ) → wahSegments (a ++ b) ≡ wahSegments a ++ wahSegments b
+pub segments-append : (a b : List ℕ) → wahSegments (a ++ b) ≡ wahSegments a ++ wahSegments b
 unfolding wahSegments
 segments-append a b = rw (pieces-append a b) (flat-append 31 (wahPieces a) (wahPieces b))
 

@@ -1,9 +1,9 @@
 -- What a word of a body spells, and what the words of a body spell together.
 -- Assumes nothing.
-use Prim.Native.Nat.{ℕ, suc, _+_, _-_, _/_, _<_}
+use Prim.Native.Nat.{ℕ, suc, _+_, _/_, _<_}
 use mathlib.Core.Bool.{Bool, true, false, not}
 use mathlib.Core.Path.{_≡_, refl, sym, ap, ap₂, _∙_}
-use mathlib.Core.List.{List, [], _∷_, _++_, append-nil, append-assoc}
+use mathlib.Core.List.{List, [], _∷_, _++_, append-nil}
 use lib.Dec.{eqb}
 use lib.ListN.{length, take, drop, getD, replicate, length-replicate, take-append-drop}
 use lib.Seq.{drop-cons, take-suc}
@@ -12,6 +12,7 @@ use native.Mathlib.Omega.{arith}
 use Rattle.meaning.specs.Segment.{fill}
 use Rattle.meaning.specs.Piece.{Piece, cleanRun, dirtyWord, pieceSize, flat}
 use Rattle.meaning.specs.Wah.{isFill, fillValue, fillCount, pieceOf, wahPieces, wahSegments}
+use Rattle.meaning.proofs.WahBody.{segments-append}
 use Rattle.words.proofs.Segmented.{left-behind}
 use Rattle.wah.specs.Words.{Spells}
 
@@ -63,38 +64,21 @@ module _ (x : ℕ) where
 
 -- ---- many words
 
-flat-append : (w : ℕ) (p : Piece) (ps : List Piece) → flat w (p ∷ ps) ≡ flat w (p ∷ []) ++ flat w ps
-unfolding flat
-flat-append w (cleanRun v n) ps = ap (λ (l : List ℕ). l ++ flat w ps) (sym (append-nil (replicate n (fill w v))))
-flat-append w (dirtyWord x) ps = refl
-
-spells-cons : (x : ℕ) (xs : List ℕ) → wahSegments (x ∷ xs) ≡ wahSegments (x ∷ []) ++ wahSegments xs
-unfolding wahSegments wahPieces
-spells-cons x xs = flat-append 31 (pieceOf x) (wahPieces xs)
-
 pub spells-none : wahSegments [] ≡ []
 unfolding wahSegments wahPieces flat
 spells-none = refl
 
-pub spells-append : (xs ys : List ℕ) → wahSegments (xs ++ ys) ≡ wahSegments xs ++ wahSegments ys
-spells-append [] ys = rw spells-none
-spells-append (x ∷ xs) ys =
-    spells-cons x (xs ++ ys)
-    ∙ ap (λ (l : List ℕ). wahSegments (x ∷ []) ++ l) (spells-append xs ys)
-    ∙ sym (append-assoc (wahSegments (x ∷ [])) (wahSegments xs) (wahSegments ys))
-    ∙ ap (λ (l : List ℕ). l ++ wahSegments ys) (sym (spells-cons x xs))
-
 -- the word at i, with those before and behind it
 module _ (b : List ℕ) (i : ℕ) (h : i < length b) where
   pub spells-at : wahSegments (drop i b) ≡ wahSegments (getD b i 0 ∷ []) ++ wahSegments (drop (i + 1) b)
-  spells-at = ap wahSegments (drop-cons b i 0 h) ∙ spells-cons (getD b i 0) (drop (suc i) b) ∙ rw (add-one i)
+  spells-at = ap wahSegments (drop-cons b i 0 h) ∙ segments-append (getD b i 0 ∷ []) (drop (suc i) b) ∙ rw (add-one i)
 
   pub spells-split : wahSegments b ≡ wahSegments (take i b) ++ (wahSegments (getD b i 0 ∷ []) ++ wahSegments (drop (i + 1) b))
   spells-split =
       ap wahSegments (sym (take-append-drop i b))
-      ∙ spells-append (take i b) (drop i b)
+      ∙ segments-append (take i b) (drop i b)
       ∙ ap (λ (l : List ℕ). wahSegments (take i b) ++ l) spells-at
 
   pub spells-next : wahSegments (take (i + 1) b) ≡ wahSegments (take i b) ++ wahSegments (getD b i 0 ∷ [])
   spells-next =
-      rw (add-one i) (ap wahSegments (take-suc b i 0 h) ∙ spells-append (take i b) (getD b i 0 ∷ []))
+      rw (add-one i) (ap wahSegments (take-suc b i 0 h) ∙ segments-append (take i b) (getD b i 0 ∷ []))

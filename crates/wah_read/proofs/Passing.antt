@@ -20,8 +20,9 @@ use Rattle.meaning.specs.Laws.{WahFacts}
 use Rattle.meaning.specs.Demands.{IsNth}
 use Rattle.meaning.proofs.Counting.{ones-append, ones-le, nth-left, nth-right, count-rows}
 use Rattle.meaning.proofs.Asked.{nth-found, nth-pad, nth-past}
+use Rattle.meaning.proofs.WahBody.{segments-append}
 use Rattle.wah.specs.Words.{Spells}
-use Rattle.wah.proofs.Spelled.{spells-none, spells-append, spells-at, spells-split, spells-next, spells-size}
+use Rattle.wah.proofs.Spelled.{spells-none, spells-at, spells-split, spells-next, spells-size}
 use Rattle.wah_read.specs.Pads.{padsSet}
 
 -- ---- behind word i
@@ -36,7 +37,7 @@ onesBehind b i = ones 31 (wahSegments (take i b))
 module _ (b : List ℕ) (i : ℕ) where
   -- all segments are those behind and those ahead
   in-two : wahSegments b ≡ wahSegments (take i b) ++ wahSegments (drop i b)
-  in-two = ap wahSegments (sym (take-append-drop i b)) ∙ spells-append (take i b) (drop i b)
+  in-two = ap wahSegments (sym (take-append-drop i b)) ∙ segments-append (take i b) (drop i b)
 
   pub segments-behind : segmentsBehind b i ≤ length (wahSegments b)
   segments-behind = omega (arith, ap length in-two, length-append (wahSegments (take i b)) (wahSegments (drop i b)))
