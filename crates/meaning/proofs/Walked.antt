@@ -17,23 +17,18 @@ use Rattle.meaning.specs.declared.Format.{Format}
 use Rattle.meaning.specs.Question.{isIn, endsFrom, endsAt}
 use Rattle.meaning.specs.Ahead.{advanced, firstSize, NoneEmpty, Ahead}
 use Rattle.meaning.proofs.Tests.{or-true}
+use Rattle.meaning.proofs.Pieces.{some-run}
 use Rattle.meaning.proofs.Formats.{spells, flat-run, flat-length}
 use Rattle.meaning.proofs.Counting.{count-add}
 use Rattle.meaning.proofs.Counted.{count-none}
 
 -- ---- no piece is empty
 
--- nor is one where a run comes first,
-run-some : (v n : ℕ) (ps : List Piece) → NoneEmpty ps → NoneEmpty (runThen v n ps)
-unfolding runThen pieceSize
-run-some v zero ps s = s
-run-some v (suc n) ps s = (omega arith, s)
-
--- or the first has been advanced in
+-- nor is one where the first has been advanced in
 advanced-some : (n : ℕ) (ps : List Piece) → NoneEmpty ps → NoneEmpty (advanced n ps)
 unfolding advanced
 advanced-some n [] s = tt
-advanced-some n (cleanRun v k ∷ ps) s = run-some v (k - n) ps (s .1)
+advanced-some n (cleanRun v k ∷ ps) s = some-run v (k - n) ps (s .1)
 advanced-some n (dirtyWord x ∷ ps) s = s .1
 
 -- ---- the segments of the pieces
