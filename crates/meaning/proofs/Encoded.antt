@@ -196,7 +196,7 @@ last-snoc [] x = refl
 last-snoc (d ∷ []) x = refl
 last-snoc (d ∷ e ∷ ds) x = last-snoc (e ∷ ds) x
 
-none-last : (ds : List ℕ) → length ds ≡ 0 → lastOf ds ≡ 0
+pub none-last : (ds : List ℕ) → length ds ≡ 0 → lastOf ds ≡ 0
 unfolding lastOf
 none-last [] e = refl
 none-last (d ∷ ds) e = absurd (omega arith)

@@ -3,7 +3,7 @@
 use Prim.Native.Nat.{ℕ, _-_, _^_, _≤_, _<_}
 use mathlib.Core.Bool.{Bool, true, false, not}
 use mathlib.Core.Path.{_≡_, refl, sym, ap, _∙_}
-use mathlib.Core.List.{List, [], _∷_}
+use mathlib.Core.List.{List}
 use native.Mathlib.Omega.{arith}
 use borrow.Author.Tests.{lt-ltb, le-ltb, ltb-false, eq-eqb, ne-eqb, eqb-true, lt-leb, leb-false, not-false}
 use lib.Dec.{eqb, leb, ltb}
@@ -19,8 +19,8 @@ use Rattle.meaning.specs.Demands.{Words, PlainRows}
 use Rattle.meaning.specs.Answer.{rowsFault, plainFault}
 use Rattle.meaning.proofs.RowWords.{rows-decide, last-getD}
 use Rattle.meaning.proofs.Segments.{encoded, canonical-is}
+use Rattle.meaning.proofs.Encoded.{none-last}
 use Rattle.meaning.proofs.Outcomes.{refuse-answer, then-answer}
-use Rattle.answers.specs.declared.answer.Written.the-variants as written
 
 module _ (R : ℕ) (plain : List ℕ) where
   pub plain-over : mostRows < R → refused 3 0 1 ≡ plainFault R plain
@@ -39,11 +39,7 @@ module _ (R : ℕ) (plain : List ℕ) where
 
       pub plain-none-left : n ≡ 0 → sound ≡ plainFault R plain
       unfolding refuseIf lastLimit
-      plain-none-left z = sym (counted ∙ rw (none plain (same ∙ z), lt-leb (2 ^ lastRows 32 R) 0 (pow-pos (lastRows 32 R))))
-        where
-          none : (l : List ℕ) → length l ≡ 0 → lastOf l ≡ 0
-          none [] e = unfold lastOf in refl
-          none (x ∷ l) e = absurd (omega arith)
+      plain-none-left z = sym (counted ∙ rw (none-last plain (same ∙ z), lt-leb (2 ^ lastRows 32 R) 0 (pow-pos (lastRows 32 R))))
 
       -- the last plain word; t is whether it sets a pad bit
       module _ (some : n ≡ 0 → ⊥) (t : Bool) (pad : t ≡ leb (lastLimit 32 R) (getD plain (n - 1) 0)) where
