@@ -5,7 +5,7 @@ use mathlib.Core.Bool.{Bool, true, false, true≢false}
 use mathlib.Core.Path.{_≡_, refl, sym, _∙_, subst}
 use mathlib.Core.List.{List}
 use native.Mathlib.Omega.{arith}
-use lib.Dec.{ltb}
+use lib.Dec.{lit<, ltb}
 use borrow.Author.Tests.{lt-ltb, le-ltb}
 use lib.ListN.{length, drop, getD, length-drop, drop-of-length-le}
 use lib.Seq.{drop-cons, getD-drop, drop-drop}
@@ -13,14 +13,14 @@ use Rattle.meaning.specs.Segment.{overPad, segmentCount}
 use Rattle.meaning.specs.Refusal.{sound, refuseIf}
 use Rattle.meaning.specs.Ewah.{cleanOf, dirtyOf, faultFrom}
 use Rattle.meaning.proofs.Walk.{skip-dirty, over-none}
+use Rattle.words.proofs.Segmented.{some-rows}
 use Rattle.ewah.specs.Checking.{Passed, Faulty, Stepped}
 use Rattle.ewah.specs.declared.check.Step.{Step}
 use Rattle.ewah.specs.declared.check.Step.the-variants.{Next, Fault}
 
 -- where some of the segments are left there are rows
-pub some-rows : (R left c : ℕ) → left ≤ segmentCount 32 R → (c ≡ 0 → ⊥) → c ≡ left → 1 ≤ R
-unfolding segmentCount
-some-rows R left c h k e = omega arith
+pub left-rows : (R left c : ℕ) → left ≤ segmentCount 32 R → (c ≡ 0 → ⊥) → c ≡ left → 1 ≤ R
+left-rows R left c h k e = some-rows 32 R (lit< tt) (omega arith)
 
 -- the last of d dirty words behind word `at`, if there is one
 last-word : (R left d at : ℕ) (b : List ℕ) → overPad 32 R left d (getD (drop (suc at) b) (d - 1) 0) ≡ overPad 32 R left d (getD b (at + d) 0)

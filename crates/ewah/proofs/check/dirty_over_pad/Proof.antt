@@ -1,7 +1,7 @@
 -- `ewah::check::dirty_over_pad` meets its contract: no words, words that end before the last segment, and the word that is the last segment. Assumes nothing.
 use borrow.Author.Needs.{needs}
 use Rattle.meaning.proofs.Walk.{over-none, over-inside, over-last}
-use Rattle.ewah.proofs.Steps.{some-rows}
+use Rattle.ewah.proofs.Steps.{left-rows}
 use Rattle.ewah.proofs.check.dirty_over_pad.Statement.{statement}
 use Rattle.ewah.proofs.check.dirty_over_pad.Tie as tie
 
@@ -18,7 +18,7 @@ shared-slice-read-sets-pad : tie.Need-shared-slice-read-sets-pad
 shared-slice-read-sets-pad c = search needs
 
 sets-pad-requires : tie.Need-sets-pad-requires
-sets-pad-requires c κs = search (some-rows, needs)
+sets-pad-requires c κs = search (left-rows, needs)
 
 returns-3 : tie.Need-returns-3
 returns-3 c = search over-last
