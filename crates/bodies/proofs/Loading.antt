@@ -7,13 +7,13 @@ use mathlib.Core.List.{List, _∷_}
 use native.Mathlib.Omega.{arith}
 use lib.ListN.{length, drop, getD}
 use Rattle.meaning.specs.Limits.{mostDirty}
-use Rattle.meaning.specs.Piece.{Piece, cleanRun, runThen, pieceSize}
+use Rattle.meaning.specs.Piece.{Piece, cleanRun, runThen, pieceSize, NoneEmpty}
 use Rattle.meaning.specs.Ewah.{pieces}
 use Rattle.meaning.specs.Wah.{isFill, pieceOf, wahPieces}
 use Rattle.meaning.specs.Format.{piecesOf}
 use Rattle.meaning.specs.declared.Format.{Format}
 use Rattle.meaning.specs.declared.Format.the-variants.{Ewah, Wah}
-use Rattle.meaning.specs.Ahead.{restOf, NoneEmpty}
+use Rattle.meaning.specs.Ahead.{restOf}
 use Rattle.ewah.specs.declared.cursor.Cursor.{Cursor}
 use Rattle.ewah.specs.declared.cursor.Piece as code
 use Rattle.ewah.specs.declared.cursor.Piece.the-variants.{Clean, Dirty}

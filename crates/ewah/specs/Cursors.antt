@@ -5,11 +5,11 @@ use mathlib.Core.Path.{_≡_}
 use mathlib.Core.List.{List, [], _∷_}
 use lib.ListN.{length, drop, getD}
 use Rattle.meaning.specs.Limits.{mostDirty}
-use Rattle.meaning.specs.Piece.{Piece, dirtyWord, runThen}
+use Rattle.meaning.specs.Piece.{Piece, dirtyWord, runThen, NoneEmpty}
 use Rattle.meaning.specs.Format.{mostRun}
 use Rattle.meaning.specs.declared.Format.{Format}
 use Rattle.meaning.specs.declared.Format.the-variants.{Ewah, Wah}
-use Rattle.meaning.specs.Ahead.{restOf, NoneEmpty}
+use Rattle.meaning.specs.Ahead.{restOf}
 use Rattle.ewah.specs.declared.cursor.Piece as code
 use Rattle.ewah.specs.declared.cursor.Piece.the-variants.{Clean, Dirty}
 use Rattle.ewah.specs.declared.cursor.Cursor.{Cursor}

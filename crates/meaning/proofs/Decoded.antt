@@ -13,10 +13,9 @@ use borrow.Author.Tests.{ltb-false, le-ltb}
 use Rattle.meaning.specs.Limits.{mostClean, mostDirty}
 use Rattle.meaning.specs.Segment.{fill, lastLimit, segmentCount, overPad}
 use Rattle.meaning.specs.Refusal.{Verdict, sound, refuseIf}
-use Rattle.meaning.specs.Piece.{Piece, dirtyWord, runThen, pieceSize, dirtyIn, lastDirty, flat}
+use Rattle.meaning.specs.Piece.{Piece, dirtyWord, runThen, pieceSize, NoneEmpty, dirtyIn, lastDirty, flat}
 use Rattle.meaning.specs.Ewah.{pieces, decode, segments, valueOf, cleanOf, dirtyOf, marker, dueAfter, faultFrom, ewahFault}
 use Rattle.meaning.specs.Demands.{Words}
-use Rattle.meaning.specs.Ahead.{NoneEmpty}
 use Rattle.meaning.proofs.Pieces.{flat-run, run-length, some-run, some-none, last-rest, limit-pos, pad-clear, pad-last, LowPieces, low-run, flat-below}
 
 pub decode-append : (due : ℕ) (a b : List ℕ) → decode due (a ++ b) ≡ decode due a ++ decode (dueAfter due a) b

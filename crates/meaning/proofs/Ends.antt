@@ -12,14 +12,13 @@ use native.Mathlib.Decide.{decLe}
 use borrow.Author.Tests.{eq-eqb, eqb-false}
 use Rattle.meaning.specs.Limits.{mostClean, mostFill}
 use Rattle.meaning.specs.Segment.{fill}
-use Rattle.meaning.specs.Piece.{Piece, cleanRun, dirtyWord, pieceSize, runThen, flat}
+use Rattle.meaning.specs.Piece.{Piece, cleanRun, dirtyWord, runThen, pieceSize, NoneEmpty, flat}
 use Rattle.meaning.specs.Ewah.{pieces, valueOf, cleanOf, dirtyOf}
 use Rattle.meaning.specs.Wah.{isFill, fillValue, fillCount, pieceOf, wahPieces}
 use Rattle.meaning.specs.Format.{mostRun, piecesOf}
 use Rattle.meaning.specs.declared.Format.{Format}
 use Rattle.meaning.specs.declared.Format.the-variants.{Ewah, Wah}
 use Rattle.meaning.specs.Question.{isIn, endsFrom}
-use Rattle.meaning.specs.Ahead.{NoneEmpty}
 use Rattle.meaning.proofs.Tests.{or-false, or-true}
 use Rattle.meaning.proofs.Formats.{flat-length}
 

@@ -12,7 +12,7 @@ use native.Mathlib.Omega.{arith}
 use Rattle.meaning.specs.Limits.{mostRows, mostSegments}
 use Rattle.meaning.specs.Segment.{kinds, hasRow, fromRows, tabulate, segmentCount, lastLimit, lastOf}
 use Rattle.meaning.specs.Refusal.{sound}
-use Rattle.meaning.specs.Piece.{lastDirty, flat}
+use Rattle.meaning.specs.Piece.{NoneEmpty, lastDirty, flat}
 use Rattle.meaning.specs.Ewah.{ewahFault}
 use Rattle.meaning.specs.Canonical.{ewahOf, body}
 use Rattle.meaning.specs.Wah.{wahSegments, wahOf, wahBody, runWords}
@@ -20,7 +20,6 @@ use Rattle.meaning.specs.Format.{width, piecesOf, segmentsOf, rowsOf, bo
 use Rattle.meaning.specs.declared.Format.{Format}
 use Rattle.meaning.specs.declared.Format.the-variants.{Ewah, Wah}
 use Rattle.meaning.specs.Demands.{Words, BodyOf, Fewest}
-use Rattle.meaning.specs.Ahead.{NoneEmpty}
 use Rattle.meaning.specs.Laws.{EwahFacts, SoundFacts}
 use Rattle.meaning.proofs.Segments.{cut, seen, encoded, words-cut}
 use Rattle.meaning.proofs.RowWords.{rows-decide, from-length, from-has, from-last, from-below}

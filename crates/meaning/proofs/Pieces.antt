@@ -10,8 +10,7 @@ use lib.Pow.{pow-pos}
 use native.Mathlib.Omega.{arith}
 use borrow.Author.Tests.{leb-false, lt-leb, eq-eqb, ne-eqb}
 use Rattle.meaning.specs.Segment.{Segment, clean, mixed, kind, kinds, fill, allSet, lastRows, lastLimit, overPad}
-use Rattle.meaning.specs.Piece.{Piece, cleanRun, dirtyWord, runThen, pieceSize, dirtyIn, lastDirty, flat}
-use Rattle.meaning.specs.Ahead.{NoneEmpty}
+use Rattle.meaning.specs.Piece.{Piece, cleanRun, dirtyWord, runThen, pieceSize, NoneEmpty, dirtyIn, lastDirty, flat}
 
 -- ---- the segments that pieces spell
 

@@ -15,10 +15,9 @@ use borrow.Author.Tests.{ltb-true, ltb-false, leb-false, le-ltb, lt-leb, le-leb,
 use Rattle.meaning.specs.Limits.{mostFill}
 use Rattle.meaning.specs.Segment.{Segment, clean, mixed, kind, kinds, fill, segmentCount, lastRows, lastLimit, lastOf}
 use Rattle.meaning.specs.Refusal.{sound}
-use Rattle.meaning.specs.Piece.{Piece, cleanRun, dirtyWord, pieceSize, lastDirty, flat}
+use Rattle.meaning.specs.Piece.{Piece, cleanRun, dirtyWord, pieceSize, NoneEmpty, lastDirty, flat}
 use Rattle.meaning.specs.Wah.{isFill, fillValue, fillCount, fillWord, pieceOf, wahPieces, wahSegments, wahFaultFrom, wahFault, WahDraft, wahDraft, runWords, wahBody, wahPut, wahOf}
 use Rattle.meaning.specs.Demands.{Words}
-use Rattle.meaning.specs.Ahead.{NoneEmpty}
 use Rattle.meaning.specs.Laws.{WahFacts}
 use Rattle.meaning.proofs.Segments.{both, word, cut, cut-length, seen, seen-run, seen-word, words-cut, last-le, fill-cut}
 use Rattle.meaning.proofs.Pieces.{replicate-suc, flat-length, flat-append, some-append, last-append, last-rest, limit-pos, pad-clear, pad-last, below-join, below-one, fill-lt, LowPieces, flat-below, Ok, AllOk, kinds-ok, mixedWord, mixed-le}

@@ -11,11 +11,11 @@ use native.Mathlib.Omega.{arith}
 use borrow.Author.Tests.{eq-eqb, ne-eqb}
 use Rattle.meaning.specs.Rows.{bit, sumBelow, countBelow}
 use Rattle.meaning.specs.Segment.{fill}
-use Rattle.meaning.specs.Piece.{Piece, cleanRun, dirtyWord, runThen, pieceSize, flat}
+use Rattle.meaning.specs.Piece.{Piece, cleanRun, dirtyWord, runThen, pieceSize, NoneEmpty, flat}
 use Rattle.meaning.specs.Format.{width, piecesOf, segmentsOf}
 use Rattle.meaning.specs.declared.Format.{Format}
 use Rattle.meaning.specs.Question.{isIn, endsFrom, endsAt}
-use Rattle.meaning.specs.Ahead.{advanced, firstSize, NoneEmpty, Ahead}
+use Rattle.meaning.specs.Ahead.{advanced, firstSize, Ahead}
 use Rattle.meaning.proofs.Tests.{or-true}
 use Rattle.meaning.proofs.Pieces.{some-run}
 use Rattle.meaning.proofs.Formats.{spells, flat-run, flat-length}

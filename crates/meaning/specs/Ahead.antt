@@ -7,7 +7,7 @@ use mathlib.Core.List.{List, [], _∷_, map}
 use lib.ListN.{drop}
 use Rattle.meaning.specs.Rows.{countBelow}
 use Rattle.meaning.specs.Segment.{Segment, kinds, fromRows, segmentCount}
-use Rattle.meaning.specs.Piece.{Piece, cleanRun, dirtyWord, runThen, pieceSize, flat}
+use Rattle.meaning.specs.Piece.{Piece, cleanRun, dirtyWord, runThen, pieceSize, NoneEmpty, flat}
 use Rattle.meaning.specs.Ewah.{pieces}
 use Rattle.meaning.specs.Wah.{wahPieces}
 use Rattle.meaning.specs.Format.{width, piecesOf, segmentsOf, rowsOf}
@@ -32,11 +32,6 @@ unfoldable pub firstSize : List Piece → ℕ
 unfolding pieceSize
 firstSize [] = 0
 firstSize (p ∷ ps) = pieceSize p
-
--- no piece is empty
-abbrev pub NoneEmpty : List Piece → Type 0
-NoneEmpty [] = Unit {0}
-NoneEmpty (p ∷ ps) = (1 ≤ pieceSize p) × NoneEmpty ps
 
 module _ (F : Format) where
   -- ps are the pieces of the body b from segment o on, of the first perhaps only the end

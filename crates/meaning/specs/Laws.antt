@@ -10,7 +10,7 @@ use lib.ListN.{length, getD, replicate}
 use Rattle.meaning.specs.Limits.{mostClean, mostFill, mostRows, mostBitmaps, mostIndexWords, headWords, histogramCounts}
 use Rattle.meaning.specs.Segment.{Segment, clean, segmentCount, lastRows, lastLimit}
 use Rattle.meaning.specs.Refusal.{refused, answer, sound}
-use Rattle.meaning.specs.Piece.{lastDirty, flat}
+use Rattle.meaning.specs.Piece.{NoneEmpty, lastDirty, flat}
 use Rattle.meaning.specs.Ewah.{segments, dueAfter, pieces}
 use Rattle.meaning.specs.Canonical.{Draft, body, put, ewahOf}
 use Rattle.meaning.specs.Wah.{wahSegments, wahPieces, wahOf}
@@ -22,7 +22,6 @@ use Rattle.meaning.specs.Question.{complement, byTable, sumOf}
 use Rattle.meaning.specs.Answer.{bitmap, bitmapRefusal, partOf, logical, notOf, named, rightRows, threshold, symmetric, histogram}
 use Rattle.meaning.specs.Demands.{BodyOf, Fewest}
 use Rattle.meaning.specs.Paragraph.{groups, groupsWords, wahGroupsWords}
-use Rattle.meaning.specs.Ahead.{NoneEmpty}
 
 -- the plain facts of a sound EWAH body of R rows: its last marker has all its dirty words, it stands for as many segments as
 -- R rows have, and a dirty word that is the last of them sets no pad bit

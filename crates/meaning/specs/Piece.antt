@@ -1,6 +1,6 @@
 -- Pieces: what a body of either format is made of, and the segments of w rows that they spell. Section "A body" of paper 01, request 4.
 -- Assumes nothing.
-use Prim.Native.Nat.{ℕ, zero, suc}
+use Prim.Native.Nat.{ℕ, zero, suc, _≤_}
 use mathlib.Core.List.{List, [], _∷_, _++_}
 use lib.ListN.{replicate}
 use Rattle.meaning.specs.Segment.{fill}
@@ -19,6 +19,11 @@ runThen v (suc n) ps = cleanRun v (suc n) ∷ ps
 unfoldable pub pieceSize : Piece → ℕ
 pieceSize (cleanRun v n) = n
 pieceSize (dirtyWord x) = 1
+
+-- no piece is empty
+abbrev pub NoneEmpty : List Piece → Type 0
+NoneEmpty [] = Unit {0}
+NoneEmpty (p ∷ ps) = (1 ≤ pieceSize p) × NoneEmpty ps
 
 -- the word of a piece that is a dirty word, and else 0
 unfoldable pub dirtyIn : Piece → ℕ

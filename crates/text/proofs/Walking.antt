@@ -14,9 +14,10 @@ use lib.Dec.{leb}
 use borrow.Author.Tests.{leb-true, leb-false}
 use Rattle.meaning.specs.Limits.{mostSegments}
 use Rattle.meaning.specs.Segment.{hasRow, isSet}
+use Rattle.meaning.specs.Piece.{NoneEmpty}
 use Rattle.meaning.specs.Format.{width, piecesOf, segmentsOf, rowsOf}
 use Rattle.meaning.specs.declared.Format.{Format}
-use Rattle.meaning.specs.Ahead.{NoneEmpty, advanced}
+use Rattle.meaning.specs.Ahead.{advanced}
 use Rattle.meaning.proofs.Formats.{width-pos, width-le}
 use Rattle.meaning.proofs.Counting.{zero-clear}
 use Rattle.ewah.specs.declared.cursor.Cursor.{Cursor}

@@ -5,9 +5,9 @@ use mathlib.Core.Path.{_≡_}
 use mathlib.Core.List.{List, [], _++_}
 use lib.ListN.{length, take}
 use Rattle.meaning.specs.Limits.{mostSegments}
+use Rattle.meaning.specs.Piece.{NoneEmpty}
 use Rattle.meaning.specs.Format.{width, piecesOf, segmentsOf, rowsOf}
 use Rattle.meaning.specs.declared.Format.{Format}
-use Rattle.meaning.specs.Ahead.{NoneEmpty}
 use Rattle.walk.specs.Queries.{CursorAt}
 use Rattle.text.specs.declared.listing.Listing.{Listing}
 use Rattle.text.specs.declared.listing.Filled.{Filled}

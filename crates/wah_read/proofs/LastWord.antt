@@ -10,8 +10,7 @@ use lib.Pow.{pow-pos}
 use lib.Seq.{take-all, getD-append-add}
 use native.Mathlib.Omega.{arith}
 use Rattle.meaning.specs.Segment.{segmentCount, lastRows, lastLimit, fill}
-use Rattle.meaning.specs.Piece.{Piece, pieceSize, lastDirty}
-use Rattle.meaning.specs.Ahead.{NoneEmpty}
+use Rattle.meaning.specs.Piece.{Piece, pieceSize, NoneEmpty, lastDirty}
 use Rattle.meaning.specs.Wah.{isFill, fillValue, pieceOf, wahPieces, wahSegments, wahRows}
 use Rattle.meaning.specs.Laws.{WahFacts}
 use Rattle.meaning.proofs.Pads.{pads-empty, pads-none, pads-all}

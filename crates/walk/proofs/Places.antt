@@ -7,9 +7,10 @@ use native.Mathlib.Nat.{le-refl}
 use native.Mathlib.Omega.{arith}
 use borrow.Author.Count.{below-more}
 use lib.ListN.{length, drop, length-take, length-drop}
+use Rattle.meaning.specs.Piece.{NoneEmpty}
 use Rattle.meaning.specs.Format.{piecesOf, segmentsOf}
 use Rattle.meaning.specs.declared.Format.{Format}
-use Rattle.meaning.specs.Ahead.{NoneEmpty, advanced, firstSize}
+use Rattle.meaning.specs.Ahead.{advanced, firstSize}
 use Rattle.meaning.specs.Index.{startOf, lengthOf, bodyAt}
 use Rattle.meaning.specs.Laws.{HeadFacts}
 use Rattle.meaning.proofs.Walked.{ahead-start, ahead-on, ahead-some, ahead-within}

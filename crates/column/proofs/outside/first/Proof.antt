@@ -10,9 +10,9 @@ use borrow.Author.Needs.{needs}
 use denote.Ref.{now}
 use lib.ListN.{length}
 use Rattle.meaning.specs.Limits.{mostSegments, wordBits}
+use Rattle.meaning.specs.Piece.{NoneEmpty}
 use Rattle.meaning.specs.Format.{width, piecesOf, segmentsOf}
 use Rattle.meaning.specs.declared.Format.{Format}
-use Rattle.meaning.specs.Ahead.{NoneEmpty}
 use Rattle.meaning.proofs.Formats.{width-pos, width-le, facts-some, facts-count}
 use Rattle.meaning.proofs.RowWords.{rows-fit}
 use Rattle.bodies.specs.Walks.{behind}

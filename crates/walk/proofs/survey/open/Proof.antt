@@ -5,9 +5,9 @@ use Prim.Native.Nat.{ℕ, _-_, _≤_, _<_}
 use denote.Ref.{now}
 use lib.ListN.{length, getD}
 use Rattle.meaning.specs.Limits.{queryNumbers}
+use Rattle.meaning.specs.Piece.{NoneEmpty}
 use Rattle.meaning.specs.Format.{piecesOf}
 use Rattle.meaning.specs.declared.Format.{Format}
-use Rattle.meaning.specs.Ahead.{NoneEmpty}
 use Rattle.meaning.specs.Index.{formatOf, rowCount, bodyAt}
 use Rattle.meaning.proofs.Formats.{facts-some}
 use Rattle.walk.specs.Queries.{Standing, placeBody}
