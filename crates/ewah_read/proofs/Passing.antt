@@ -13,7 +13,7 @@ use native.Mathlib.Decide.{decLe}
 use native.Mathlib.Omega.{arith}
 use Rattle.meaning.specs.Limits.{mostRows, mostSegments}
 use Rattle.meaning.specs.Rows.{countBelow}
-use Rattle.meaning.specs.Segment.{ones, fill, segmentCount, lastRows, lastLimit}
+use Rattle.meaning.specs.Segment.{ones, fill, segmentCount, lastRows, lastLimit, pads}
 use Rattle.meaning.specs.Piece.{lastDirty}
 use Rattle.meaning.specs.Format.{rowsOf}
 use Rattle.meaning.specs.declared.Format.the-variants.{Ewah}
@@ -29,7 +29,7 @@ use Rattle.ewah.specs.Markers.{FieldsOf}
 use Rattle.ewah.specs.declared.marker.Marker.{Marker}
 use Rattle.ewah.proofs.MarkerStep.{read-step}
 use Rattle.ewah_read.specs.Pads.{padsSet}
-use Rattle.meaning.proofs.Pads.{pads, pads-none, pads-all}
+use Rattle.meaning.proofs.Pads.{pads-none, pads-all}
 use Rattle.ewah_read.proofs.LastSegment.{behind-words, last-word, behind-run, pads-clean, pads-dirty}
 
 -- where there are no dirty words, none of their bits are set

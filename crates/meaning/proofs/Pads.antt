@@ -9,14 +9,10 @@ use lib.ListN.{length, getD}
 use native.Mathlib.Nat.{suc-mul, zero-mul, one-mul}
 use native.Mathlib.Omega.{arith}
 use Rattle.meaning.specs.Rows.{countBelow}
-use Rattle.meaning.specs.Segment.{segmentCount, lastLimit, lastOf, hasRow, isSet, bitAt, fill, allSet}
+use Rattle.meaning.specs.Segment.{segmentCount, lastLimit, lastOf, hasRow, isSet, bitAt, fill, allSet, pads}
 use Rattle.meaning.proofs.RowWords.{has-at, before-last, pad-clear, last-getD}
 use Rattle.meaning.proofs.Counted.{count-none}
 use Rattle.meaning.proofs.Counting.{count-all, full-set}
-
--- how many they are
-abbrev pub pads : (w R : ℕ) → List ℕ → ℕ
-pads w R xs = countBelow (length xs * w - R) (λ r. hasRow w xs (R + r))
 
 -- no segments
 pub pads-empty : (w R : ℕ) (xs : List ℕ) → length xs ≡ 0 → pads w R xs ≡ 0

@@ -5,7 +5,7 @@ use Prim.Native.Nat.{ℕ, zero, suc, _+_, _-_, _*_, _/_, _%_, _^_, min}
 use mathlib.Core.Bool.{Bool, cond, _&&_}
 use mathlib.Core.List.{List, [], _∷_}
 use lib.Dec.{eqb, leb, ltb}
-use lib.ListN.{getD}
+use lib.ListN.{length, getD}
 use Rattle.meaning.specs.Rows.{bit, countBelow}
 
 -- ---- rows and segments
@@ -104,3 +104,7 @@ unfoldable pub lastOf : List ℕ → ℕ
 lastOf [] = 0
 lastOf (x ∷ []) = x
 lastOf (x ∷ y ∷ ys) = lastOf (y ∷ ys)
+
+-- how many pad bits of R rows, which are the bits past the last row, the segments set
+abbrev pub pads : (w R : ℕ) → List ℕ → ℕ
+pads w R segs = countBelow (length segs * w - R) (λ r. hasRow w segs (R + r))

@@ -9,14 +9,13 @@ use lib.ListN.{length, take, getD, length-append, getD-replicate}
 use lib.Pow.{pow-pos}
 use lib.Seq.{take-all, getD-append-add}
 use native.Mathlib.Omega.{arith}
-use Rattle.meaning.specs.Segment.{segmentCount, lastRows, lastLimit, fill}
+use Rattle.meaning.specs.Segment.{segmentCount, lastRows, lastLimit, fill, pads}
 use Rattle.meaning.specs.Piece.{Piece, pieceSize, NoneEmpty, lastDirty}
-use Rattle.meaning.specs.Wah.{isFill, fillValue, pieceOf, wahPieces, wahSegments, wahRows}
+use Rattle.meaning.specs.Wah.{isFill, fillValue, pieceOf, wahPieces, wahSegments}
 use Rattle.meaning.specs.Laws.{WahFacts}
 use Rattle.meaning.proofs.Pads.{pads-empty, pads-none, pads-all}
 use Rattle.wah.specs.Words.{Spells}
 use Rattle.wah.proofs.Spelled.{literal-piece, spelled-fill, spelled-literal, spells-none, spells-next, spells-size}
-use Rattle.wah_read.specs.Pads.{padsSet}
 
 -- where no piece is empty, each word spells a segment
 some-at : (b : List ℕ) (i : ℕ) → i < length b → NoneEmpty (wahPieces b) → 1 ≤ pieceSize (pieceOf (getD b i 0))
@@ -35,8 +34,7 @@ last-literal (x ∷ y ∷ ys) zero e f = absurd (omega arith)
 last-literal (x ∷ y ∷ ys) (suc m) e f = last-literal (y ∷ ys) m (omega arith) f
 
 -- no words
-pub pads-no-words : (R : ℕ) (b : List ℕ) → length b ≡ 0 → padsSet R b ≡ 0
-unfolding wahRows
+pub pads-no-words : (R : ℕ) (b : List ℕ) → length b ≡ 0 → pads 31 R (wahSegments b) ≡ 0
 pads-no-words R [] e = pads-empty 31 R (wahSegments []) (ap length spells-none)
 pads-no-words R (x ∷ xs) e = absurd (omega arith)
 
@@ -76,24 +74,22 @@ module _ (R : ℕ) (b : List ℕ) (facts : WahFacts R b) (some : length b ≡ 0 
       ∙ getD-replicate (pieceSize (pieceOf last)) (pieceSize (pieceOf last) - 1) y 0 (omega (arith, size-some))
 
   -- it sets none
-  low : (y : ℕ) → Spells last y → y < lastLimit 31 R → padsSet R b ≡ 0
-  unfolding wahRows
+  low : (y : ℕ) → Spells last y → y < lastLimit 31 R → pads 31 R (wahSegments b) ≡ 0
   low y s h = pads-none 31 (lit< tt) R (wahSegments b) n (facts .count) end (rw (last-is y s) h)
 
   -- it sets all
-  all : getD (wahSegments b) n 0 ≡ fill 31 1 → padsSet R b ≡ length (wahSegments b) * 31 - R
-  unfolding wahRows
+  all : getD (wahSegments b) n 0 ≡ fill 31 1 → pads 31 R (wahSegments b) ≡ length (wahSegments b) * 31 - R
   all f = pads-all 31 (lit< tt) R (wahSegments b) n (facts .count) end f
 
-  pub pads-literal : isFill (getD b (length b - 1) 0) ≡ false → padsSet R b ≡ 0
+  pub pads-literal : isFill (getD b (length b - 1) 0) ≡ false → pads 31 R (wahSegments b) ≡ 0
   pads-literal f = low last (spelled-literal last f) (rw (last-literal b m (omega (arith, some)) f) at (facts .pads))
 
   -- of a fill all or none, by its value
   pub pads-fill : isFill (getD b (length b - 1) 0) ≡ true → (v : ℕ) → v ≡ fillValue (getD b (length b - 1) 0) → v < 2
-      → padsSet R b ≡ v * (segmentCount 31 R * 31 - R)
+      → pads 31 R (wahSegments b) ≡ v * (segmentCount 31 R * 31 - R)
   pads-fill f v e l = go v l (spelled-fill last (fill 31 v) f (ap (fill 31) e))
     where
-      go : (v : ℕ) → v < 2 → Spells last (fill 31 v) → padsSet R b ≡ v * (segmentCount 31 R * 31 - R)
+      go : (v : ℕ) → v < 2 → Spells last (fill 31 v) → pads 31 R (wahSegments b) ≡ v * (segmentCount 31 R * 31 - R)
       go zero h s = low (fill 31 0) s (unfold fill lastLimit in pow-pos (lastRows 31 R)) ∙ omega arith
       go (suc zero) h s = omega (arith, facts .count, all (last-is (fill 31 1) s))
       go (suc (suc v)) h s = absurd (omega arith)

@@ -10,7 +10,7 @@ use native.Mathlib.Omega.{arith}
 use Rattle.meaning.specs.Limits.{mostRows, mostSegments}
 use Rattle.meaning.specs.Rows.{countBelow}
 use Rattle.meaning.specs.Refusal.{refused, answer}
-use Rattle.meaning.specs.Segment.{hasRow, ones, segmentCount}
+use Rattle.meaning.specs.Segment.{hasRow, ones, segmentCount, pads}
 use Rattle.meaning.specs.Piece.{pieceSize}
 use Rattle.meaning.specs.Wah.{pieceOf, wahSegments, wahRows}
 use Rattle.meaning.specs.Format.{rowsOf}
@@ -23,7 +23,6 @@ use Rattle.meaning.proofs.Asked.{nth-found, nth-pad, nth-past}
 use Rattle.meaning.proofs.WahBody.{segments-append}
 use Rattle.wah.specs.Words.{Spells}
 use Rattle.wah.proofs.Spelled.{spells-none, spells-at, spells-split, spells-next, spells-size}
-use Rattle.wah_read.specs.Pads.{padsSet}
 
 -- ---- behind word i
 
@@ -114,7 +113,7 @@ module _ (R : ℕ) (b : List ℕ) (low : R ≤ mostRows) (facts : WahFacts R b) 
   word-few i h = omega (arith, segments-few, segments-behind b (i + 1), segments-next b i h)
 
   -- the set bits are the set rows, and the pad bits that a fill of ones sets
-  pub rows-counted : ones 31 (wahSegments b) ≡ countBelow R (wahRows b) + padsSet R b
+  pub rows-counted : ones 31 (wahSegments b) ≡ countBelow R (wahRows b) + pads 31 R (wahSegments b)
   unfolding wahRows
   rows-counted = count-rows 31 (lit< tt) R (wahSegments b) (facts .count)
 

@@ -4,11 +4,10 @@ ghost use mathlib.Core.List.{[], _∷_};
 ghost use Prim.Native.Nat.{_≤_};
 ghost use Rattle.meaning.specs.Limits.{mostRows, mostSegments};
 ghost use Rattle.meaning.specs.Rows.{countBelow};
-ghost use Rattle.meaning.specs.Segment.{ones};
+ghost use Rattle.meaning.specs.Segment.{ones, pads};
 ghost use Rattle.meaning.specs.Piece.{pieceSize};
 ghost use Rattle.meaning.specs.Wah.{pieceOf, wahSegments, wahRows};
 ghost use Rattle.meaning.specs.Laws.{WahFacts};
-ghost use Rattle.wah_read.specs.Pads.{padsSet};
 use meaning::Format;
 use wah::word;
 use words::bits;
@@ -29,7 +28,7 @@ pub fn count_word(x: u32) -> u32
 // How many pad bits of the last segment are set: those of a fill of ones. A literal sets none.
 fn pads_set(body: &[u32], rows: u32) -> u32
     requires { ⌜ (rows ≤ mostRows) × WahFacts rows (now body) ⌝ }
-    ensures { λ r. ⌜ r ≡ padsSet rows (now (body .entry)) ⌝ }
+    ensures { λ r. ⌜ r ≡ pads 31 rows (wahSegments (now (body .entry))) ⌝ }
 {
     let len = body.len();
     if len == 0 {
