@@ -12,7 +12,7 @@ use native.Mathlib.Omega.{arith}
 use Rattle.meaning.specs.Limits.{mostRows, mostSegments}
 use Rattle.meaning.specs.Segment.{kinds, hasRow, fromRows, tabulate, segmentCount, lastLimit, lastOf}
 use Rattle.meaning.specs.Refusal.{sound}
-use Rattle.meaning.specs.Piece.{NoneEmpty, lastDirty, flat}
+use Rattle.meaning.specs.Piece.{NoneEmpty, flat}
 use Rattle.meaning.specs.Ewah.{ewahFault}
 use Rattle.meaning.specs.Canonical.{ewahOf, body}
 use Rattle.meaning.specs.Wah.{wahSegments, wahOf, wahBody, runWords}
@@ -76,10 +76,6 @@ facts-some Wah R b f = f .some
 pub facts-count : (F : Format) (R : ℕ) (b : List ℕ) → SoundFacts F R b → length (segmentsOf F b) ≡ segmentCount (width F) R
 facts-count Ewah R b f = f .count
 facts-count Wah R b f = f .count
-
-pub facts-pads : (F : Format) (R : ℕ) (b : List ℕ) → SoundFacts F R b → lastDirty (piecesOf F b) < lastLimit (width F) R
-facts-pads Ewah R b f = f .pads
-facts-pads Wah R b f = f .pads
 
 pub segments-below : (F : Format) (b : List ℕ) → Words b → (i : ℕ) → getD (segmentsOf F b) i 0 < 2 ^ width F
 segments-below Ewah b h i = decoded-words b h i

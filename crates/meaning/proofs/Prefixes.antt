@@ -4,7 +4,7 @@ use Prim.Native.Nat.{ℕ, _+_, _*_, _≤_, _<_}
 use mathlib.Core.Path.{_≡_, sym, ap, _∙_}
 use mathlib.Core.List.{List, [], _∷_, foldl, foldl-append}
 use lib.ListN.{length, take, drop, getD, take-append-drop, length-take}
-use lib.Seq.{take-suc, take-all, take-add}
+use lib.Seq.{take-suc, take-all}
 use native.Mathlib.Omega.{arith}
 use native.Mathlib.Numerals.{add-one}
 use Rattle.meaning.specs.Segment.{Segment, clean, kind, kinds, rowsIn, segmentCount}
@@ -43,7 +43,3 @@ upTo-within ss i =
 pub upTo-low : (ss : List Segment) (i : ℕ) → length (body (upTo ss i)) ≤ 2 * i
 unfolding body
 upTo-low ss i = omega (arith, puts-add blank (take i ss), length-take i ss)
-
--- n segments more
-pub upTo-on : (ss : List Segment) (o n : ℕ) → foldl put (upTo ss o) (take n (drop o ss)) ≡ upTo ss (o + n)
-upTo-on ss o n = sym (foldl-append put blank (take o ss) (take n (drop o ss))) ∙ ap (λ (l : List Segment). foldl put blank l) (sym (take-add o n ss))

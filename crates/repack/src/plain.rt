@@ -29,7 +29,7 @@ fn pair(plain: &[u32], k: usize) -> u64
 }
 
 // The n rows from row `at` on.
-pub fn rows_from(plain: &[u32], at: u32, n: u32) -> u32
+fn rows_from(plain: &[u32], at: u32, n: u32) -> u32
     requires { ⌜ (n ≤ 32) × (at < 32 * length (now plain)) ⌝ }
     ensures { λ r. ⌜ r ≡ wordOf n (λ j. hasRow 32 (now (plain .entry)) (at + j)) ⌝ }
 {

@@ -7,7 +7,7 @@ use wah::word;
 use words::bits;
 
 // The word of segment s.
-pub fn segment(body: &[u32], s: u32) -> u32
+fn segment(body: &[u32], s: u32) -> u32
     requires { ⌜ s < length (wahSegments (now body)) ⌝ }
     ensures { λ r. ⌜ r ≡ getD (wahSegments (now (body .entry))) s 0 ⌝ }
 {

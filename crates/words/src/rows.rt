@@ -70,7 +70,7 @@ pub fn segments(format: Format, rows: u32) -> u32
 }
 
 // How many rows the last segment has.
-pub fn last_rows_of(format: Format, rows: u32) -> u32
+fn last_rows_of(format: Format, rows: u32) -> u32
     requires { ⌜ 1 ≤ rows ⌝ }
     ensures { λ r. ⌜ (r ≡ lastRows (width format) rows) × (1 ≤ r) × (r ≤ width format) ⌝ }
 {
