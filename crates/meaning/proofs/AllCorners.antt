@@ -221,6 +221,11 @@ wahs =
     ∷ isAnswer (rewriteIndex archive Wah 13) archive
     ∷ isRefused (rewriteIndex archive Ewah 13) 9 0 14
     ∷ isRefused (rewriteIndex (3 ∷ 40 ∷ 0 ∷ []) Wah 9) 2 0 0
+    -- rewriting no rows, whose idle markers go, and no bitmaps
+    ∷ isAnswer (rewrite Ewah Wah 0 (0 ∷ 0 ∷ []) 0) []
+    ∷ isAnswer (rewriteIndex (1 ∷ 0 ∷ 1 ∷ 5 ∷ 1 ∷ 0 ∷ []) Wah 5) (2 ∷ 0 ∷ 1 ∷ 5 ∷ 0 ∷ [])
+    ∷ isAnswer (rewriteIndex (2 ∷ 40 ∷ 0 ∷ []) Ewah 3) (1 ∷ 40 ∷ 0 ∷ [])
+    ∷ isRefused (rewriteIndex (2 ∷ 40 ∷ 0 ∷ []) Ewah 2) 9 0 3
     -- an index of WAH bodies: its faults have places in it, and its answers its format
     ∷ isSound (check archive)
     ∷ isRefused (check (2 ∷ 40 ∷ 1 ∷ 5 ∷ 2 ∷ 0x7FFFFFFF ∷ 0x7FFFFFFF ∷ [])) 7 0 6
