@@ -1,5 +1,5 @@
 -- The two formats of a body under one set of names: what each means by width, pieces, segments, rows, first fault and canonical form.
--- Everything above this file speaks of a format, and not of EWAH or WAH. Request 4.
+-- But for `formatOf`, which tells them by word 0, index, questions, answers and demands speak of a format alone. Request 4.
 -- Assumes nothing.
 use Prim.Native.Nat.{ℕ}
 use mathlib.Core.Bool.{Bool}

@@ -9,7 +9,7 @@ use crate::packer;
 use meaning::Format;
 use words::rows;
 
-// A word as a number that is doubled.
+// A word, widened to 64 bits.
 fn wide(x: u32) -> u64
     ensures { λ r. ⌜ (r ≡ x) × (r < 4294967296) ⌝ }
 {

@@ -1,4 +1,4 @@
-// A counter of a few bits for each of the 32 rows of a segment, in planes: bit k of the counter of row j is bit j of planes[k].
+// A counter of a few bits for each bit of a segment's word, in planes: bit k of the counter of bit j is bit j of planes[k].
 ghost use mathlib.Core.Path.{_≡_};
 ghost use mathlib.Core.Bool.{_&&_};
 ghost use Prim.Native.Nat.{ℕ, _+_, _*_, _≤_, _<_};
