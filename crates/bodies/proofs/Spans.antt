@@ -42,23 +42,27 @@ module _ (F : Format) (b : List ℕ) (o : ℕ) (c : Cursor) (a : Ahead F b o (pi
   abbrev others : List Piece
   others = restOf F (c .dirty) (drop (c .next) b)
 
-  ahead-of : (q : code.Piece) → c .piece ≡ q → Ahead F b o (pieceThen q others)
+  pub ahead-of : (q : code.Piece) → c .piece ≡ q → Ahead F b o (pieceThen q others)
   unfolding piecesFrom
   ahead-of q e = subst (λ (z : code.Piece). Ahead F b o (pieceThen z others)) e a
 
-  -- there is a segment in the span
-  pub span-some : (leftOf (c .piece) ≡ 0 → piecesFrom F b c ≡ []) → o < length (segmentsOf F b) → 1 ≤ spanOf c
-  span-some z l = go (c .piece) refl
+  -- before the body's end something of the piece is left
+  pub left-some : (leftOf (c .piece) ≡ 0 → piecesFrom F b c ≡ []) → o < length (segmentsOf F b) → 1 ≤ leftOf (c .piece)
+  left-some z l = go (leftOf (c .piece)) refl
     where
-      none : leftOf (c .piece) ≡ 0 → ⊥
-      none q =
-          let e : firstSize (piecesFrom F b c) ≡ 0 = ap firstSize (z q) ∙ (unfold firstSize in refl) in
-          omega (arith, ahead-some F b o (piecesFrom F b c) a l)
+      go : (n : ℕ) → leftOf (c .piece) ≡ n → 1 ≤ leftOf (c .piece)
+      go zero e =
+          let s : firstSize (piecesFrom F b c) ≡ 0 = ap firstSize (z e) ∙ (unfold firstSize in refl) in
+          absurd (omega (arith, ahead-some F b o (piecesFrom F b c) a l))
+      go (suc n) e = omega arith
 
-      go : (q : code.Piece) → c .piece ≡ q → 1 ≤ spanBy q (c .dirty)
-      go (Clean v zero) e = absurd (none (ap leftOf e))
-      go (Clean v (suc n)) e = omega arith
-      go (Dirty x) e = omega arith
+  -- and there is a segment in the span
+  pub span-some : (leftOf (c .piece) ≡ 0 → piecesFrom F b c ≡ []) → o < length (segmentsOf F b) → 1 ≤ spanOf c
+  span-some z l = go (c .piece) (left-some z l)
+    where
+      go : (q : code.Piece) → 1 ≤ leftOf q → 1 ≤ spanBy q (c .dirty)
+      go (Clean v n) h = omega arith
+      go (Dirty x) h = omega arith
 
   -- the segments of a clean run are its word
   pub run-word : (v left : ℕ) → c .piece ≡ Clean v left → (i : ℕ) → i < left → getD (segmentsOf F b) (o + i) 0 ≡ fill (width F) v

@@ -1,8 +1,8 @@
 -- A walk over the pieces of a body that counts the rows still to come, for either format: what the piece ahead says of
 -- them, and how it goes on.
 -- Assumes nothing.
-use Prim.Native.Nat.{ℕ, zero, suc, _+_, _-_, _*_, _/_, _%_, _^_, _≤_, _<_, min}
-use mathlib.Core.Path.{_≡_, refl, sym, ap, _∙_}
+use Prim.Native.Nat.{ℕ, suc, _+_, _-_, _*_, _/_, _%_, _^_, _≤_, _<_, min}
+use mathlib.Core.Path.{_≡_, sym, ap, _∙_}
 use mathlib.Core.List.{List, []}
 use lib.Dec.{eqb}
 use lib.ListN.{length}
@@ -20,14 +20,14 @@ use Rattle.meaning.proofs.Formats.{width-pos, width-le, facts-some, facts-count
 use Rattle.meaning.proofs.Cut.{bit-below}
 use Rattle.meaning.proofs.RowWords.{eqb-bit, has-at, rows-fit}
 use Rattle.meaning.proofs.Even.{bit-fill}
-use Rattle.meaning.proofs.Walked.{ahead-start, ahead-on, ahead-some, ahead-within}
+use Rattle.meaning.proofs.Walked.{ahead-start, ahead-on, ahead-within}
 use Rattle.ewah.specs.declared.cursor.Cursor.{Cursor}
 use Rattle.ewah.specs.declared.cursor.Piece as code
 use Rattle.ewah.specs.declared.cursor.Piece.the-variants.{Clean, Dirty}
 use Rattle.ewah.specs.Cursors.{Stands, InOrder, ValueLow, leftOf, piecesFrom}
 use Rattle.bodies.specs.Walks.{wordOf}
 use Rattle.bodies.proofs.Advancing.{first-left}
-use Rattle.bodies.proofs.Spans.{piece-word}
+use Rattle.bodies.proofs.Spans.{left-some, piece-word}
 use Rattle.rewrite.specs.Walking.{rowIn, Gives}
 use Rattle.rewrite.proofs.Sending.{count-few}
 
@@ -88,13 +88,7 @@ module _ (F : Format) (R : ℕ) (b : List ℕ) where
 
       -- the piece has a segment, and no more than are to come
       pub piece-some : 1 ≤ leftOf (c .piece)
-      piece-some = go (leftOf (c .piece)) refl
-        where
-          go : (n : ℕ) → leftOf (c .piece) ≡ n → 1 ≤ leftOf (c .piece)
-          go zero e =
-              let z : firstSize (piecesFrom F b c) ≡ 0 = ap firstSize (t .at-end e) ∙ (unfold firstSize in refl) in
-              absurd (omega (arith, ahead-some F b (t .o) (piecesFrom F b c) (t .ahead) inside))
-          go (suc n) e = omega arith
+      piece-some = left-some F b (t .o) c (t .ahead) (t .at-end) inside
 
       piece-size : firstSize (piecesFrom F b c) ≡ leftOf (c .piece)
       piece-size = first-left F b c piece-some

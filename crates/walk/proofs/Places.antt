@@ -1,7 +1,7 @@
 -- Cursors that go on in their bodies, place by place.
 -- Assumes nothing.
-use Prim.Native.Nat.{ℕ, zero, suc, _+_, _≤_, _<_}
-use mathlib.Core.Path.{_≡_, refl, ap, _∙_}
+use Prim.Native.Nat.{ℕ, _+_, _≤_, _<_}
+use mathlib.Core.Path.{_≡_, refl, _∙_}
 use mathlib.Core.List.{List}
 use native.Mathlib.Nat.{le-refl}
 use native.Mathlib.Omega.{arith}
@@ -13,10 +13,11 @@ use Rattle.meaning.specs.declared.Format.{Format}
 use Rattle.meaning.specs.Ahead.{advanced, firstSize}
 use Rattle.meaning.specs.Index.{startOf, lengthOf, bodyAt}
 use Rattle.meaning.specs.Laws.{HeadFacts}
-use Rattle.meaning.proofs.Walked.{ahead-start, ahead-on, ahead-some, ahead-within}
+use Rattle.meaning.proofs.Walked.{ahead-start, ahead-on, ahead-within}
 use Rattle.ewah.specs.declared.cursor.Cursor.{Cursor}
 use Rattle.ewah.specs.Cursors.{ValueLow, InOrder, Stands, leftOf, piecesFrom}
 use Rattle.bodies.proofs.Advancing.{first-left}
+use Rattle.bodies.proofs.Spans.{left-some}
 use Rattle.walk.specs.declared.survey.Survey.{Survey}
 use Rattle.walk.specs.Queries.{cursorOf, Stored, CursorAt, placeBody, Standing}
 use Rattle.walk.specs.Surveys.{Weighed, Surveyed, Moved, MovedAll}
@@ -48,13 +49,7 @@ module _ (F : Format) (b : List ℕ) (c : Cursor) where
 -- before the body's end something of the piece is left, and it lies within the body
 module _ (F : Format) (b : List ℕ) (o : ℕ) (c : Cursor) (a : CursorAt F b o c) (h : o < length (segmentsOf F b)) where
   pub some-left : 1 ≤ leftOf (c .piece)
-  some-left = go (leftOf (c .piece)) refl
-    where
-      go : (n : ℕ) → leftOf (c .piece) ≡ n → 1 ≤ leftOf (c .piece)
-      go zero e =
-          let z : firstSize (piecesFrom F b c) ≡ 0 = ap firstSize (a .at-end e) ∙ (unfold firstSize in refl) in
-          absurd (omega (arith, ahead-some F b o (piecesFrom F b c) (a .ahead) h))
-      go (suc n) e = omega arith
+  some-left = left-some F b o c (a .ahead) (a .at-end) h
 
   pub left-size : firstSize (piecesFrom F b c) ≡ leftOf (c .piece)
   left-size = first-left F b c some-left
