@@ -26,6 +26,7 @@ use Rattle.ewah.specs.declared.cursor.Cursor.{Cursor}
 use Rattle.ewah.specs.declared.cursor.Piece as code
 use Rattle.ewah.specs.declared.cursor.Piece.the-variants.{Clean, Dirty}
 use Rattle.ewah.specs.Cursors.{ValueLow, leftOf, pieceThen, piecesFrom}
+use Rattle.bodies.proofs.Spans.{ahead-of}
 use Rattle.words.specs.Counters.{countAt}
 use Rattle.words.proofs.BitLaws.{bit-set}
 use Rattle.walk.specs.declared.survey.Survey.{Survey}
@@ -104,10 +105,6 @@ module _ (F : Format) (b : List ℕ) (o : ℕ) (c : Cursor) (a : CursorAt F b o 
   abbrev others : List Piece
   others = restOf F (c .dirty) (drop (c .next) b)
 
-  ahead-of : (q : code.Piece) → c .piece ≡ q → Ahead F b o (pieceThen q others)
-  unfolding piecesFrom
-  ahead-of q e = subst (λ (z : code.Piece). Ahead F b o (pieceThen z others)) e (a .ahead)
-
   module _ (l : o < length (segmentsOf F b)) where
     -- row j of every segment of a run, and of the segment of a dirty word
     pub row-run : dirtyIn (c .piece) ≡ 0 → (i : ℕ) → o ≤ i → i < o + leftOf (c .piece)
@@ -120,7 +117,7 @@ module _ (F : Format) (b : List ℕ) (o : ℕ) (c : Cursor) (a : CursorAt F b o 
         go (Clean v zero) e z h = absurd (omega arith)
         go (Clean v (suc n)) e z h =
             let f : Ahead F b o (cleanRun v (suc n) ∷ others) =
-            unfold pieceThen runThen in ahead-of (Clean v (suc n)) e in
+            unfold pieceThen runThen in ahead-of F b o c (a .ahead) (Clean v (suc n)) e in
             let at : o + (i - o) ≡ i = omega arith in
             let word : getD segs i 0 ≡ fill w v =
             ap (λ (m : ℕ). getD segs m 0) (sym at) ∙ ahead-run F b o v (suc n) others f (i - o) (omega arith) in
@@ -135,7 +132,7 @@ module _ (F : Format) (b : List ℕ) (o : ℕ) (c : Cursor) (a : CursorAt F b o 
             let l′ : o < o + leftOf (c .piece) = omega (arith, some-left F b o c a l) in
             omega (arith, row-run (ap dirtyIn e) o (omega arith) l′ j k, ap onesIn e)
         go (Dirty x) e =
-            let f : Ahead F b o (dirtyWord x ∷ others) = unfold pieceThen in ahead-of (Dirty x) e in
+            let f : Ahead F b o (dirtyWord x ∷ others) = unfold pieceThen in ahead-of F b o c (a .ahead) (Dirty x) e in
             rw (row-bit F b o j k, ahead-dirty F b o x others f) (omega (arith, bit-set x j))
 
     -- its piece ends at the end of what is left, and not before
