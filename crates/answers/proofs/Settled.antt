@@ -2,10 +2,10 @@
 -- buffers that they leave. So no other program meets them.
 -- Assumes nothing.
 use Prim.Native.Nat.{ℕ}
-use mathlib.Core.Path.{_≡_, refl, sym, ap, _∙_}
+use mathlib.Core.Path.{_≡_, sym, ap, _∙_}
 use mathlib.Core.List.{List}
 use native.Mathlib.Omega.{arith}
-use Rattle.meaning.specs.Refusal.{Outcome, refused, answer}
+use Rattle.meaning.specs.Refusal.{Outcome}
 use Rattle.answers.specs.declared.refusal.Refusal.{Refusal}
 use Rattle.answers.specs.declared.answer.Value.{Value}
 use Rattle.answers.specs.declared.answer.Value.the-variants as value

@@ -1,6 +1,6 @@
 // Questions on columns of a sound index: what is left to be refused, every 8 before any 11 before 9, and the answer.
 ghost use mathlib.Core.Path.{_≡_};
-ghost use Prim.Native.Nat.{ℕ, suc, _≤_, _<_};
+ghost use Prim.Native.Nat.{suc, _≤_};
 ghost use lib.ListN.{length};
 ghost use mathlib.Core.Bool.{false};
 ghost use Rattle.meaning.specs.Limits.{headWords, mostColumn, mostValueColumn};

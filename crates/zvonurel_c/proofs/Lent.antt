@@ -1,14 +1,13 @@
 -- Where a bitmap's body lies within its index.
 -- Assumes nothing.
-use Prim.Native.Nat.{ℕ, suc, _+_, _≤_, _<_}
+use Prim.Native.Nat.{ℕ, _<_}
 use mathlib.Core.Path.{_≡_, sym, _∙_}
 use mathlib.Core.List.{List, []}
 use native.Mathlib.Omega.{arith}
-use lib.ListN.{length}
 use Rattle.meaning.specs.Refusal.{refused, answer, sound, _then_}
-use Rattle.meaning.specs.Index.{bitmapCount, startOf, lengthOf, bodyPlace, bodyAt}
+use Rattle.meaning.specs.Index.{bitmapCount, startOf, lengthOf, bodyAt}
 use Rattle.meaning.specs.Answer.{bitmap, bitmapRefusal}
-use Rattle.meaning.specs.Laws.{HeadFacts, EntryFacts}
+use Rattle.meaning.specs.Laws.{HeadFacts}
 use Rattle.meaning.proofs.BitmapPart.{part-laws}
 use Rattle.meaning.proofs.Outcomes.{then-sound}
 use Rattle.answers.specs.declared.refusal.Checked.{Checked}

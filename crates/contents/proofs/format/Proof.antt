@@ -1,6 +1,5 @@
 -- `contents::format` meets its contract: word 0 states WAH, or else EWAH. Assumes nothing.
 use denote.Ref.{now}
-use native.Mathlib.Omega.{arith}
 use borrow.Author.Needs.{needs}
 use Rattle.contents.proofs.Stated.{wah-stated, ewah-stated}
 use Rattle.contents.proofs.format.Statement.{statement}

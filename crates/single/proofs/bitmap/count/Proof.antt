@@ -4,7 +4,6 @@ use mathlib.Core.Path.{_∙_}
 use denote.Ref.{now}
 use Rattle.meaning.specs.Rows.{countBelow}
 use Rattle.single.proofs.Numbers.{rows-as, facts-as, asked-as}
-use borrow.Author.Needs.{needs}
 use Rattle.single.proofs.bitmap.count.Statement.{statement}
 use Rattle.single.proofs.bitmap.count.Tie as tie
 

@@ -5,7 +5,6 @@ use denote.Ref.{now}
 use Rattle.meaning.specs.Refusal.{Outcome}
 use Rattle.meaning.specs.Answer.{askNth}
 use Rattle.single.proofs.Numbers.{rows-as, facts-as, asked-as}
-use borrow.Author.Needs.{needs}
 use Rattle.single.proofs.bitmap.nth.Statement.{statement}
 use Rattle.single.proofs.bitmap.nth.Tie as tie
 

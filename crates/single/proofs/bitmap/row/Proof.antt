@@ -5,7 +5,6 @@ use denote.Ref.{now}
 use Rattle.meaning.specs.Refusal.{Outcome}
 use Rattle.meaning.specs.Answer.{askRow}
 use Rattle.single.proofs.Numbers.{facts-as, asked-as}
-use borrow.Author.Needs.{needs}
 use Rattle.single.proofs.bitmap.row.Statement.{statement}
 use Rattle.single.proofs.bitmap.row.Tie as tie
 

@@ -1,7 +1,6 @@
 -- `single::plain::compress` meets its contract: in each format its own writing. Assumes nothing.
 use mathlib.Core.Path.{sym, ap, _∙_}
 use lib.ListN.{length}
-use native.Mathlib.Omega.{arith}
 use denote.Ref.{now}
 use borrow.Author.Needs.{needs}
 use Rattle.single.proofs.PlainWords.{canonical-plain}

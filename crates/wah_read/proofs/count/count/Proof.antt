@@ -14,10 +14,6 @@ use borrow.Author.Needs.{needs}
 use native.Mathlib.Omega.{arith}
 use Rattle.wah_read.proofs.count.count.Statement.{statement}
 use Rattle.wah_read.proofs.count.count.Tie as tie
-use Rattle.wah_read.proofs.count.count.Reads as reads
-use Rattle.wah_read.proofs.count.count.Lts as lts
-use Rattle.wah_read.proofs.count.count_word.Reads as count-word-reads
-use Rattle.wah_read.proofs.count.pads_set.Reads as pads-set-reads
 
 abbrev Inv-loop : tie.InvT-loop
 Inv-loop body rows n₀ at₀ n at = (at ≤ length body) × (n ≡ onesBehind body at)

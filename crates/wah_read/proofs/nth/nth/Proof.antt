@@ -16,11 +16,6 @@ use borrow.Author.Needs.{needs}
 use native.Mathlib.Omega.{arith}
 use Rattle.wah_read.proofs.nth.nth.Statement.{statement}
 use Rattle.wah_read.proofs.nth.nth.Tie as tie
-use Rattle.wah_read.proofs.nth.nth.Reads as reads
-use Rattle.wah_read.proofs.nth.nth.Lts as lts
-use Rattle.wah.proofs.word.size.Reads as size-reads
-use Rattle.wah_read.proofs.count.count_word.Reads as count-word-reads
-use Rattle.wah_read.proofs.nth.nth_in_word.Reads as nth-in-word-reads
 
 abbrev Inv-loop : tie.InvT-loop
 Inv-loop body rows n at₀ behind₀ ahead₀ at behind ahead =

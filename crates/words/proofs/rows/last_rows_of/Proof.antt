@@ -1,5 +1,4 @@
 -- `words::rows::last_rows_of` meets its contract: by the format's case, the definition of `lastRows`. Assumes nothing.
-use Prim.Native.Nat.{_-_}
 use mathlib.Core.Path.{sym, ap, _∙_}
 use native.Mathlib.Omega.{arith}
 use borrow.Author.Needs.{needs}
