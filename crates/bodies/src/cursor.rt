@@ -47,7 +47,8 @@ fn load_wah(body: &[u32], next: usize) -> Cursor
     }
 }
 
-// The first piece from word `next` on, where so many dirty words are due. Only EWAH has such, so they come before the switch.
+// The first piece from word `next` on, where so many dirty words are due.
+// Only EWAH has such, so they come before the switch.
 fn load(format: Format, body: &[u32], next: usize, dirty: u32) -> Cursor
     requires { ⌜ (next ≤ length (now body)) × (dirty ≤ mostDue format) ⌝ }
     requires { ⌜ NoneEmpty (restOf format dirty (drop next (now body))) ⌝ }
@@ -128,8 +129,8 @@ pub fn advance(format: Format, body: &[u32], c: Cursor, n: u32) -> Cursor
     load(format, body, next, dirty)
 }
 
-// How many segments there are up to the next marker or fill: what is left of a run, or the dirty words from the cursor's
-// on. In WAH a literal stands alone.
+// How many segments there are up to the next marker or fill: what is left of a run, or the dirty words from the
+// cursor's on. In WAH a literal stands alone.
 pub fn span(c: Cursor) -> u32
     requires { ⌜ c .dirty ≤ mostDirty ⌝ }
     ensures { λ r. ⌜ r ≡ spanOf c ⌝ }

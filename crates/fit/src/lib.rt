@@ -36,8 +36,8 @@ fn named_words(index: &[u32], list: &[u32]) -> usize
     total
 }
 
-// The most words that a body of the index's rows can have: in EWAH a word for each segment and for each marker, in WAH a word for each
-// segment.
+// The most words that a body of the index's rows can have: in EWAH a word for each segment and for each marker, in WAH
+// a word for each segment.
 fn most_words(index: &[u32]) -> usize
     requires { ⌜ IndexFacts (now index) ⌝ }
     ensures { λ r. ⌜ ((list table : List ℕ) (op : Operation)
@@ -51,8 +51,8 @@ fn most_words(index: &[u32]) -> usize
     }
 }
 
-// Whether a buffer surely has room for the answer, whatever is asked of the list: for any body of the index's rows, or for two
-// words for each word of the named bodies.
+// Whether a buffer surely has room for the answer, whatever is asked of the list: for any body of the index's rows, or
+// for two words for each word of the named bodies.
 fn surely_fits(index: &[u32], list: &[u32], room: usize) -> bool
     requires { ⌜ Walkable (now index) (now list) ⌝ }
     ensures { λ r. ⌜ (r ≡ true → (table : List ℕ) (op : Operation)

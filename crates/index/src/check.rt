@@ -5,7 +5,8 @@ ghost use Prim.Native.Nat.{_≤_, _<_};
 ghost use lib.ListN.{length};
 ghost use Rattle.meaning.specs.Refusal.{_then_};
 ghost use Rattle.meaning.specs.Format.{bodyFault};
-ghost use Rattle.meaning.specs.Index.{isKind, formatOf, rowCount, bitmapCount, entryPlace, startOf, bodyAt, headFault, entriesFault, bodiesFault, indexFault};
+ghost use Rattle.meaning.specs.Index.{isKind, formatOf, rowCount, bitmapCount, entryPlace, startOf, bodyAt};
+ghost use Rattle.meaning.specs.Index.{headFault, entriesFault, bodiesFault, indexFault};
 ghost use Rattle.meaning.specs.Laws.{HeadFacts, EntryFacts};
 ghost use Rattle.answers.specs.Told.{verdictOf};
 ghost use Rattle.index.specs.Entries.{Stepped, refusal};
@@ -116,8 +117,8 @@ fn check_entries(index: &[u32]) -> Checked
     Checked::Sound
 }
 
-// Body k, with places counted from word 0 of the index. `bodies::check` has the same switch; here both ways are compiled
-// into the loop over the bodies, which a call for each short body would slow.
+// Body k, with places counted from word 0 of the index. `bodies::check` has the same switch; here both ways are
+// compiled into the loop over the bodies, which a call for each short body would slow.
 fn check_body(format: Format, index: &[u32], rows: u32, k: u32) -> Checked
     requires { ⌜ HeadFacts (now index) ⌝ }
     requires { ⌜ EntryFacts (now index) ⌝ }

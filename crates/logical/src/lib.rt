@@ -1,4 +1,5 @@
-// Logical questions of one or two bitmaps of a sound index: each is a question over a list, refused with 8 where a bitmap is not there.
+// Logical questions of one or two bitmaps of a sound index: each is a question over a list, refused with 8 where a
+// bitmap is not there.
 ghost use mathlib.Core.Path.{_≡_};
 ghost use mathlib.Core.Bool.{Bool};
 ghost use mathlib.Core.List.{List, []};
@@ -29,15 +30,16 @@ fn words_alone(a: Answered) -> Written
     }
 }
 
-// The rows at whose number of holders the operation says yes, whichever set p they are; 8 where the list names a bitmap that is not
-// there, whichever test `bad` says so.
+// The rows at whose number of holders the operation says yes, whichever set p they are; 8 where the list names a
+// bitmap that is not there, whichever test `bad` says so.
 fn ask_list(index: &[u32], list: &[u32], op: Operation, out: &mut [u32]) -> Written
     requires { ⌜ IndexFacts (now index) ⌝ }
     requires { ⌜ (1 ≤ length (now list)) × (length (now list) ≤ mostNamed) × LowNumber op ⌝ }
     ensures { λ r. ⌜ ((p : ℕ → Bool) (bad : Bool)
         → meaning.anyBad (now (index .entry)) (now (list .entry)) ≡ bad
         → ((i : ℕ) → chosen op [] (held (meaning.named (now (index .entry)) (now (list .entry))) i) ≡ p i)
-        → Wrote (refuseIf bad 8 0 0 (meaning.write (formatOf (now (index .entry))) (rowCount (now (index .entry))) p (length (now (out .entry)))))
+        → Wrote (refuseIf bad 8 0 0
+        (meaning.write (formatOf (now (index .entry))) (rowCount (now (index .entry))) p (length (now (out .entry)))))
         r (now (out .entry)) (now (out .exit))) ⌝ }
 {
     if ask::names_missing(index, list) {

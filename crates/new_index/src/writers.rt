@@ -21,8 +21,8 @@ use meaning::MOST_VALUE_COLUMN;
 use meaning::WRITER_NUMBERS;
 use meaning::WRITERS_NUMBERS;
 
-// Five numbers for each writer: the words in use, the last marker's place, and its three fields; in WAH those of the run that
-// the words end with.
+// Five numbers for each writer: the words in use, the last marker's place, and its three fields; in WAH those of the
+// run that the words end with.
 pub struct Writers {
     pub numbers: [usize; WRITERS_NUMBERS],
 }
@@ -96,8 +96,8 @@ pub fn row_length(n: u32, even: bool) -> usize
     contents::wide(n)
 }
 
-// The next n segments of each of the bodies, row i of `rows` for body i: written to the part of `out` between start i and
-// start i + 1 where `store` says so, and else only measured.
+// The next n segments of each of the bodies, row i of `rows` for body i: written to the part of `out` between start i
+// and start i + 1 where `store` says so, and else only measured.
 pub fn emit_all(
     format: Format,
     out: &mut [u32],
@@ -116,7 +116,8 @@ pub fn emit_all(
     requires { ⌜ ((i : ℕ) → i < count → Growing format (writerOf (now numbers) i) n) ⌝ }
     requires { ⌜ (even ≡ true → (i : ℕ) → i < count → CleanWord format (getD (now rows) (i * blockSegments) 0)) ⌝ }
     requires { ⌜ (store ≡ true → (i : ℕ) → i < count
-        → RoomFor format (rowOf format (now rows) n even i) (writerOf (now numbers) i) (length (region (now starts) (now out) i))) ⌝ }
+        → RoomFor format (rowOf format (now rows) n even i) (writerOf (now numbers) i)
+        (length (region (now starts) (now out) i))) ⌝ }
     ensures { λ _. ⌜ ((real : ℕ) → mask ≡ 2 ^ real - 1
         → EmittedAll format real (now (starts .entry)) (now (out .entry)) (now (out .exit))
         (now (numbers .entry)) (now (numbers .exit)) count (rowOf format (now (rows .entry)) n even) store) ⌝ }

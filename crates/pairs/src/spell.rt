@@ -12,7 +12,8 @@ use meaning::BLOCK_SEGMENTS;
 use meaning::BLOCK_WORDS;
 use words::rows;
 
-// Word w of each of the first `count` rows, of whose bits the mask has the rows; `full` is the word of a segment of ones.
+// Word w of each of the first `count` rows, of whose bits the mask has the rows;
+// `full` is the word of a segment of ones.
 fn spell_each(z: &mut [u32; BLOCK_WORDS], count: usize, w: usize, mask: u32, full: u32)
     requires { ⌜ (length (now z) ≡ blockWords) × (count ≤ mostValueColumn) × (w < blockSegments) ⌝ }
     ensures { λ _. ⌜ ((F : Format) → full ≡ allSet (width F)
@@ -26,8 +27,8 @@ fn spell_each(z: &mut [u32; BLOCK_WORDS], count: usize, w: usize, mask: u32, ful
     }
 }
 
-// The next n segments, a row for each of `count` bodies, of whose last one the mask has the rows. The words of a run are
-// all zeros or all ones, over pad bits too, and stay.
+// The next n segments, a row for each of `count` bodies, of whose last one the mask has the rows. The words of a run
+// are all zeros or all ones, over pad bits too, and stay.
 pub fn spell(z: &mut [u32; BLOCK_WORDS], count: usize, n: u32, even: bool, mask: u32, full: u32)
     requires { ⌜ (1 ≤ n) × (length (now z) ≡ blockWords) × (count ≤ mostValueColumn)
         × (even ≡ false → n ≤ blockSegments) ⌝ }

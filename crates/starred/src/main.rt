@@ -1,5 +1,6 @@
-// The starred readings of paper 01 ("Readings to test by"), asked of the public calls. What a reading expects is computed from the
-// definitions; that the call gives it is proved of the call's contract alone; and the run tries it on the compiled code.
+// The starred readings of paper 01 ("Readings to test by"), asked of the public calls. What a reading expects is
+// computed from the definitions; that the call gives it is proved of the call's contract alone; and the run tries it
+// on the compiled code.
 use meaning::HISTOGRAM_COUNTS;
 use zvonurel::Format;
 
@@ -20,8 +21,8 @@ fn short_bodies() {
     );
 }
 
-// Bodies of 40 rows: all set, written and read as a run, and read with the last segment as a dirty word; rows 0 and 39;
-// a pad bit.
+// Bodies of 40 rows: all set, written and read as a run, and read with the last segment as a dirty word;
+// rows 0 and 39; a pad bit.
 fn forty_rows() {
     cases::compresses(
         Format::Ewah,
@@ -127,8 +128,8 @@ fn stretches() {
     cases::threshold(&index, &list, 1, 4, 3, &[0x0002_0000, 0x20, 0x0002_0002, 1]);
 }
 
-// WAH bodies: 62 rows with none set, single clean segments, 40 rows all set; a fill of no segments, a pad bit, a fill past
-// the end.
+// WAH bodies: 62 rows with none set, single clean segments, 40 rows all set; a fill of no segments, a pad bit, a fill
+// past the end.
 fn wah_bodies() {
     cases::compresses(Format::Wah, 62, &[0, 0], 1, &[0x8000_0002, 7, 7, 7]);
     cases::compresses(Format::Wah, 31, &[0x7FFF_FFFF], 1, &[0x7FFF_FFFF, 7, 7, 7]);

@@ -1,5 +1,5 @@
-// A word of a WAH body taken apart and built, by shifts and masks: bit 31 says that it is a fill, which has its value in bit 30 and
-// its count of segments in the bits below.
+// A word of a WAH body taken apart and built, by shifts and masks: bit 31 says that it is a fill, which has its value
+// in bit 30 and its count of segments in the bits below.
 ghost use mathlib.Core.Path.{_≡_};
 ghost use Prim.Native.Nat.{_≤_, _<_};
 ghost use Rattle.meaning.specs.Limits.{mostFill};

@@ -1,4 +1,5 @@
-// What the cursors of a query stand on: the stretch up to the first end of a piece, and how many bitmaps have each row there.
+// What the cursors of a query stand on: the stretch up to the first end of a piece,
+// and how many bitmaps have each row there.
 ghost use mathlib.Core.Path.{_≡_};
 ghost use mathlib.Core.List.{List};
 ghost use Prim.Native.Nat.{ℕ, _≤_, _<_, min};
@@ -18,8 +19,8 @@ use meaning::PLANES;
 use meaning::QUERY_NUMBERS;
 use words::counters;
 
-// The fewest segments that a piece has left, the places in a run of ones, those on a dirty word, and for each row the dirty words
-// that have it, as counters.
+// The fewest segments that a piece has left, the places in a run of ones, those on a dirty word, and for each row the
+// dirty words that have it, as counters.
 pub struct Survey {
     pub least: u32,
     pub ones: u32,
@@ -85,7 +86,8 @@ fn move_place(
         × (1 ≤ n) × (n ≤ leftOf (cursorOf (now numbers) i .piece)) ⌝ }
     requires { ⌜ InOrder format (bodyAt (now index) k) (cursorOf (now numbers) i) ⌝ }
     requires { ⌜ Room s ⌝ }
-    ensures { λ r. ⌜ Moved format (bodyAt (now (index .entry)) k) (now (numbers .entry)) i n (now (numbers .exit)) s r ⌝ }
+    ensures { λ r. ⌜ Moved format (bodyAt (now (index .entry)) k)
+        (now (numbers .entry)) i n (now (numbers .exit)) s r ⌝ }
 {
     let c = query::cursor_at(numbers, i);
     let d = cursor::advance(format, contents::body(index, k), c, n);

@@ -1,4 +1,5 @@
-// A counter of a few bits for each bit of a segment's word, in planes: bit k of the counter of bit j is bit j of planes[k].
+// A counter of a few bits for each bit of a segment's word, in planes:
+// bit k of the counter of bit j is bit j of planes[k].
 ghost use mathlib.Core.Path.{_≡_};
 ghost use mathlib.Core.Bool.{_&&_};
 ghost use Prim.Native.Nat.{ℕ, _+_, _*_, _≤_, _<_};
@@ -79,8 +80,8 @@ pub fn by_table(planes: [u32; PLANES], base: u32, table: &[u32]) -> u32
     r
 }
 
-// How many rows have each count, with each row of the mask counted so many times more, where base more bitmaps have every row and no
-// counter passes `most`: only the counts from base to base + most can grow.
+// How many rows have each count, with each row of the mask counted so many times more, where base more bitmaps have
+// every row and no counter passes `most`: only the counts from base to base + most can grow.
 pub fn add_to_histogram(
     counts: [u32; HISTOGRAM_COUNTS],
     planes: [u32; PLANES],

@@ -1,5 +1,5 @@
-// Rows laid out in segments: how many segments, and which bits of one are rows. A segment has 32 rows in plain words, and in a body
-// the width of its format.
+// Rows laid out in segments: how many segments, and which bits of one are rows. A segment has 32 rows in plain words,
+// and in a body the width of its format.
 ghost use mathlib.Core.Path.{_≡_};
 ghost use mathlib.Core.Bool.{cond};
 ghost use Prim.Native.Nat.{ℕ, _%_, _-_, _^_, _≤_, _<_};
@@ -80,8 +80,8 @@ fn last_rows_of(format: Format, rows: u32) -> u32
     }
 }
 
-// Whether a word of 31 bits sets a pad bit as the last WAH segment of that many rows. A shift by at most 31 tells it, with
-// no mask to work out before EWAH bodies too.
+// Whether a word of 31 bits sets a pad bit as the last WAH segment of that many rows. A shift by at most 31 tells it,
+// with no mask to work out before EWAH bodies too.
 pub fn wah_sets_pad(rows: u32, x: u32) -> bool
     requires { ⌜ 1 ≤ rows ⌝ }
     ensures { λ r. ⌜ r ≡ leb (lastLimit 31 rows) x ⌝ }
@@ -111,8 +111,8 @@ pub fn mask_before(full: u32, last: u32, segments: u32, end: u32) -> u32
     last
 }
 
-// The word that a segment is written as, of whose bits the mask has the rows: `full`, the word of a whole segment of ones,
-// where all its rows are set, so that it is a clean segment like any other; else its rows, with no pad bit.
+// The word that a segment is written as, of whose bits the mask has the rows: `full`, the word of a whole segment of
+// ones, where all its rows are set, so that it is a clean segment like any other; else its rows, with no pad bit.
 pub fn spelled(x: u32, mask: u32, full: u32) -> u32
     ensures { λ r. ⌜ ((w real : ℕ) → 1 ≤ real → real ≤ w → full ≡ allSet w → mask ≡ allSet real
         → (kind w r ≡ kind real (x % 2 ^ real)) × (r < 2 ^ w)) ⌝ }
@@ -124,7 +124,8 @@ pub fn spelled(x: u32, mask: u32, full: u32) -> u32
     seen
 }
 
-// Whether a segment's word is that of a clean one, where `full` has all its rows set. Its lowest bit is then their value.
+// Whether a segment's word is that of a clean one, where `full` has all its rows set.
+// Its lowest bit is then their value.
 pub fn is_clean(x: u32, full: u32) -> bool
     ensures { λ r. ⌜ ((w : ℕ) → 1 ≤ w → full ≡ allSet w → kind w x ≡ cond r (clean (x % 2)) (mixed x)) ⌝ }
 {

@@ -1,8 +1,9 @@
 // Zvonurel: EWAH and WAH bitmaps over lent slices of 32-bit words. Every public call is on this page.
 //
-// A call asks nothing of its input: what is wrong with it is refused, with paper 01's three numbers. Each `ensures` settles
-// what is returned, and every word of a lent buffer afterwards, for every input. The outcomes that they name are defined in
-// `meaning`'s `specs/Answer.antt`, `specs/Columns.antt` and `specs/Rewriting.antt`; `answers`' `specs/Told.antt` says which outcome an answer tells.
+// A call asks nothing of its input: what is wrong with it is refused, with paper 01's three numbers. Each `ensures`
+// settles what is returned, and every word of a lent buffer afterwards, for every input. The outcomes that they name
+// are defined in `meaning`'s `specs/Answer.antt`, `specs/Columns.antt` and `specs/Rewriting.antt`; `answers`'
+// `specs/Told.antt` says which outcome an answer tells.
 ghost use mathlib.Core.Path.{_≡_};
 ghost use Prim.Native.Nat.{_+_, _*_};
 ghost use lib.ListN.{length};
@@ -26,7 +27,7 @@ pub use answers::refusal::Refusal;
 pub use meaning::Format;
 use meaning::MOST_ROWS;
 
-// ---- one body alone, of a format: bitmap 0, with places counted in the body. More rows than the limit are refused first
+// ---- one body alone, of a format: bitmap 0, with places counted in the body; too many rows are refused first
 
 // The first fault of a body of that many rows.
 pub fn check_body(format: Format, body: &[u32], rows: u32) -> Checked
@@ -127,8 +128,9 @@ pub fn bitmap_refusal(index: &[u32], k: u32) -> Checked
     }
 }
 
-// The part of the index that is bitmap k's body: empty where the index or the number is refused. It lies in the lent index itself,
-// behind its first byte by as many words as the contents say; of an empty part on a refusal only the block is settled.
+// The part of the index that is bitmap k's body: empty where the index or the number is refused. It lies in the lent
+// index itself, behind its first byte by as many words as the contents say; of an empty part on a refusal only the
+// block is settled.
 pub fn bitmap(index: &[u32], k: u32) -> &[u32]
     ensures { λ r. ⌜ now r ≡ meaning.partOf (meaning.bitmap (now (index .entry)) k) ⌝ }
     ensures { λ r. ⌜ r .ptr .0 ≡ index .entry .ptr .0 ⌝ }
@@ -315,7 +317,7 @@ pub fn histogram(index: &[u32], list: &[u32]) -> Histogram
     }
 }
 
-// ---- columns: a list names existence first, then the slices of the values, the lowest first; a number may be named twice
+// ---- columns: a list names existence first, then the slices, the lowest first; a number may be named twice
 
 // The value at a row of the column that a list of `LEAST_COLUMN` to `MOST_VALUE_COLUMN` numbers names.
 pub fn value(index: &[u32], column: &[u32], row: u32) -> Value
@@ -328,8 +330,8 @@ pub fn value(index: &[u32], column: &[u32], row: u32) -> Value
     }
 }
 
-// The sum of two columns of up to `MOST_COLUMN` numbers each, as a new index of the same format: the rows that exist in both, then one slice more
-// than the wider has.
+// The sum of two columns of up to `MOST_COLUMN` numbers each, as a new index of the same format: the rows that exist
+// in both, then one slice more than the wider has.
 pub fn sum(index: &[u32], first: &[u32], second: &[u32], out: &mut [u32]) -> Written
     ensures { λ r. ⌜ Wrote (columns.sum (now (index .entry)) (now (first .entry)) (now (second .entry))
         (length (now (out .entry)))) r (now (out .entry)) (now (out .exit)) ⌝ }

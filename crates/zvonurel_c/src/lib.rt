@@ -1,10 +1,10 @@
-// The public calls of `zvonurel` for C, under their names with `zv_` before them. A call that takes a format is one call for
-// each: those on a body alone are here for EWAH and in `alone` for WAH, those that rewrite are in `rewriting`.
-// `include/zvonurel.h` declares them all.
+// The public calls of `zvonurel` for C, under their names with `zv_` before them. A call that takes a format is one
+// call for each: those on a body alone are here for EWAH and in `alone` for WAH, those that rewrite are in
+// `rewriting`. `include/zvonurel.h` declares them all.
 //
-// A slice is a pointer and a number of words. Each `ensures` cites the same outcome as the public call's, and settles every
-// field of what is returned and every word of a lent buffer; `specs/Exported.antt` of the crate `replies` says how an outcome
-// is told in numbers.
+// A slice is a pointer and a number of words. Each `ensures` cites the same outcome as the public call's, and settles
+// every field of what is returned and every word of a lent buffer; `specs/Exported.antt` of the crate `replies` says
+// how an outcome is told in numbers.
 ghost use lib.ListN.{length};
 ghost use Rattle.meaning.specs.declared.Format.the-variants.{Ewah};
 ghost use Rattle.meaning.specs.Answer as meaning;

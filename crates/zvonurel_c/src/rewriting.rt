@@ -1,4 +1,5 @@
-// Rewriting into a body, or an index, of the format that a call is named for: of a body alone, of a bitmap, of a whole index.
+// Rewriting into a body, or an index, of the format that a call is named for:
+// of a body alone, of a bitmap, of a whole index.
 ghost use lib.ListN.{length};
 ghost use Rattle.meaning.specs.declared.Format.the-variants.{Ewah, Wah};
 ghost use Rattle.meaning.specs.Rewriting as rewriting;
