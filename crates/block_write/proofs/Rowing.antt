@@ -1,9 +1,9 @@
 -- The words of a row one after the other: the segments of the first i of them, and what room they take.
 -- Assumes nothing.
 use Prim.Native.Nat.{ℕ, _+_, _-_, _^_, _≤_, _<_}
-use mathlib.Core.Bool.{Bool, true, false, true≢false}
+use mathlib.Core.Bool.{Bool, true, false}
 use mathlib.Core.Path.{_≡_, refl, sym, ap, _∙_, subst}
-use mathlib.Core.List.{List, [], _∷_, _++_, map, append-nil}
+use mathlib.Core.List.{List, [], _∷_, _++_, map}
 use native.Mathlib.Decide.{ℕ-discrete}
 use native.Mathlib.Omega.{arith}
 use native.Mathlib.Numerals.{add-one}
@@ -15,8 +15,9 @@ use Rattle.meaning.specs.declared.Format.{Format}
 use Rattle.meaning.specs.declared.Format.the-variants.{Ewah}
 use Rattle.meaning.proofs.Segments.{map-append}
 use Rattle.ewah_write.specs.declared.writer.Writer.{Writer}
-use Rattle.body_write.specs.Bodies.{Growing, RoomFor, Grown, Pushed, Emitted}
-use Rattle.body_write.proofs.Joined.{still-growing, grown-more, pushed-more, room-first, room-rest}
+use Rattle.body_write.specs.Bodies.{Growing, RoomFor, Grown, Emitted}
+use Rattle.body_write.proofs.Joined.{still-growing, room-first, room-rest}
+use Rattle.body_write.proofs.Emitting.{emitted-none, emitted-more}
 use Rattle.block_write.specs.Rowed.{rowSegments}
 
 -- ---- the first i words
@@ -50,11 +51,6 @@ module _ (F : Format) (xs : List ℕ) (i : ℕ) (h : i < length xs) where
   first-length : length first ≡ i
   first-length = length-map (take i xs) (kind (width F)) ∙ length-take-le i xs (omega arith)
 
-  -- the next one is put
-  pub grown-next : {w v r : Writer} → Grown F w (map (kind (width F)) (take i xs)) v
-      → Grown F v (kind (width F) (getD xs i 0) ∷ []) r → Grown F w (map (kind (width F)) (take (i + 1) xs)) r
-  grown-next f g = rw (first-more read xs i h) (grown-more first next f g)
-
   -- a row is its first words, the next one and the rest
   row-split : map (kind (width F)) xs ≡ (first ++ next) ++ map (kind (width F)) (drop (i + 1) xs)
   row-split =
@@ -75,64 +71,54 @@ module _ (F : Format) (xs : List ℕ) (i : ℕ) (h : i < length xs) where
       room-rest first next
       (room-first (first ++ next) rest (subst (λ (l : List Segment). RoomFor F l w n) row-split r)) g
 
-  pub pushed-next : {real n : ℕ} {out mid out′ : List ℕ} {w v r : Writer} → RoomFor F (map (kind (width F)) xs) w n
-      → Pushed F (width F) out mid w (map (kind (width F)) (take i xs)) v
-      → Pushed F real mid out′ v (kind (width F) (getD xs i 0) ∷ []) r
-      → Pushed F real out out′ w (map (kind (width F)) (take (i + 1) xs)) r
-  pushed-next p f g =
-      let few : length (first ++ next) ≤ length (map read xs) =
-      omega (arith, length-append first next, first-length, length-map xs read) in
-      rw (first-more read xs i h) (pushed-more first next (p .0, p .1, omega (arith, p .2, few)) f g)
+  -- the next one is emitted
+  pub emitted-next : {real : ℕ} {out mid out′ : List ℕ} {w v r : Writer} {store : Bool} → Growing F w (length xs)
+      → Emitted F (width F) out mid w (map (kind (width F)) (take i xs)) store v
+      → Emitted F real mid out′ v (kind (width F) (getD xs i 0) ∷ []) store r
+      → Emitted F real out out′ w (map (kind (width F)) (take (i + 1) xs)) store r
+  emitted-next p f g =
+      let few = length-append first next in
+      rw (first-more read xs i h) (emitted-more first next (p .0, p .1, omega (arith, p .2, few, first-length)) f g)
 
--- nothing is put yet
-pub grown-none : {F : Format} {w : Writer} → Grown F w [] w
-grown-none before t h = rw (append-nil before) t
+-- ---- one by one
 
--- ---- many pushes
-
--- the first i words are pushed, the last of all with the rows of the mask, and those before it with all of theirs
-abbrev pub PushedTo : (F : Format) (words : List ℕ) (mask : ℕ) (old : List ℕ) (w : Writer) (out : List ℕ) (v : Writer)
-    (i : ℕ) → Type 0
-PushedTo F words mask old w out v i =
+-- the first i words are emitted, the last of all with the rows of the mask, and those before it with all of theirs
+abbrev pub EmittedTo : (F : Format) (words : List ℕ) (mask : ℕ) (store : Bool) (old : List ℕ) (w : Writer)
+    (out : List ℕ) (v : Writer) (i : ℕ) → Type 0
+EmittedTo F words mask store old w out v i =
     (real : ℕ) → (i < length words → real ≡ width F) → (length words ≤ i → mask ≡ 2 ^ real - 1)
-    → Pushed F real old out w (map (kind (width F)) (take i words)) v
+    → Emitted F real old out w (map (kind (width F)) (take i words)) store v
 
-module _ (F : Format) (words : List ℕ) (mask : ℕ) (old : List ℕ) (w : Writer) where
-  pub pushed-none : 1 ≤ length words → PushedTo F words mask old w old w 0
-  pushed-none some real whole last =
-      let e = whole (omega arith) in
-      record { grown = grown-none; drawn = λ before t h b. rw (append-nil before, e) b; kept = refl }
+module _ (F : Format) (words : List ℕ) (mask : ℕ) (store : Bool) (old : List ℕ) (w : Writer) where
+  pub each-none : 1 ≤ length words → EmittedTo F words mask store old w old w 0
+  each-none some real whole last =
+      subst (λ (k : ℕ). Emitted F k old old w [] store w) (sym (whole (omega arith))) (emitted-none F old w store)
 
-  module _ (out : List ℕ) (v : Writer) (i : ℕ) (h : i < length words) (g : PushedTo F words mask old w out v i) where
-    by-whole : Pushed F (width F) old out w (map (kind (width F)) (take i words)) v
+  module _ (out : List ℕ) (v : Writer) (i : ℕ) (h : i < length words)
+      (g : EmittedTo F words mask store old w out v i) where
+    by-whole : Emitted F (width F) old out w (map (kind (width F)) (take i words)) store v
     by-whole = g (width F) (λ l. refl) (λ l. absurd (omega arith))
 
-    pub room-more : {n : ℕ} → RoomFor F (map (kind (width F)) words) w n
-        → RoomFor F (kind (width F) (getD words i 0) ∷ []) v n
-    room-more p = room-next F words i h p (by-whole .grown)
+    pub each-growing : Growing F w (length words) → Growing F v 1
+    each-growing p = growing-next F words i h p (by-whole .grown)
 
-    -- the next one, of which `full` has the rows
-    pub pushed-one : {n : ℕ} {out′ : List ℕ} {r : Writer} (full : ℕ) → RoomFor F (map (kind (width F)) words) w n
-        → (i + 1 ≡ length words → full ≡ mask) × ((i + 1 ≡ length words → ⊥) → full ≡ allSet (width F))
-        → ((real : ℕ) → full ≡ 2 ^ real - 1 → Pushed F real out out′ v (kind (width F) (getD words i 0) ∷ []) r)
-        → PushedTo F words mask old w out′ r (i + 1)
-    pushed-one full p rows push real whole last = pushed-next F words i h p by-whole (push real rows-are)
+    pub each-room : {n : ℕ} → RoomFor F (map (kind (width F)) words) w n
+        → RoomFor F (kind (width F) (getD words i 0) ∷ []) v n
+    each-room p = room-next F words i h p (by-whole .grown)
+
+    -- the next one, of which `own` has the rows
+    pub each-more : {out′ : List ℕ} {r : Writer} (own : ℕ) → Growing F w (length words)
+        → (i + 1 ≡ length words → own ≡ mask) × ((i + 1 ≡ length words → ⊥) → own ≡ allSet (width F))
+        → ((real : ℕ) → own ≡ 2 ^ real - 1
+        → Emitted F real out out′ v (kind (width F) (getD words i 0) ∷ []) store r)
+        → EmittedTo F words mask store old w out′ r (i + 1)
+    each-more own p rows emit real whole last = emitted-next F words i h p by-whole (emit real rows-are)
       where
-        rows-are : full ≡ 2 ^ real - 1
+        rows-are : own ≡ 2 ^ real - 1
         rows-are = elim (ℕ-discrete (i + 1) (length words)) [
           | yes e ↦ rows .0 e ∙ last (omega arith)
           | no e ↦ rows .1 e ∙ unfold allSet in ap (λ (k : ℕ). 2 ^ k - 1) (sym (whole (omega arith)))
         ]
-
--- ---- written or only measured
-
-module _ {F : Format} {real : ℕ} {out : List ℕ} {w r : Writer} {ss : List Segment} {store : Bool} where
-  pub emitted-stored : {out′ : List ℕ} → store ≡ true → Pushed F real out out′ w ss r
-      → Emitted F real out out′ w ss store r
-  emitted-stored t p = record { grown = p .grown; stored = λ e. p; kept = λ e. absurd (true≢false (sym t ∙ e)) }
-
-  pub emitted-measured : store ≡ false → Grown F w ss r → Emitted F real out out w ss store r
-  emitted-measured t g = record { grown = g; stored = λ e. absurd (true≢false (sym e ∙ t)); kept = λ e. refl }
 
 -- ---- the segments of a row
 

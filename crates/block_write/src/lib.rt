@@ -13,7 +13,7 @@ ghost use Rattle.meaning.specs.Format.{width, mostRun};
 ghost use Rattle.meaning.specs.declared.Format.{Format};
 ghost use Rattle.meaning.specs.declared.Format.the-variants.{Ewah};
 ghost use Rattle.ewah_write.specs.Drafts as ewah;
-ghost use Rattle.body_write.specs.Bodies.{Growing, RoomFor, Grown, Pushed, Emitted};
+ghost use Rattle.body_write.specs.Bodies.{Growing, RoomFor, Emitted};
 ghost use Rattle.block_write.specs.Rowed.{rowSegments, CleanWord, Joined};
 use body_write::writer;
 use ewah::marker;
@@ -50,10 +50,7 @@ fn emit_even(
         (replicate n (kind (width format) x)) store r) ⌝ }
 {
     let value = clean_value(x);
-    if store {
-        return writer::push_run(format, out, w, value, n, mask);
-    }
-    writer::grow_run(format, w, value, n)
+    writer::emit_run(format, out, w, value, n, mask, store)
 }
 
 // No word is all zeros or all ones.
@@ -159,21 +156,6 @@ fn emit_mixed(out: &mut [u32], w: Writer, words: &[u32], store: bool) -> Writer
     grow_words(w, words.len() as u32)
 }
 
-// The words segment by segment, with no buffer.
-fn grow_each(format: Format, w: Writer, words: &[u32]) -> Writer
-    requires { ⌜ Growing format w (length (now words)) ⌝ }
-    ensures { λ r. ⌜ Grown format w (map (kind (width format)) (now (words .entry))) r ⌝ }
-{
-    let mut v = w;
-    let mut i: usize = 0;
-    while i < words.len() {
-        let r = writer::grow_segment(format, v, words[i]);
-        v = r;
-        i += 1;
-    }
-    v
-}
-
 // The rows of segment i of so many: those of the mask if it is the last, and else all.
 fn rows_of(format: Format, i: usize, count: usize, mask: u32) -> u32
     requires { ⌜ i < count ⌝ }
@@ -185,25 +167,7 @@ fn rows_of(format: Format, i: usize, count: usize, mask: u32) -> u32
     rows::full(format)
 }
 
-// `grow_each`, with the words; the mask has the rows of the last.
-fn push_each(format: Format, out: &mut [u32], w: Writer, words: &[u32], mask: u32) -> Writer
-    requires { ⌜ RoomFor format (map (kind (width format)) (now words)) w (length (now out)) ⌝ }
-    requires { ⌜ 1 ≤ length (now words) ⌝ }
-    ensures { λ r. ⌜ ((real : ℕ) → mask ≡ 2 ^ real - 1 → Pushed format real (now (out .entry)) (now (out .exit)) w
-        (map (kind (width format)) (now (words .entry))) r) ⌝ }
-{
-    let mut v = w;
-    let mut i: usize = 0;
-    while i < words.len() {
-        let full = rows_of(format, i, words.len(), mask);
-        let r = writer::push_segment(format, out, v, words[i], full);
-        v = r;
-        i += 1;
-    }
-    v
-}
-
-// Words of any segments, one by one.
+// Words of any segments, one by one; the mask has the rows of the last.
 fn emit_each(
     format: Format,
     out: &mut [u32],
@@ -218,10 +182,15 @@ fn emit_each(
     ensures { λ r. ⌜ ((real : ℕ) → mask ≡ 2 ^ real - 1 → Emitted format real (now (out .entry)) (now (out .exit)) w
         (map (kind (width format)) (now (words .entry))) store r) ⌝ }
 {
-    if store {
-        return push_each(format, out, w, words, mask);
+    let mut v = w;
+    let mut i: usize = 0;
+    while i < words.len() {
+        let own = rows_of(format, i, words.len(), mask);
+        let r = writer::emit_segment(format, out, v, words[i], own, store);
+        v = r;
+        i += 1;
     }
-    grow_each(format, w, words)
+    v
 }
 
 // A row of n segments is written where `store` says so, and else only measured; the mask has the rows of the last.

@@ -2,4 +2,5 @@ pub mod OfEwah
 pub mod OfWah
 pub mod Bodies
 pub mod Joined
+pub mod Emitting
 pub mod UpTo

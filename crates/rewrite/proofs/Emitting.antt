@@ -1,41 +1,19 @@
--- Emitting twice is emitting once the segments of both.
+-- A run that is emitted in parts: what the writer needs for each.
 -- Assumes nothing.
 use Prim.Native.Nat.{ℕ, _+_, _-_, _≤_}
-use mathlib.Core.Bool.{Bool}
-use mathlib.Core.Path.{_≡_, refl, sym, ap, _∙_}
-use mathlib.Core.List.{List, [], _++_, append-nil}
+use mathlib.Core.Path.{_≡_, sym, ap, _∙_}
+use mathlib.Core.List.{_++_}
 use native.Mathlib.Omega.{arith}
-use lib.ListN.{length, replicate, length-replicate, replicate-append-replicate}
+use lib.ListN.{replicate, length-replicate, replicate-append-replicate}
 use Rattle.meaning.specs.Segment.{Segment}
-use Rattle.meaning.specs.Format.{width}
 use Rattle.meaning.specs.declared.Format.{Format}
 use Rattle.ewah_write.specs.declared.writer.Writer.{Writer}
-use Rattle.body_write.specs.Bodies.{Growing, Grown, RoomFor, Emitted}
-use Rattle.body_write.proofs.Joined.{still-growing, grown-more, room-first, room-rest, pushed-more}
+use Rattle.body_write.specs.Bodies.{Growing, Grown, RoomFor}
+use Rattle.body_write.proofs.Joined.{still-growing, room-first, room-rest}
 
 -- fewer can be put, too
 pub grow-fewer : {F : Format} {w : Writer} (n m : ℕ) → n ≤ m → Growing F w m → Growing F w n
 grow-fewer n m h g = (g .0, g .1, omega (arith, g .2))
-
-pub emitted-none : (F : Format) (out : List ℕ) (w : Writer) (store : Bool) → Emitted F (width F) out out w [] store w
-emitted-none F out w store = record {
-  grown = λ before t h. rw (append-nil before) t;
-  stored = λ e. record {
-    grown = λ before t h. rw (append-nil before) t;
-    drawn = λ before t h b. rw (append-nil before) b;
-    kept = refl;
-  };
-  kept = λ e. refl;
-}
-
-pub emitted-more : {F : Format} {real : ℕ} {out mid out′ : List ℕ} {w r v : Writer} {store : Bool} (ss ts : List Segment)
-    → Growing F w (length (ss ++ ts)) → Emitted F (width F) out mid w ss store r → Emitted F real mid out′ r ts store v
-    → Emitted F real out out′ w (ss ++ ts) store v
-emitted-more ss ts g p q = record {
-  grown = grown-more ss ts (p .grown) (q .grown);
-  stored = λ e. pushed-more ss ts g (p .stored e) (q .stored e);
-  kept = λ e. q .kept e ∙ p .kept e;
-}
 
 -- a run of n segments in two parts, the first of k
 module _ (g : Segment) (k n : ℕ) (h : k ≤ n) where

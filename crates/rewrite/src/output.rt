@@ -50,7 +50,7 @@ fn take_whole(format: Format, out: &mut [u32], o: Output, store: bool) -> Output
     if packer::full(held, width) {
         let cut = packer::take(held, width);
         let rest = cut.rest;
-        let v = emit::segment(format, out, w, cut.segment, rows::full(format), store);
+        let v = writer::emit_segment(format, out, w, cut.segment, rows::full(format), store);
         return Output {
             writer: v,
             packer: rest,
@@ -162,6 +162,6 @@ pub fn finish(format: Format, out: &mut [u32], o: Output, store: bool) -> usize
     }
     let mask = bits::low_ones(held.have);
     let x = rows::spelled(packer::lowest(held.word, 32), mask, rows::full(format));
-    let v = emit::segment(format, out, w, x, mask, store);
+    let v = writer::emit_segment(format, out, w, x, mask, store);
     v.used
 }

@@ -7,7 +7,7 @@ use denote.Ref.{now}
 use borrow.Author.Needs.{needs}
 use Rattle.meaning.specs.Segment.{mixed}
 use Rattle.body_write.proofs.OfEwah.{ewah-growing, ewah-grown, ewah-room, ewah-pushed}
-use Rattle.block_write.proofs.Rowing.{emitted-stored, emitted-measured}
+use Rattle.body_write.proofs.Emitting.{emitted-stored, emitted-measured}
 use Rattle.block_write.proofs.emit_mixed.Statement.{statement}
 use Rattle.block_write.proofs.emit_mixed.Tie as tie
 

@@ -1,8 +1,7 @@
 -- `merge::emit::emit` meets its contract: `push` where it stores, and else `grow`, which leaves the buffer.
 -- Assumes nothing.
-use mathlib.Core.Bool.{true≢false}
-use mathlib.Core.Path.{refl, sym, _∙_}
 use borrow.Author.Needs.{needs}
+use Rattle.body_write.proofs.Emitting.{emitted-stored, emitted-measured}
 use Rattle.merge.proofs.emit.emit.Statement.{statement}
 use Rattle.merge.proofs.emit.emit.Tie as tie
 
@@ -16,20 +15,13 @@ same-length c = search needs
 
 returns : tie.Need-returns
 returns c = λ real m.
-    let q = c .before .before .push .ensures real m in
-    let t = c .before .before .before .before .if1 .taken in
-    record { grown = q .grown; stored = λ e. q; kept = λ e. absurd (true≢false (sym t ∙ e)) }
+    emitted-stored (c .before .before .before .before .if1 .taken) (c .before .before .push .ensures real m)
 
 grow-requires : tie.Need-grow-requires
 grow-requires c κs = search needs
 
 returns-2 : tie.Need-returns-2
-returns-2 c = λ real m.
-    record {
-      grown = c .grow .ensures;
-      stored = λ e. absurd (true≢false (sym e ∙ c .before .if1 .left));
-      kept = λ e. refl;
-    }
+returns-2 c = λ real m. emitted-measured (c .before .if1 .left) (c .grow .ensures)
 
 pub emit-spec : {M : Type 1} → statement M
 emit-spec = tie.close (tie.spec push-requires same-length returns grow-requires returns-2)

@@ -9,6 +9,7 @@ use denote.Ref.{now}
 use Rattle.meaning.specs.Segment.{hasRow, kind, segmentCount, rowsIn, allSet}
 use Rattle.meaning.specs.Format.{width}
 use Rattle.meaning.proofs.Formats.{width-pos}
+use Rattle.body_write.proofs.Emitting.{emitted-measured}
 use Rattle.repack.proofs.PlainSegments.{segment-inside}
 use Rattle.rewrite.specs.Sending.{Sent}
 use Rattle.rewrite.proofs.Sending.{Next, next-word, sent-start, sent-growing, sent-on, sent-words}
@@ -117,7 +118,7 @@ loop-again c =
     let l = inside (c .before) in
     let t = at l in
     sent-on (t .loop .inv) _ _ [] (c .grow-segment .result) (next (c .before)) refl refl
-    (record { grown = c .grow-segment .ensures; stored = λ e. absurd (false≢true e); kept = λ e. refl })
+    (emitted-measured refl (c .grow-segment .ensures))
 
 returns : tie.Need-returns Inv-loop μ-loop
 returns c =

@@ -1,6 +1,6 @@
 -- `rewrite::compress::write` meets its contract: the segments passed are in the buffer. Assumes nothing.
 use Prim.Native.Nat.{ℕ, _+_, _-_, _^_, _<_}
-use mathlib.Core.Bool.{Bool, true, true≢false}
+use mathlib.Core.Bool.{Bool, true}
 use mathlib.Core.Path.{_≡_, refl, ap, _∙_}
 use mathlib.Core.List.{[], _∷_}
 use native.Mathlib.Omega.{arith}
@@ -9,6 +9,7 @@ use denote.Ref.{now}
 use Rattle.meaning.specs.Segment.{hasRow, kind, segmentCount, rowsIn, allSet}
 use Rattle.meaning.specs.Format.{width}
 use Rattle.meaning.proofs.Formats.{width-pos}
+use Rattle.body_write.proofs.Emitting.{emitted-stored}
 use Rattle.repack.proofs.PlainSegments.{segment-inside}
 use Rattle.rewrite.specs.Sending.{Sent}
 use Rattle.rewrite.proofs.Sending.{Next, next-word, sent-start, sent-room, sent-on, sent-words, sent-all}
@@ -127,7 +128,7 @@ loop-again c =
     let done = push .ensures _ (real g) in
     sent-on (t .loop .inv) _ _ (push .last .1 .0) (push .result) (next g) refl
     (push .kept .1 .0)
-    (record { grown = done .grown; stored = λ e. done; kept = λ e. absurd (true≢false e) })
+    (emitted-stored refl done)
 
 same-length : tie.Need-same-length Inv-loop μ-loop
 same-length c = search needs

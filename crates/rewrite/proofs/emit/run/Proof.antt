@@ -1,37 +1,47 @@
+-- `rewrite::emit::run` meets its contract. The invariant: all but the last `left` segments are emitted. Assumes nothing.
 use borrow.Author.Needs.{needs}
 use native.Mathlib.Omega.{arith}
-use Prim.Native.Nat.{ℕ, _+_, _-_, _≤_}
+use Prim.Native.Nat.{ℕ, _+_, _-_, _^_, _≤_}
 use mathlib.Core.Bool.{true}
 use mathlib.Core.Path.{_≡_, refl, ap, _∙_}
 use lib.ListN.{length, replicate, length-replicate, replicate-append-replicate}
 use mathlib.Core.List.{_++_}
 use denote.Ref.{now}
-use Rattle.meaning.specs.Segment.{Segment, clean}
+use Rattle.meaning.specs.Segment.{Segment, clean, allSet}
 use Rattle.meaning.specs.Format.{width}
 use Rattle.body_write.specs.Bodies.{Growing, RoomFor, Emitted}
-use Rattle.rewrite.proofs.Emitting.{emitted-none, emitted-more, grow-fewer, run-first, run-rest, run-growing}
+use Rattle.body_write.proofs.Emitting.{emitted-none, emitted-more}
+use Rattle.rewrite.proofs.Emitting.{grow-fewer, run-first, run-rest, run-growing}
 use Rattle.rewrite.proofs.emit.run.Statement.{statement}
 use Rattle.rewrite.proofs.emit.run.Tie as tie
 
 abbrev Inv-loop : tie.InvT-loop
-Inv-loop format out₀ value n store v₀ left₀ out v left =
+Inv-loop format out₀ value n store full v₀ left₀ out v left =
     (left ≤ n) × Growing format v left × (store ≡ true → RoomFor format (replicate left (clean value)) v (length out))
     × (length out ≡ length out₀) × Emitted format (width format) out₀ out v₀ (replicate (n - left) (clean value)) store v
 
 abbrev μ-loop : tie.MeasureT-loop
-μ-loop format out₀ value n store v₀ left₀ out v left = left
+μ-loop format out₀ value n store full v₀ left₀ out v left = left
 
 -- where the loop stands
 module _ (t : tie.At-loop Inv-loop μ-loop) where
   abbrev call : tie.Start Inv-loop μ-loop
-  call = t .before .before
+  call = t .before .before .before
 
   abbrev g : Segment
   g = clean (call .args .value)
 
+  -- a whole segment's rows
+  whole : t .before .full .result ≡ 2 ^ width (call .args .format) - 1
+  unfolding allSet
+  whole = t .before .full .ensures
+
+full-requires : tie.Need-full-requires Inv-loop μ-loop
+full-requires c κs = search needs
+
 loop-holds : tie.Need-loop-holds Inv-loop μ-loop
 loop-holds c =
-    let s = c .before in
+    let s = c .before .before in
     let a = s .args in
     let none : a .n - a .n ≡ 0 = omega arith in (
       omega arith,
@@ -44,8 +54,8 @@ loop-holds c =
 at-once-requires : tie.Need-at-once-requires Inv-loop μ-loop
 at-once-requires c κs = omega (arith, c .before .loop .inv .1 .2)
 
-part-requires : tie.Need-part-requires Inv-loop μ-loop
-part-requires c κs =
+emit-run-requires : tie.Need-emit-run-requires Inv-loop μ-loop
+emit-run-requires c κs =
     let t = c .before .before .before in
     let h = t .loop in
     let k = c .before .at-once .ensures in (
@@ -70,7 +80,8 @@ loop-again c =
     let l = c .before .before .before .before .before in
     let t = l .before in
     let h = t .loop in
-    let p = c .before .before .part in
+    let p = c .before .before .emit-run in
+    let em = p .ensures _ (whole t) in
     let k = c .before .before .before .before .at-once .result in
     let le = c .before .before .before .before .at-once .ensures .0 in
     let a = call t .args in
@@ -81,10 +92,10 @@ loop-again c =
     let all = grow-fewer (length (replicate done (g t) ++ replicate k (g t))) (a .n)
     (omega (arith, ap length is, length-replicate (a .n - (h .left - k)) (g t))) (call t .pre .0) in (
       omega (arith, h .inv .0),
-      run-growing (g t) k (h .left) le (h .inv .1) (p .ensures .grown),
-      λ e. rw long (run-rest (g t) k (h .left) le (h .inv .2 e) (p .ensures .grown)),
+      run-growing (g t) k (h .left) le (h .inv .1) (em .grown),
+      λ e. rw long (run-rest (g t) k (h .left) le (h .inv .2 e) (em .grown)),
       long ∙ h .inv .3,
-      rw is at (emitted-more (replicate done (g t)) (replicate k (g t)) all (h .inv .4) (p .ensures)),
+      rw is at (emitted-more (replicate done (g t)) (replicate k (g t)) all (h .inv .4) em),
     )
 
 same-length : tie.Need-same-length Inv-loop μ-loop
@@ -103,9 +114,10 @@ run-spec =
     (tie.spec
     Inv-loop
     μ-loop
+    full-requires
     loop-holds
     at-once-requires
-    part-requires
+    emit-run-requires
     sub-left
     loop-less
     loop-again

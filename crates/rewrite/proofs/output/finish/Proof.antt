@@ -63,8 +63,8 @@ module _ (c : tie.After-spelled) where
       ∙ ap (λ (z : ℕ). kind have (z % 2 ^ have)) x
       ∙ ap (kind have) (mod-eq-of-lt low)
 
-segment-requires : tie.Need-segment-requires
-segment-requires c κs =
+emit-segment-requires : tie.Need-emit-segment-requires
+emit-segment-requires c κs =
     let t = c .before in
     let s = call t in
     let F = s .args .format in
@@ -84,7 +84,7 @@ returns-2 : tie.Need-returns-2
 returns-2 c = λ R q old p.
     let t = c .before .before .before .before in
     let s = call t in
-    let emit = c .before .before .segment in
+    let emit = c .before .before .emit-segment in
     finished-part (s .args .format) R q old (s .args .store) p (t .spelled .result) (else t .if1 .left) (few t) (is t) _ _
     (emit .kept .1 .0) (emit .ensures (have t) (t .before .before .before .low-ones .ensures))
 
@@ -97,6 +97,6 @@ finish-spec =
     lowest-requires
     full-requires
     spelled-requires
-    segment-requires
+    emit-segment-requires
     same-length
     returns-2)

@@ -47,8 +47,8 @@ module _ (c : tie.After-take) where
 full-requires-2 : tie.Need-full-requires-2
 full-requires-2 c κs = search needs
 
-segment-requires : tie.Need-segment-requires
-segment-requires c κs =
+emit-segment-requires : tie.Need-emit-segment-requires
+emit-segment-requires c κs =
     let t = c .before .before .before in
     let s = call (t .before) in
     let F = s .args .format in
@@ -70,7 +70,7 @@ returns c =
     let s = call (t .before) in
     let h = whole (t .before) in
     let split = cut-is t in
-    let emit = c .before .before .segment in (
+    let emit = c .before .before .emit-segment in (
       (λ g. omega (arith, split .have), λ g. absurd (omega (arith, h))),
       put-none (λ j. false)
           (λ R q old d p all. packed-taken (s .args .format) R q old (s .args .store) p all (t .take .result) h split _ _
@@ -92,7 +92,7 @@ take-whole-spec =
     full-requires
     take-requires
     full-requires-2
-    segment-requires
+    emit-segment-requires
     same-length
     returns
     returns-2)
