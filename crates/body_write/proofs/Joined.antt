@@ -12,7 +12,7 @@ use Rattle.meaning.specs.Format.{width}
 use Rattle.meaning.specs.declared.Format.{Format}
 use Rattle.ewah_write.specs.declared.writer.Writer.{Writer}
 use Rattle.ewah_write.proofs.Pushing.{drop-more}
-use Rattle.body_write.specs.Bodies.{soFar, Stands, Growing, Grown, RoomFor, Pushed}
+use Rattle.body_write.specs.Bodies.{soFar, Stands, Growing, Grown, RoomFor, Pushed, Written}
 use Rattle.body_write.proofs.Bodies.{words-none, words-grow, used-is}
 
 -- what is put takes no word back
@@ -72,13 +72,6 @@ module _ {F : Format} (ss ts : List Segment) where
           rw append-assoc at (g .drawn (before ++ ss) u (omega arith) (f .drawn before t (omega arith) b))
 
 -- ---- many pushes, one after the other
-
--- since the buffer was `old`, the words of the segments ss were written, the last of which has `real` rows, and what lies
--- behind kept its values
-pub record Written (F : Format) (real : ℕ) (old out : List ℕ) (w : Writer) (ss : List Segment) : Type 0 where
-  pub stands : Stands F w ss
-  pub words : take (w .used) out ≡ soFar F real ss
-  pub kept : drop (w .used) out ≡ drop (w .used) old
 
 pub written-none : {F : Format} {w : Writer} (real : ℕ) (old : List ℕ) → Stands F w [] → Written F real old old w []
 written-none {F} {w} real old t =

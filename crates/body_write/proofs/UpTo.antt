@@ -3,51 +3,42 @@
 -- Assumes nothing.
 use Prim.Native.Nat.{ℕ, zero, suc, _+_, _-_, _≤_, _<_}
 use mathlib.Core.Bool.{Bool, true}
-use mathlib.Core.Path.{_≡_, sym, ap, _∙_, subst}
+use mathlib.Core.Path.{_≡_, refl, sym, ap, _∙_, subst}
 use mathlib.Core.List.{List, [], _∷_, _++_}
 use native.Mathlib.Omega.{arith}
-use lib.ListN.{length, take, drop, length-drop, take-append-drop}
-use lib.Seq.{take-add, take-all, length-take-le}
-use Rattle.meaning.specs.Limits.{mostRows, mostSegments}
+use lib.ListN.{length, take, drop, length-append, length-take, take-append-drop}
+use lib.Seq.{take-add, take-all}
+use Rattle.meaning.specs.Limits.{mostSegments}
 use Rattle.meaning.specs.Segment.{Segment, segmentCount, lastRows, rowsIn}
 use Rattle.meaning.specs.Format.{width, wordsOf}
 use Rattle.meaning.specs.declared.Format.{Format}
 use Rattle.meaning.proofs.Cut.{rows-inside, rows-end}
-use Rattle.meaning.proofs.Formats.{width-pos, segments-most}
+use Rattle.meaning.proofs.Formats.{width-pos}
 use Rattle.ewah_write.specs.declared.writer.Writer.{Writer}
-use Rattle.body_write.specs.Bodies.{soFar, Stands, Growing, Grown, RoomFor, Pushed}
+use Rattle.body_write.specs.Bodies.{soFar, Stands, Growing, RoomFor, Emitted, Written, UpTo}
 use Rattle.body_write.proofs.Bodies.{words-none, words-all, words-grow, used-is}
-use Rattle.body_write.proofs.Joined.{Written, written-none, written-more, written-all}
-
--- the first o of the segments ss of R rows are put, and written where `store` says so; what lies behind kept its values
-pub record UpTo (F : Format) (R : ℕ) (ss : List Segment) (store : Bool) (old out : List ℕ) (w : Writer) (o : ℕ)
-    : Type 0 where
-  pub stands : Stands F w (take o ss)
-  pub stored : store ≡ true → Written F (rowsIn (width F) R (o - 1)) old out w (take o ss)
+use Rattle.body_write.proofs.Joined.{written-none, written-more, written-all}
 
 pub up-none : {F : Format} {w : Writer} (R : ℕ) (ss : List Segment) (store : Bool) (old : List ℕ) → Stands F w []
     → UpTo F R ss store old old w 0
-up-none {F} R ss store old t = record { stands = t; stored = λ e. written-none (rowsIn (width F) R (0 - 1)) old t }
+up-none {F} R ss store old t = record {
+  stands = t;
+  stored = λ e. written-none (rowsIn (width F) R (0 - 1)) old t;
+  kept = λ e. refl;
+}
 
 module _ {F : Format} {R : ℕ} {ss : List Segment} {store : Bool} {old out : List ℕ} {w : Writer} {o : ℕ}
-    (g : UpTo F R ss store old out w o) (long : length ss ≡ segmentCount (width F) R) where
-  abbrev S : ℕ
-  S = segmentCount (width F) R
-
+    (g : UpTo F R ss store old out w o) where
   -- ---- n segments more
-  module _ (n : ℕ) (some : 1 ≤ n) (within : o + n ≤ segmentCount (width F) R) (few : R ≤ mostRows)
-      (part : List Segment) (is : part ≡ take n (drop o ss)) where
-    part-length : length part ≡ n
-    part-length = ap length is ∙ length-take-le n (drop o ss) (omega (arith, length-drop o ss))
+  pub up-growing : (n : ℕ) → o + n ≤ mostSegments → Growing F w n
+  up-growing n few = (take o ss, g .stands, omega (arith, few, length-take o ss))
 
+  module _ (n : ℕ) (few : o + n ≤ mostSegments) (part : List Segment) (is : part ≡ take n (drop o ss)) where
     put-is : take o ss ++ part ≡ take (o + n) ss
     put-is = ap (λ (ts : List Segment). take o ss ++ ts) is ∙ sym (take-add o n ss)
 
     put-few : length (take o ss) + length part ≤ mostSegments
-    put-few = omega (arith, length-take-le o ss (omega arith), part-length, segments-most F R few)
-
-    pub up-growing : Growing F w n
-    up-growing = (take o ss, g .stands, omega (arith, put-few, part-length))
+    put-few = omega (arith, few, length-append (take o ss) part, ap length put-is, length-take (o + n) ss)
 
     -- they take no more words than all do
     pub up-room : (room : ℕ) → length (wordsOf F R ss) ≤ room → RoomFor F part w room
@@ -74,14 +65,14 @@ module _ {F : Format} {R : ℕ} {ss : List Segment} {store : Bool} {old out : Li
         ap (λ (real : ℕ). soFar F real (take (suc o) ss))
         (ap (rowsIn (width F) R) e ∙ rows-inside (width F) (width-pos F) R o h)
 
-    pub up-more : {out′ : List ℕ} {v : Writer} → Grown F w part v
-        → (store ≡ true → Pushed F (rowsIn (width F) R (o + n - 1)) out out′ w part v)
-        → UpTo F R ss store old out′ v (o + n)
-    up-more {out′} {v} grown pushed = record {
-      stands = subst (Stands F v) put-is (grown (take o ss) (g .stands) put-few);
+    pub up-more : 1 ≤ n → o + n ≤ segmentCount (width F) R → {out′ : List ℕ} {v : Writer}
+        → Emitted F (rowsIn (width F) R (o + n - 1)) out out′ w part store v → UpTo F R ss store old out′ v (o + n)
+    up-more some within {out′} {v} em = record {
+      stands = subst (Stands F v) put-is (em .grown (take o ss) (g .stands) put-few);
       stored = λ e.
           subst (Written F (rowsIn (width F) R (o + n - 1)) old out′ v) put-is
-          (written-more part (whole e) (pushed e) put-few);
+          (written-more part (whole e) (em .stored e) put-few);
+      kept = λ e. em .kept e ∙ g .kept e;
     }
       where
         whole : store ≡ true → Written F (width F) old out w (take o ss)
@@ -90,7 +81,7 @@ module _ {F : Format} {R : ℕ} {ss : List Segment} {store : Bool} {old out : Li
             record { stands = b .stands; words = b .words ∙ words-before o (omega arith); kept = b .kept }
 
   -- ---- the end
-  module _ (end : o ≡ segmentCount (width F) R) where
+  module _ (long : length ss ≡ segmentCount (width F) R) (end : o ≡ segmentCount (width F) R) where
     -- the last segment has the rows that are left
     words-end : soFar F (rowsIn (width F) R (o - 1)) (take o ss) ≡ wordsOf F R ss
     words-end =

@@ -1,13 +1,13 @@
--- The writer's state and the segments that were put, in either format: how it grows, what its buffer holds, and a step that may
--- store or only measure.
+-- The writer's state and the segments that were put, in either format: how it grows, what its buffer holds, a step that
+-- may store or only measure, and how far a body is.
 -- Assumes nothing.
-use Prim.Native.Nat.{ℕ, _+_, _≤_}
+use Prim.Native.Nat.{ℕ, _+_, _-_, _≤_}
 use mathlib.Core.Bool.{Bool, true, false}
 use mathlib.Core.Path.{_≡_}
 use mathlib.Core.List.{List, [], _++_, foldl}
 use lib.ListN.{length, take, drop}
 use Rattle.meaning.specs.Limits.{mostSegments}
-use Rattle.meaning.specs.Segment.{Segment}
+use Rattle.meaning.specs.Segment.{Segment, rowsIn}
 use Rattle.meaning.specs.Canonical.{blank, put, ewahOf}
 use Rattle.meaning.specs.Wah.{wahDraft, wahPut, wahBody}
 use Rattle.meaning.specs.Format.{width}
@@ -60,3 +60,18 @@ pub record Emitted (F : Format) (real : ℕ) (out out′ : List ℕ) (w : Writer
   pub grown : Grown F w ss r
   pub stored : store ≡ true → Pushed F real out out′ w ss r
   pub kept : store ≡ false → out′ ≡ out
+
+-- since the buffer was `old`, the words of the segments ss were written, the last of which has `real` rows, and what lies
+-- behind kept its values
+pub record Written (F : Format) (real : ℕ) (old out : List ℕ) (w : Writer) (ss : List Segment) : Type 0 where
+  pub stands : Stands F w ss
+  pub words : take (w .used) out ≡ soFar F real ss
+  pub kept : drop (w .used) out ≡ drop (w .used) old
+
+-- the first o of the segments ss of R rows are put, and written where `store` says so; where it does not, the buffer is as
+-- it was
+pub record UpTo (F : Format) (R : ℕ) (ss : List Segment) (store : Bool) (old out : List ℕ) (w : Writer) (o : ℕ)
+    : Type 0 where
+  pub stands : Stands F w (take o ss)
+  pub stored : store ≡ true → Written F (rowsIn (width F) R (o - 1)) old out w (take o ss)
+  pub kept : store ≡ false → out ≡ old

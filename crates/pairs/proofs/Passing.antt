@@ -6,7 +6,7 @@ use mathlib.Core.Path.{_≡_, refl, sym, ap, _∙_, subst}
 use mathlib.Core.List.{List, [], _++_}
 use lib.ListN.{length, getD, take, drop}
 use native.Mathlib.Omega.{arith}
-use Rattle.meaning.specs.Limits.{mostValueColumn, queryNumbers, blockSegments, writersNumbers}
+use Rattle.meaning.specs.Limits.{mostSegments, mostValueColumn, queryNumbers, blockSegments, writersNumbers}
 use Rattle.meaning.specs.Segment.{Segment, segmentCount, allSet, rowsIn}
 use Rattle.meaning.specs.Format.{width, mostRun, segmentsOf, wordsOf, canonical}
 use Rattle.meaning.specs.declared.Format.{Format}
@@ -14,10 +14,10 @@ use Rattle.meaning.specs.declared.Format.the-variants.{Ewah, Wah}
 use Rattle.meaning.specs.Index.{formatOf, rowCount}
 use Rattle.meaning.specs.Laws.{IndexFacts}
 use Rattle.meaning.specs.Column.{sumValue}
-use Rattle.meaning.proofs.Formats.{facts-count}
+use Rattle.meaning.proofs.Formats.{facts-count, segments-most}
 use Rattle.ewah.specs.Cursors.{leftOf}
-use Rattle.body_write.specs.Bodies.{Stands, Growing, RoomFor}
-use Rattle.body_write.proofs.UpTo.{UpTo, up-none, up-growing, up-room, up-more, up-used, up-all}
+use Rattle.body_write.specs.Bodies.{Stands, Growing, RoomFor, UpTo}
+use Rattle.body_write.proofs.UpTo.{up-none, up-growing, up-room, up-more, up-used, up-all}
 use Rattle.adder.specs.Digits.{Paired}
 use Rattle.walk.specs.Queries.{cursorOf, Listed, Standing, placeBody}
 use Rattle.gather.specs.Gathered.{StandingBefore, Gathered}
@@ -167,6 +167,9 @@ module _ {index first second : List ℕ} {n : ℕ} {starts old : List ℕ} {stor
       row-is : (i : ℕ) → i ≤ n → rowOf F z′ m even i ≡ take m (drop o (T i))
       row-is i h = row-part cs ch bx by p sp run-clean i h
 
+      few : o + m ≤ mostSegments
+      few = omega (arith, ch .within, segments-most F R (cs .facts .head .few-rows))
+
       -- by a writer of the index's format
       pub may-emit : {f : Format} → f ≡ formatOf index → Laid starts (n + 1) (length old)
           → (store ≡ true → (i : ℕ) → i ≤ n → length (bodyOf index first second n i) ≤ length (region starts old i))
@@ -175,9 +178,7 @@ module _ {index first second : List ℕ} {n : ℕ} {starts old : List ℕ} {stor
           subst (MayEmit starts out ws z′ n m even store) (sym is) (m-low, growing, cleans, room)
         where
           growing : (i : ℕ) → i < n + 1 → Growing F (writerOf ws i) m
-          growing i h =
-              let l : i ≤ n = omega arith in
-              up-growing (g .bodies i l) (long i) m (ch .some) (ch .within) (cs .facts .head .few-rows) _ (row-is i l)
+          growing i h = up-growing (g .bodies i (omega arith)) m few
 
           cleans : even ≡ true → (i : ℕ) → i < n + 1 → CleanWord F (getD z′ (i * blockSegments) 0)
           cleans e i h = rw (sp .run e) (run-clean e i (omega arith))
@@ -186,7 +187,7 @@ module _ {index first second : List ℕ} {n : ℕ} {starts old : List ℕ} {stor
               → RoomFor F (rowOf F z′ m even i) (writerOf ws i) (length (region starts out i))
           room e i h =
               let l : i ≤ n = omega arith in
-              up-room (g .bodies i l) (long i) m (ch .some) (ch .within) (cs .facts .head .few-rows) _ (row-is i l)
+              up-room (g .bodies i l) m few _ (row-is i l)
               (length (region starts out i))
               (omega (
                 arith,
@@ -210,8 +211,7 @@ module _ {index first second : List ℕ} {n : ℕ} {starts old : List ℕ} {stor
         second-walking = w2;
         numbers-long = em .numbers-long ∙ g .numbers-long;
         bodies = λ i h.
-            up-more (g .bodies i h) (long i) m (ch .some) (ch .within) (cs .facts .head .few-rows) _ (row-is i h)
-            (em .each i (omega arith) .grown) (em .each i (omega arith) .stored);
+            up-more (g .bodies i h) m few _ (row-is i h) (ch .some) (ch .within) (em .each i (omega arith));
         long = em .long ∙ g .long;
         front = em .front ∙ g .front;
         back = em .back ∙ g .back;

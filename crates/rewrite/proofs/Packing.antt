@@ -3,10 +3,10 @@
 use Prim.Native.Nat.{ℕ, suc, _+_, _-_, _*_, _%_, _^_, _≤_, _<_}
 use mathlib.Core.Bool.{Bool, true}
 use mathlib.Core.Path.{_≡_, refl, sym, ap, subst, _∙_}
-use mathlib.Core.List.{List, [], _∷_, _++_}
+use mathlib.Core.List.{List, [], _∷_}
 use lib.Arith.{digits-mod}
 use lib.Dec.{eqb}
-use lib.ListN.{length, getD, drop, replicate, length-replicate, getD-replicate}
+use lib.ListN.{length, getD, replicate, length-replicate, getD-replicate}
 use native.Mathlib.Nat.{suc-mul, add-mul, mul-le-mul-right, zero-mul, mod-eq-of-lt}
 use native.Mathlib.Decide.{decLe}
 use native.Mathlib.Omega.{arith}
@@ -219,13 +219,7 @@ module _ (F : Format) (R : ℕ) (q : ℕ → Bool) (old : List ℕ) (store : Boo
   module _ {out : List ℕ} {o : Output} (p : Packed F R q old store out R o) where
     all-sent : {s : ℕ} {v : Writer} (out′ : List ℕ) → Sent F R q old store out′ s v → s ≡ segmentCount (width F) R
         → Rewritten F R q old store out′ (v .used)
-    all-sent {v = v} out′ t e =
-        let n = sent-words t e in
-        record {
-          words-are = n;
-          stored = λ g. sent-all t e g ∙ ap (λ (k : ℕ). canonical F R q ++ drop k old) n;
-          kept = t .kept;
-        }
+    all-sent out′ t e = record { words-are = sent-words t e; stored = sent-all t e; kept = t .up .kept }
 
     -- as whole segments
     pub finished-whole : o .packer .have ≡ 0 → Rewritten F R q old store out (o .writer .used)

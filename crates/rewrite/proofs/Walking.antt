@@ -16,7 +16,7 @@ use Rattle.meaning.specs.declared.Format.{Format}
 use Rattle.meaning.specs.declared.Format.the-variants.{Ewah, Wah}
 use Rattle.meaning.specs.Laws.{SoundFacts}
 use Rattle.meaning.specs.Ahead.{Ahead, advanced, firstSize}
-use Rattle.meaning.proofs.Formats.{width-pos, width-le, facts-some, facts-count}
+use Rattle.meaning.proofs.Formats.{width-pos, width-le, segments-most, facts-some, facts-count}
 use Rattle.meaning.proofs.Cut.{bit-below}
 use Rattle.meaning.proofs.RowWords.{eqb-bit, has-at, rows-fit}
 use Rattle.meaning.proofs.Even.{bit-fill}
@@ -29,7 +29,6 @@ use Rattle.bodies.specs.Walks.{wordOf}
 use Rattle.bodies.proofs.Advancing.{first-left}
 use Rattle.bodies.proofs.Spans.{left-some, piece-word}
 use Rattle.rewrite.specs.Walking.{rowIn, Gives}
-use Rattle.rewrite.proofs.Sending.{count-few}
 
 -- a segment that begins below R rows is one of theirs
 pub starts-below : (w : ℕ) → 0 < w → (R i : ℕ) → i * w < R → i < segmentCount w R
@@ -104,7 +103,7 @@ module _ (F : Format) (R : ℕ) (b : List ℕ) where
 
       -- its rows are counted in a word
       pub piece-low : leftOf (c .piece) * width F < 2 ^ 32
-      piece-low = rows-low F (leftOf (c .piece)) (omega (arith, piece-within, count-few F R few))
+      piece-low = rows-low F (leftOf (c .piece)) (omega (arith, piece-within, segments-most F R few))
 
       -- so many of them are to come, and there is one
       pub rows-some : 1 ≤ min (leftOf (c .piece) * width F) left

@@ -137,7 +137,7 @@ returns : tie.Need-returns Inv-loop μ-loop
 returns c =
     let t = c .before in
     let end : t .loop .i ≡ segmentCount (w t) (R t) = omega (arith, c .loop-test .left, count t, t .loop .inv .within) in
-    (sent-words (t .loop .inv) end, sent-all (t .loop .inv) end refl)
+    (sent-words (t .loop .inv) end, rw (sent-words (t .loop .inv) end) (sent-all (t .loop .inv) end refl))
 
 pub write-spec : {M : Type 1} → statement M
 write-spec =
