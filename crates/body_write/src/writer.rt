@@ -44,32 +44,32 @@ pub fn grow_segment(format: Format, w: Writer, x: u32) -> Writer
     }
 }
 
-// `grow_run`, with its words. The word of all rows of its last segment is `full`; EWAH has no use for it.
-pub fn push_run(format: Format, out: &mut [u32], w: Writer, value: u32, n: u32, full: u32) -> Writer
+// `grow_run`, with its words. The mask has the rows of its last segment; EWAH has no use for it.
+pub fn push_run(format: Format, out: &mut [u32], w: Writer, value: u32, n: u32, mask: u32) -> Writer
     requires { ⌜ RoomFor format (replicate n (clean value)) w (length (now out)) ⌝ }
     requires { ⌜ (value < 2) × (1 ≤ n) × (n ≤ mostRun format) ⌝ }
-    ensures { λ r. ⌜ ((real : ℕ) → full ≡ 2 ^ real - 1
+    ensures { λ r. ⌜ ((real : ℕ) → mask ≡ 2 ^ real - 1
         → Pushed format real (now (out .entry)) (now (out .exit)) w (replicate n (clean value)) r) ⌝ }
 {
     match format {
         Format::Ewah => ewah_write::writer::push_run(out, w, value, n),
-        Format::Wah => wah_write::writer::push_run(out, w, value, n, full),
+        Format::Wah => wah_write::writer::push_run(out, w, value, n, mask),
     }
 }
 
-// `grow_segment`, with its words.
-pub fn push_segment(format: Format, out: &mut [u32], w: Writer, x: u32, full: u32) -> Writer
+// `grow_segment`, with its words; the mask has its rows.
+pub fn push_segment(format: Format, out: &mut [u32], w: Writer, x: u32, mask: u32) -> Writer
     requires { ⌜ RoomFor format (kind (width format) x ∷ []) w (length (now out)) ⌝ }
-    ensures { λ r. ⌜ ((real : ℕ) → full ≡ 2 ^ real - 1
+    ensures { λ r. ⌜ ((real : ℕ) → mask ≡ 2 ^ real - 1
         → Pushed format real (now (out .entry)) (now (out .exit)) w (kind (width format) x ∷ []) r) ⌝ }
 {
     match format {
         Format::Ewah => ewah_write::writer::push_segment(out, w, x),
-        Format::Wah => wah_write::writer::push_segment(out, w, x, full),
+        Format::Wah => wah_write::writer::push_segment(out, w, x, mask),
     }
 }
 
-// `push_run` where `store` says so, and else `grow_run`; the mask has the rows of the run's last segment.
+// `push_run` where `store` says so, and else `grow_run`.
 pub fn emit_run(
     format: Format,
     out: &mut [u32],
@@ -91,7 +91,7 @@ pub fn emit_run(
     grow_run(format, w, value, n)
 }
 
-// `push_segment` where `store` says so, and else `grow_segment`; the mask has the segment's rows.
+// `push_segment` where `store` says so, and else `grow_segment`.
 pub fn emit_segment(
     format: Format,
     out: &mut [u32],

@@ -20,14 +20,14 @@ pub use Rattle.meaning.proofs.WahSize.{body-length, puts-add}
 -- ---- the words of a run
 
 -- a lone segment is a literal of all its rows
-pub word-single : (v full real : ℕ) → full ≡ 2 ^ real - 1 → runWords real v 1 ≡ v * full ∷ []
+pub word-single : (v mask real : ℕ) → mask ≡ 2 ^ real - 1 → runWords real v 1 ≡ v * mask ∷ []
 unfolding runWords fill allSet
-word-single v full real e = ap (λ (k : ℕ). v * k ∷ []) (sym e)
+word-single v mask real e = ap (λ (k : ℕ). v * k ∷ []) (sym e)
 
-pub single-low : (v full : ℕ) → v < 2 → full < 4294967296 → v * full < 4294967296
-single-low zero full h g = omega arith
-single-low (suc zero) full h g = omega arith
-single-low (suc (suc v)) full h g = absurd (omega arith)
+pub single-low : (v mask : ℕ) → v < 2 → mask < 4294967296 → v * mask < 4294967296
+single-low zero mask h g = omega arith
+single-low (suc zero) mask h g = omega arith
+single-low (suc (suc v)) mask h g = absurd (omega arith)
 
 -- more are a fill
 pub word-many : (v n real : ℕ) → 1 ≤ n → (n ≡ 1 → ⊥) → runWords real v n ≡ fillWord v n ∷ []

@@ -71,29 +71,28 @@ pub fn grow_segment(w: Writer, x: u32) -> Writer
     grow_mixed(w)
 }
 
-// The word of a run of n clean segments, where `full` is the word of all rows of its last one: a lone segment is a
-// literal.
-fn run_word(value: u32, n: u32, full: u32) -> u32
+// The word of a run of n clean segments, of whose last one the mask has the rows: a lone segment is a literal.
+fn run_word(value: u32, n: u32, mask: u32) -> u32
     requires { ⌜ (value < 2) × (1 ≤ n) × (n ≤ mostFill) ⌝ }
-    ensures { λ r. ⌜ ((real : ℕ) → full ≡ 2 ^ real - 1 → runWords real value n ≡ r ∷ []) ⌝ }
+    ensures { λ r. ⌜ ((real : ℕ) → mask ≡ 2 ^ real - 1 → runWords real value n ≡ r ∷ []) ⌝ }
 {
     if n == 1 {
-        return value * full;
+        return value * mask;
     }
     word::fill_word(value, n)
 }
 
-// `grow_run`, with the run's word, which is the last in use.
-pub fn push_run(out: &mut [u32], w: Writer, value: u32, n: u32, full: u32) -> Writer
+// `grow_run`, with the run's word, which is the last in use; the mask has the rows of its last segment.
+pub fn push_run(out: &mut [u32], w: Writer, value: u32, n: u32, mask: u32) -> Writer
     requires { ⌜ RoomFor (replicate n (clean value)) w (length (now out)) ⌝ }
     requires { ⌜ (value < 2) × (1 ≤ n) × (w .last .clean + n ≤ mostFill) ⌝ }
-    ensures { λ r. ⌜ ((real : ℕ) → full ≡ 2 ^ real - 1
+    ensures { λ r. ⌜ ((real : ℕ) → mask ≡ 2 ^ real - 1
         → Pushed real (now (out .entry)) (now (out .exit)) w (replicate n (clean value)) r) ⌝ }
 {
     let r = grow_run(w, value, n);
     let last = r.last;
     let end = r.used - 1;
-    out[end] = run_word(value, last.clean, full);
+    out[end] = run_word(value, last.clean, mask);
     r
 }
 
@@ -108,15 +107,15 @@ pub fn push_mixed(out: &mut [u32], w: Writer, x: u32) -> Writer
     r
 }
 
-// `grow_segment`, with its word.
-pub fn push_segment(out: &mut [u32], w: Writer, x: u32, full: u32) -> Writer
+// `grow_segment`, with its word; the mask has its rows.
+pub fn push_segment(out: &mut [u32], w: Writer, x: u32, mask: u32) -> Writer
     requires { ⌜ RoomFor (kind 31 x ∷ []) w (length (now out)) ⌝ }
     requires { ⌜ w .last .clean < mostFill ⌝ }
-    ensures { λ r. ⌜ ((real : ℕ) → full ≡ 2 ^ real - 1
+    ensures { λ r. ⌜ ((real : ℕ) → mask ≡ 2 ^ real - 1
         → Pushed real (now (out .entry)) (now (out .exit)) w (kind 31 x ∷ []) r) ⌝ }
 {
     if rows::is_clean(x, 0x7FFF_FFFF) {
-        return push_run(out, w, x & 1, 1, full);
+        return push_run(out, w, x & 1, 1, mask);
     }
     push_mixed(out, w, x)
 }

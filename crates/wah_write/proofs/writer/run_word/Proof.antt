@@ -10,10 +10,10 @@ use Rattle.wah_write.proofs.writer.run_word.Tie as tie
 mul-result : tie.Need-mul-result
 mul-result c =
     let s = c .before in
-    record { fits = single-low (s .args .value) (s .args .full) (s .pre .0) (omega (arith, s .good)) }
+    record { fits = single-low (s .args .value) (s .args .mask) (s .pre .0) (omega (arith, s .good)) }
 
 returns : tie.Need-returns
-returns c = λ real e. rw (c .if1 .taken) (word-single (c .before .args .value) (c .before .args .full) real e)
+returns c = λ real e. rw (c .if1 .taken) (word-single (c .before .args .value) (c .before .args .mask) real e)
 
 fill-word-requires : tie.Need-fill-word-requires
 fill-word-requires c κs = (c .before .pre .0, c .before .pre .2)
