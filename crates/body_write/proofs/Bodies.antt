@@ -1,7 +1,7 @@
 -- The words of the segments that were put, in either format: how many they are, and that they are the canonical body's.
 -- Assumes nothing.
-use Prim.Native.Nat.{ℕ, _+_, _*_, _≤_, _<_}
-use mathlib.Core.Path.{_≡_, refl, sym, _∙_}
+use Prim.Native.Nat.{ℕ, _≤_, _<_}
+use mathlib.Core.Path.{_≡_, refl}
 use mathlib.Core.List.{List, [], _++_, foldl, foldl-append}
 use native.Mathlib.Omega.{arith}
 use lib.ListN.{length}
@@ -30,13 +30,6 @@ pub words-all : (F : Format) (R : ℕ) (ss : List Segment) → wordsOf F R ss �
 words-all Ewah R ss = refl
 words-all Wah R ss = unfold wahOf in refl
 
--- how many rows the last segment has does not matter to how many they are
-pub words-length : (F : Format) (a b : ℕ) (ss : List Segment) → length (soFar F a ss) ≡ length (soFar F b ss)
-words-length Ewah a b ss = refl
-words-length Wah a b ss =
-    let d = foldl wahPut (wahDraft [] 0 0) ss in
-    runs.body-length a d ∙ sym (runs.body-length b d)
-
 -- more segments take no fewer words
 pub words-grow : (F : Format) (a b : ℕ) (ss ts : List Segment) → length (soFar F a ss) ≤ length (soFar F b (ss ++ ts))
 words-grow Ewah a b ss ts = unfold ewahOf in rw (foldl-append put blank ss ts) (puts-grow (foldl put blank ss) ts)
@@ -54,14 +47,6 @@ used-is {F} {w} {ss} real t = go F t
     go : (F : Format) → Stands F w ss → w .used ≡ length (soFar F real ss)
     go Ewah t = ewah-used t .0
     go Wah t = wah-used real t .0
-
--- no more than two words for a segment
-pub used-low : {F : Format} {w : Writer} {ss : List Segment} → Stands F w ss → w .used ≤ 2 * length ss
-used-low {F} {w} {ss} t = go F t
-  where
-    go : (F : Format) → Stands F w ss → w .used ≤ 2 * length ss
-    go Ewah t = ewah-used t .1
-    go Wah t = omega (arith, wah-used 31 t .1)
 
 -- its fields are in range
 pub fields-low : {F : Format} {w : Writer} {ss : List Segment} → Stands F w ss
