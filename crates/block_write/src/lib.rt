@@ -1,5 +1,5 @@
-// A row of words, or a run of alike segments, goes to the writer of one body. Mixed segments that the last EWAH marker has room for
-// go there all at once.
+// A row of words, or a run of alike segments, goes to the writer of one body. Mixed segments that the last EWAH
+// marker has room for go there all at once.
 // Calls here have a `requires`; the public ones of `zvonurel` test their input first.
 ghost use mathlib.Core.Path.{_≡_};
 ghost use mathlib.Core.Bool.{true, false};
@@ -81,7 +81,8 @@ fn marker_has_room(w: Writer, count: usize) -> bool
     count <= room
 }
 
-// Whether all words are of mixed segments and the last marker has room for them. WAH has no markers: there each literal goes by itself.
+// Whether all words are of mixed segments and the last marker has room for them. WAH has no markers: there each
+// literal goes by itself.
 fn joins(format: Format, w: Writer, words: &[u32]) -> bool
     requires { ⌜ Growing format w (length (now words)) ⌝ }
     ensures { λ r. ⌜ (r ≡ true → (format ≡ Ewah) × (w .last .dirty + length (now (words .entry)) ≤ mostDirty)

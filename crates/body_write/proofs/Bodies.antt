@@ -1,4 +1,5 @@
--- The words of the segments that were put, in either format: how many they are, and that they are the canonical body's.
+-- The words of the segments that were put, in either format: how many they are, and that they are the canonical
+-- body's.
 -- Assumes nothing.
 use Prim.Native.Nat.{ℕ, _≤_, _<_}
 use mathlib.Core.Path.{_≡_, refl}

@@ -1,5 +1,5 @@
--- What is emitted is pushed where it is stored, and else only grown, which leaves the buffer. Emitting twice is emitting once
--- the segments of both.
+-- What is emitted is pushed where it is stored, and else only grown, which leaves the buffer. Emitting twice is
+-- emitting once the segments of both.
 -- Assumes nothing.
 use Prim.Native.Nat.{ℕ}
 use mathlib.Core.Bool.{Bool, true, false, true≢false}

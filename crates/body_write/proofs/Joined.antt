@@ -1,5 +1,5 @@
--- Growing or pushing twice is doing so once with the segments of both; what room that takes; and many pushes, one after
--- the other.
+-- Growing or pushing twice is doing so once with the segments of both; what room that takes; and many pushes, one
+-- after the other.
 -- Assumes nothing.
 use Prim.Native.Nat.{ℕ, _+_, _≤_}
 use mathlib.Core.Path.{_≡_, refl, sym, ap₂, _∙_}

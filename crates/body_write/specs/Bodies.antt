@@ -1,5 +1,5 @@
--- The writer's state and the segments that were put, in either format: how it grows, what its buffer holds, a step that
--- may store or only measure, and how far a body is.
+-- The writer's state and the segments that were put, in either format: how it grows, what its buffer holds, a step
+-- that may store or only measure, and how far a body is.
 -- Assumes nothing.
 use Prim.Native.Nat.{ℕ, _+_, _-_, _≤_}
 use mathlib.Core.Bool.{Bool, true, false}
@@ -46,30 +46,30 @@ RoomFor F ss w n =
     (before : List Segment) × Stands F w before × (length before + length ss ≤ mostSegments)
     × (length (soFar F (width F) (before ++ ss)) ≤ n)
 
--- from `out` and w to `out′` and r the segments ss are put, the last of which has `real` rows, behind whole ones; what lies
--- behind their words keeps its values
+-- from `out` and w to `out′` and r the segments ss are put, the last of which has `real` rows, behind whole ones;
+-- what lies behind their words keeps its values
 pub record Pushed (F : Format) (real : ℕ) (out out′ : List ℕ) (w : Writer) (ss : List Segment) (r : Writer) : Type 0 where
   pub grown : Grown F w ss r
   pub drawn : (before : List Segment) → Stands F w before → length before + length ss ≤ mostSegments
       → take (w .used) out ≡ soFar F (width F) before → take (r .used) out′ ≡ soFar F real (before ++ ss)
   pub kept : drop (r .used) out′ ≡ drop (r .used) out
 
--- the segments ss are put, the last of which has `real` rows; the buffer has their words where they are stored, and is as it
--- was where they are not
+-- the segments ss are put, the last of which has `real` rows; the buffer has their words where they are stored, and
+-- is as it was where they are not
 pub record Emitted (F : Format) (real : ℕ) (out out′ : List ℕ) (w : Writer) (ss : List Segment) (store : Bool) (r : Writer) : Type 0 where
   pub grown : Grown F w ss r
   pub stored : store ≡ true → Pushed F real out out′ w ss r
   pub kept : store ≡ false → out′ ≡ out
 
--- since the buffer was `old`, the words of the segments ss were written, the last of which has `real` rows, and what lies
--- behind kept its values
+-- since the buffer was `old`, the words of the segments ss were written, the last of which has `real` rows, and what
+-- lies behind kept its values
 pub record Written (F : Format) (real : ℕ) (old out : List ℕ) (w : Writer) (ss : List Segment) : Type 0 where
   pub stands : Stands F w ss
   pub words : take (w .used) out ≡ soFar F real ss
   pub kept : drop (w .used) out ≡ drop (w .used) old
 
--- the first o of the segments ss of R rows are put, and written where `store` says so; where it does not, the buffer is as
--- it was
+-- the first o of the segments ss of R rows are put, and written where `store` says so; where it does not, the buffer
+-- is as it was
 pub record UpTo (F : Format) (R : ℕ) (ss : List Segment) (store : Bool) (old out : List ℕ) (w : Writer) (o : ℕ)
     : Type 0 where
   pub stands : Stands F w (take o ss)

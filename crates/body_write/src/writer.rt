@@ -1,5 +1,5 @@
-// The writer of canonical form for either format, as a state by value. Growing it needs no buffer; pushing grows it too,
-// and stores the words; emitting does the one or the other, as it is told.
+// The writer of canonical form for either format, as a state by value. Growing it needs no buffer; pushing grows it
+// too, and stores the words; emitting does the one or the other, as it is told.
 ghost use mathlib.Core.Path.{_≡_};
 ghost use mathlib.Core.Bool.{true};
 ghost use mathlib.Core.List.{[], _∷_};
@@ -33,7 +33,8 @@ pub fn grow_run(format: Format, w: Writer, value: u32, n: u32) -> Writer
     }
 }
 
-// One segment, of the kind that its word has: the word of a whole segment of ones stands for a clean one, however many rows it has.
+// One segment, of the kind that its word has: the word of a whole segment of ones stands for a clean one, however
+// many rows it has.
 pub fn grow_segment(format: Format, w: Writer, x: u32) -> Writer
     requires { ⌜ Growing format w 1 ⌝ }
     ensures { λ r. ⌜ Grown format w (kind (width format) x ∷ []) r ⌝ }

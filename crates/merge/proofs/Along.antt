@@ -25,8 +25,8 @@ use Rattle.walk.specs.Surveys.{onesIn, dirtyIn, bitIn, Surveyed, MovedAll}
 use Rattle.merge.specs.Merges.{Walkable, bodiesOf}
 use Rattle.merge.proofs.Stretched.{stretch, least-low, least-left}
 
--- the index's rows in segments, as a loop over stretches has them: the format, how many segments there are, and the words
--- of all rows of a whole one and of the last
+-- the index's rows in segments, as a loop over stretches has them: the format, how many segments there are, and the
+-- words of all rows of a whole one and of the last
 pub record Laid (index : List ℕ) (f : Format) (segments full last : ℕ) : Type 0 where
   pub format-is : f ≡ formatOf index
   pub total : segments ≡ segmentCount (width (formatOf index)) (rowCount index)

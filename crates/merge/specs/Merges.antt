@@ -1,5 +1,5 @@
--- What a question over a list asks of its arguments, and what the engine gives: the canonical body of the answer's rows, and the
--- stretches.
+-- What a question over a list asks of its arguments, and what the engine gives: the canonical body of the answer's
+-- rows, and the stretches.
 -- Assumes nothing.
 use Prim.Native.Nat.{ℕ, _≤_}
 use mathlib.Core.Bool.{Bool, true, false}
@@ -38,7 +38,8 @@ unfoldable pub answerBody : (index list : List ℕ) → Operation → (table : L
 answerBody index list op table =
     canonical (formatOf index) (rowCount index) (answerRows (formatOf index) (chosen op table) (bodiesOf index list))
 
--- the words and the stretches of the answer; its words stand in the buffer where they are stored, and the rest is as it was
+-- the words and the stretches of the answer; its words stand in the buffer where they are stored, and the rest is as
+-- it was
 pub record MergedTo (index list : List ℕ) (op : Operation) (table out : List ℕ) (store : Bool) (out′ : List ℕ) (r : Merged) : Type 0 where
   pub words-are : r .words ≡ length (answerBody index list op table)
   pub stretches-are : r .stretches ≡ stretches (formatOf index) (rowCount index) (bodiesOf index list)

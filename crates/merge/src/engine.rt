@@ -1,4 +1,5 @@
-// The engine behind every question over a list: stretch by stretch, the cursors go on together and the answer's part is emitted.
+// The engine behind every question over a list: stretch by stretch, the cursors go on together and the answer's part
+// is emitted.
 ghost use mathlib.Core.Path.{_≡_};
 ghost use mathlib.Core.Bool.{true};
 ghost use Prim.Native.Nat.{_≤_};

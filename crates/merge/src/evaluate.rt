@@ -15,8 +15,8 @@ use walk::survey::Survey;
 use words::counters;
 use words::rows;
 
-// A row is in the answer where at least so many of the list have it; where exactly so many have it; where the table has a 1 at the
-// number that have it.
+// A row is in the answer where at least so many of the list have it; where exactly so many have it; where the table
+// has a 1 at the number that have it.
 pub enum Operation {
     AtLeast(u32),
     Exactly(u32),
@@ -45,7 +45,8 @@ fn entry_is_one(table: &[u32], c: u32) -> bool
     false
 }
 
-// The rows of a segment that are in the answer, where base of the list have every row of it, and the counters' number more.
+// The rows of a segment that are in the answer, where base of the list have every row of it, and the counters' number
+// more.
 fn word(op: Operation, table: &[u32], base: u32, planes: [u32; PLANES]) -> u32
     requires { ⌜ (base ≤ mostNamed) × (length (now table) ≤ histogramCounts) × LowNumber op ⌝ }
     ensures { λ r. ⌜ ((j : ℕ) → j < 32 → isSet r j ≡ chosen op (now (table .entry)) (base + countAt planes j)) ⌝ }

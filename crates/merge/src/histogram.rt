@@ -19,7 +19,8 @@ use words::bits;
 use words::counters;
 use words::rows;
 
-// The numbers with the rows of a stretch counted in, of segments of that width, of whose last one the mask has the rows.
+// The numbers with the rows of a stretch counted in, of segments of that width, of whose last one the mask has the
+// rows.
 fn count_stretch(
     counts: [u32; HISTOGRAM_COUNTS],
     s: Survey,

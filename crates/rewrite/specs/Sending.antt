@@ -1,4 +1,5 @@
--- A canonical body whose segments go to the writer one after the other, stored or only measured: how far it is. Request 4.
+-- A canonical body whose segments go to the writer one after the other, stored or only measured: how far it is.
+-- Request 4.
 -- Assumes nothing.
 use Prim.Native.Nat.{ℕ, _≤_}
 use mathlib.Core.Bool.{Bool, true}
@@ -16,8 +17,8 @@ use Rattle.body_write.specs.Bodies.{UpTo}
 abbrev pub allOf : Format → (R : ℕ) → (ℕ → Bool) → List Segment
 allOf F R q = kinds (width F) R (fromRows (width F) R q)
 
--- of the canonical body of the R rows q the first s segments were put since the buffer was `old`: where they are stored, it
--- has room for all
+-- of the canonical body of the R rows q the first s segments were put since the buffer was `old`: where they are
+-- stored, it has room for all
 pub record Sent (F : Format) (R : ℕ) (q : ℕ → Bool) (old : List ℕ) (store : Bool) (out : List ℕ) (s : ℕ) (w : Writer)
     : Type 0 where
   pub few : R ≤ mostRows

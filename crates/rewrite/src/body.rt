@@ -1,4 +1,5 @@
-// A body written anew in either format: its rows go from segments of one width to those of the other, with no plain copy.
+// A body written anew in either format: its rows go from segments of one width to those of the other, with no plain
+// copy.
 ghost use mathlib.Core.Path.{_≡_};
 ghost use mathlib.Core.Bool.{true};
 ghost use Prim.Native.Nat.{_≤_};

@@ -13,7 +13,8 @@ use meaning::Format;
 use repack::plain;
 use words::rows;
 
-// Segment i as the writer takes it, of whose bits the mask has the rows; `full` is the word of a whole segment of ones.
+// Segment i as the writer takes it, of whose bits the mask has the rows; `full` is the word of a whole segment of
+// ones.
 fn word_at(format: Format, plain: &[u32], i: u32, mask: u32, full: u32) -> u32
     requires { ⌜ (i * width format < 32 * length (now plain)) × (length (now plain) ≤ mostSegments) ⌝ }
     ensures { λ r. ⌜ ((R : ℕ) → PlainRows R (now (plain .entry)) → i < segmentCount (width format) R

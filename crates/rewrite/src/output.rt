@@ -1,5 +1,5 @@
-// Rows that are written as a body, or only measured, one after the other: whole segments go to the writer, and a packer
-// has the rows behind them.
+// Rows that are written as a body, or only measured, one after the other: whole segments go to the writer, and a
+// packer has the rows behind them.
 ghost use mathlib.Core.Path.{_≡_};
 ghost use mathlib.Core.Bool.{Bool, true, false};
 ghost use mathlib.Core.List.{List};

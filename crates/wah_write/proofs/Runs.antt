@@ -104,7 +104,8 @@ run-new d b (suc n) g h k =
     ∙ run-in (wahBody 31 d) b 1 n (omega arith) (omega arith)
     ∙ ap (λ (m : ℕ). wahDraft (wahBody 31 d) b m) (omega arith)
 
--- d with n segments more of value v: `front`, which d's words begin with, and then one word for the run that it ends with
+-- d with n segments more of value v: `front`, which d's words begin with, and then one word for the run that it ends
+-- with
 pub record Ended (d : WahDraft) (v n : ℕ) : Type 0 where
   pub front : List ℕ
   pub rest : List ℕ

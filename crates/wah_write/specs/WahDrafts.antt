@@ -37,8 +37,8 @@ Grown w ss r = (d : WahDraft) → WahTracks w d → WahTracks r (foldl wahPut d 
 abbrev pub RoomFor : List Segment → Writer → ℕ → Type 0
 RoomFor ss w n = (d : WahDraft) × WahTracks w d × (length (wahBody 31 (foldl wahPut d ss)) ≤ n)
 
--- from `out` and w to `out′` and r the segments ss are put, the last of which has `real` rows, and all before it 31; what
--- lies behind keeps its values
+-- from `out` and w to `out′` and r the segments ss are put, the last of which has `real` rows, and all before it 31;
+-- what lies behind keeps its values
 pub record Pushed (real : ℕ) (out out′ : List ℕ) (w : Writer) (ss : List Segment) (r : Writer) : Type 0 where
   pub grown : Grown w ss r
   pub drawn : (d : WahDraft) → WahTracks w d → take (w .used) out ≡ wahBody 31 d

@@ -1,7 +1,7 @@
-// The writer of canonical WAH form. Its state is EWAH's, so that one engine keeps either: the words in use, and in place of
-// the last marker's clean run the one that they end with, of no segments where they end with a mixed one.
-// Growing needs no buffer: what a body will take is measured so. Pushing grows it too, and stores the one word that is
-// new or has changed.
+// The writer of canonical WAH form. Its state is EWAH's, so that one engine keeps either: the words in use, and in
+// place of the last marker's clean run the one that they end with, of no segments where they end with a mixed one.
+// Growing needs no buffer: what a body will take is measured so. Pushing grows it too, and stores the one word that
+// is new or has changed.
 ghost use mathlib.Core.Path.{_≡_};
 ghost use mathlib.Core.List.{[], _∷_};
 ghost use Prim.Native.Nat.{ℕ, _+_, _-_, _<_, _≤_, _^_};

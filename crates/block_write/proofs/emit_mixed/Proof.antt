@@ -1,5 +1,5 @@
--- `block_write::emit_mixed` meets its contract: `push_words` where it stores, else `grow_words`, which leaves the buffer; what both
--- promise of drafts is said of the segments.
+-- `block_write::emit_mixed` meets its contract: `push_words` where it stores, else `grow_words`, which leaves the
+-- buffer; what both promise of drafts is said of the segments.
 -- Assumes nothing.
 use mathlib.Core.List.{map}
 use mathlib.Core.Path.{refl}

@@ -1,5 +1,5 @@
--- `block_write::push_words` meets its contract: `words-fit` and `marker-fits` have the places of its stores, and `pushed-many`
--- the words.
+-- `block_write::push_words` meets its contract: `words-fit` and `marker-fits` have the places of its stores, and
+-- `pushed-many` the words.
 -- Assumes nothing.
 use mathlib.Core.Path.{sym, subst}
 use mathlib.Core.List.{List, map}

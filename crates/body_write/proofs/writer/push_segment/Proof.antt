@@ -1,4 +1,5 @@
--- `body_write::writer::push_segment` meets its contract: in each format its own `push_segment`'s, said of the segments.
+-- `body_write::writer::push_segment` meets its contract: in each format its own `push_segment`'s, said of the
+-- segments.
 -- Assumes nothing.
 use mathlib.Core.List.{[], _∷_}
 use native.Mathlib.Omega.{arith}

@@ -1,5 +1,5 @@
--- `merge::engine::merge` meets its contract. The invariant: the cursors are on their way at segment o, and the writer has
--- put the answer's first o segments.
+-- `merge::engine::merge` meets its contract. The invariant: the cursors are on their way at segment o, and the writer
+-- has put the answer's first o segments.
 -- Assumes nothing.
 use Prim.Native.Nat.{ℕ, _-_}
 use mathlib.Core.Path.{subst}

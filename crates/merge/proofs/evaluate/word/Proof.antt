@@ -1,4 +1,5 @@
--- `merge::evaluate::word` meets its contract: a number is decided by `base` alone, or the counters are compared with it less `base`; the table is `by_table`'s.
+-- `merge::evaluate::word` meets its contract: a number is decided by `base` alone, or the counters are compared with
+-- it less `base`; the table is `by_table`'s.
 -- Assumes nothing.
 use mathlib.Core.Path.{sym, _∙_}
 use Prim.Native.Nat.{_+_, _-_}

@@ -1,4 +1,5 @@
--- `rewrite::emit::run` meets its contract. The invariant: all but the last `left` segments are emitted. Assumes nothing.
+-- `rewrite::emit::run` meets its contract. The invariant: all but the last `left` segments are emitted.
+-- Assumes nothing.
 use borrow.Author.Needs.{needs}
 use native.Mathlib.Omega.{arith}
 use Prim.Native.Nat.{ℕ, _+_, _-_, _^_, _≤_}

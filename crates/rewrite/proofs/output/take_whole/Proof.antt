@@ -1,4 +1,5 @@
--- `rewrite::output::take_whole` meets its contract: by `packed-taken`, where there is a whole segment. Assumes nothing.
+-- `rewrite::output::take_whole` meets its contract: by `packed-taken`, where there is a whole segment.
+-- Assumes nothing.
 use Prim.Native.Nat.{ℕ, _≤_, _<_}
 use mathlib.Core.Bool.{false}
 use mathlib.Core.Path.{refl, sym, subst, _∙_}

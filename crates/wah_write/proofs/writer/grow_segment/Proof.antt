@@ -1,5 +1,5 @@
--- `wah_write::writer::grow_segment` meets its contract: `kind-clean` and `kind-other` say which kind the word has in each
--- way. Assumes nothing.
+-- `wah_write::writer::grow_segment` meets its contract: `kind-clean` and `kind-other` say which kind the word has in
+-- each way. Assumes nothing.
 use native.Mathlib.Omega.{arith}
 use mathlib.Core.Path.{refl}
 use borrow.Author.Needs.{needs}

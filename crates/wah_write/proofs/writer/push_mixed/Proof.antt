@@ -1,5 +1,5 @@
--- `wah_write::writer::push_mixed` meets its contract: `literal-fits` has the place of its store, and `literal-pushed` the
--- words. Assumes nothing.
+-- `wah_write::writer::push_mixed` meets its contract: `literal-fits` has the place of its store, and `literal-pushed`
+-- the words. Assumes nothing.
 use Prim.Native.Nat.{_<_}
 use mathlib.Core.List.{[], _∷_}
 use native.Mathlib.Omega.{arith}

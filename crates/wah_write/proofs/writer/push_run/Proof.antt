@@ -1,5 +1,5 @@
--- `wah_write::writer::push_run` meets its contract: by `known`, what holds before the store, `run-some` has its place and
--- `run-pushed` the words. Assumes nothing.
+-- `wah_write::writer::push_run` meets its contract: by `known`, what holds before the store, `run-some` has its place
+-- and `run-pushed` the words. Assumes nothing.
 use native.Mathlib.Omega.{arith}
 use lib.ListN.{replicate}
 use borrow.Author.Needs.{needs}

@@ -1,5 +1,5 @@
--- `wah_write::writer::push_segment` meets its contract: `kind-clean` and `kind-other` carry the room and the push between
--- the word and its kind. Assumes nothing.
+-- `wah_write::writer::push_segment` meets its contract: `kind-clean` and `kind-other` carry the room and the push
+-- between the word and its kind. Assumes nothing.
 use native.Mathlib.Omega.{arith}
 use mathlib.Core.Path.{refl}
 use borrow.Author.Needs.{needs}
