@@ -2,13 +2,14 @@
 -- Assumes nothing.
 use Prim.Native.Nat.{ℕ, suc, _+_, _*_, _≤_, _<_}
 use mathlib.Core.Bool.{Bool, true, false, false≢true}
-use mathlib.Core.Path.{_≡_, sym, subst}
+use mathlib.Core.Path.{_≡_, sym, subst, subst₂}
 use mathlib.Core.List.{List}
 use native.Mathlib.Omega.{arith}
 use native.Mathlib.Numerals.{add-one}
 use lib.ListN.{length, drop, getD, drop-of-length-le}
 use lib.Seq.{drop-cons}
 use Rattle.meaning.specs.Format.{canonical}
+use Rattle.meaning.specs.declared.Format.{Format}
 use Rattle.meaning.specs.Index.{formatOf, rowCount, lengthOf, bodyAt}
 use Rattle.meaning.specs.Question.{held, totalWords, stretches}
 use Rattle.meaning.specs.Ahead.{answerRows}
@@ -17,7 +18,6 @@ use Rattle.meaning.specs.Laws.{EntryFacts}
 use Rattle.meaning.proofs.Demanded.{named-is, twice-stretches}
 use Rattle.meaning.proofs.IndexSound.{index-means}
 use Rattle.meaning.proofs.Stretches.{stretches-le}
-use Rattle.meaning.proofs.Enough.{mostWords, most-words}
 use Rattle.contents.proofs.Places.{body-length}
 use Rattle.merge.specs.declared.evaluate.Operation.{Operation}
 use Rattle.merge.specs.Operations.{chosen}
@@ -47,12 +47,13 @@ module _ (index list : List ℕ) where
 
   module _ (op : Operation) (table : List ℕ) where
     -- as a body of the index's rows
-    pub body-most : (n : ℕ) → n ≡ mostWords (formatOf index) (rowCount index)
-        → length (answerBody index list op table) ≤ n
+    pub body-most : (F : Format) (R n : ℕ) → F ≡ formatOf index → R ≡ rowCount index
+        → ((p : ℕ → Bool) → length (canonical F R p) ≤ n) → length (answerBody index list op table) ≤ n
     unfolding answerBody
-    body-most n e =
-        let F = formatOf index in
-        omega (arith, most-words F (rowCount index) (answerRows F (chosen op table) (bodiesOf index list)))
+    body-most F R n f e h =
+        let G = formatOf index in
+        subst₂ (λ (H : Format) (r : ℕ). ((p : ℕ → Bool) → length (canonical H r p) ≤ n)) f e h
+        (answerRows G (chosen op table) (bodiesOf index list))
 
     -- as an answer over these bodies
     module _ (w : Walkable index list) where

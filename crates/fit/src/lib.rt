@@ -13,11 +13,9 @@ ghost use Rattle.merge.specs.Merges.{Walkable, Mergeable, answerBody};
 ghost use Rattle.answers.specs.Told.{Reported};
 use answers::answer;
 use answers::answer::Answered;
-use meaning::Format;
-use meaning::MOST_DIRTY;
+use body_write::bound;
 use merge::engine;
 use merge::evaluate::Operation;
-use words::rows;
 
 // The words of the named bodies, each as often as it is named.
 fn named_words(index: &[u32], list: &[u32]) -> usize
@@ -36,21 +34,6 @@ fn named_words(index: &[u32], list: &[u32]) -> usize
     total
 }
 
-// The most words that a body of the index's rows can have: in EWAH a word for each segment and for each marker, in WAH
-// a word for each segment.
-fn most_words(index: &[u32]) -> usize
-    requires { ⌜ IndexFacts (now index) ⌝ }
-    ensures { λ r. ⌜ ((list table : List ℕ) (op : Operation)
-        → length (answerBody (now (index .entry)) list op table) ≤ r) ⌝ }
-{
-    let format = contents::format(index);
-    let segments = contents::wide(rows::segments(format, contents::rows(index)));
-    match format {
-        Format::Ewah => segments + segments / MOST_DIRTY as usize + 1,
-        Format::Wah => segments,
-    }
-}
-
 // Whether a buffer surely has room for the answer, whatever is asked of the list: for any body of the index's rows, or
 // for two words for each word of the named bodies.
 fn surely_fits(index: &[u32], list: &[u32], room: usize) -> bool
@@ -58,7 +41,7 @@ fn surely_fits(index: &[u32], list: &[u32], room: usize) -> bool
     ensures { λ r. ⌜ (r ≡ true → (table : List ℕ) (op : Operation)
         → length (answerBody (now (index .entry)) (now (list .entry)) op table) ≤ room) ⌝ }
 {
-    if most_words(index) <= room {
+    if bound::most_words(contents::format(index), contents::rows(index)) <= room {
         return true;
     }
     2 * named_words(index, list) <= room

@@ -2,7 +2,7 @@
 -- Assumes nothing.
 use Prim.Native.Nat.{ℕ, _≤_, _<_}
 use mathlib.Core.Bool.{Bool, true, false, false≢true}
-use mathlib.Core.Path.{_≡_, sym, ap, _∙_}
+use mathlib.Core.Path.{_≡_, sym, ap, _∙_, subst}
 use mathlib.Core.List.{List, _++_}
 use native.Mathlib.Omega.{arith}
 use borrow.Author.Tests.{le-leb, lt-leb}
@@ -14,6 +14,7 @@ use Rattle.meaning.specs.declared.Format.{Format}
 use Rattle.meaning.specs.Answer.{askRow, askPlain, write}
 use Rattle.meaning.proofs.RowWords.{from-length}
 use Rattle.answers.specs.declared.refusal.Refusal.{Refusal}
+use Rattle.answers.specs.declared.answer.Written.{Written}
 use Rattle.answers.specs.declared.answer.Written.the-variants as written
 use Rattle.answers.specs.Told.{refusal, Wrote}
 use Rattle.answers.proofs.Tells.{wrote-none, wrote-words}
@@ -71,6 +72,7 @@ module _ (F : Format) (R : ℕ) (p : ℕ → Bool) (out : List ℕ) (n : ℕ) (i
       → Wrote (write F R p (length out)) (written.Refused r) out mid
   write-kept mid r k e h = rw k (write-none r e (rw k at h))
 
-  pub write-anew : (mid out′ : List ℕ) → mid ≡ out → n ≤ length mid → out′ ≡ canonical F R p ++ drop (length (canonical F R p)) mid
-      → Wrote (write F R p (length out)) (written.Words n) out out′
-  write-anew mid out′ k h e = write-words out′ (rw k at h) (e ∙ ap (λ (l : List ℕ). canonical F R p ++ drop (length (canonical F R p)) l) k)
+-- what was written to the buffer as it was measured, was written to it
+pub write-mid : (F : Format) (R : ℕ) (p : ℕ → Bool) (out mid : List ℕ) (r : Written) (out′ : List ℕ) → mid ≡ out
+    → Wrote (write F R p (length mid)) r mid out′ → Wrote (write F R p (length out)) r out out′
+write-mid F R p out mid r out′ k w = subst (λ (l : List ℕ). Wrote (write F R p (length l)) r l out′) k w

@@ -5,7 +5,7 @@ ghost use mathlib.Core.List.{_++_};
 ghost use lib.ListN.{length, drop};
 ghost use Rattle.meaning.specs.Limits.{mostRows};
 ghost use Rattle.meaning.specs.Segment.{segmentCount, fromRows};
-ghost use Rattle.meaning.specs.Format.{rowsOf};
+ghost use Rattle.meaning.specs.Format.{rowsOf, canonical};
 ghost use Rattle.meaning.specs.Laws.{SoundFacts};
 ghost use Rattle.meaning.specs.Answer as meaning;
 ghost use Rattle.answers.specs.Told.{flagOf, numberOf, Wrote};
@@ -16,6 +16,7 @@ use answers::answer::Number;
 use answers::answer::Written;
 use body_read::nth;
 use body_read::row;
+use body_write::bound;
 use meaning::Format;
 use words::rows;
 
@@ -71,16 +72,30 @@ pub fn plain(format: Format, body: &[u32], rows: u32, out: &mut [u32]) -> Writte
 }
 
 // The body in canonical form of the format `to`; 9 where it does not fit.
+// It is measured first, unless the buffer surely has room.
 pub fn rewrite(from: Format, to: Format, body: &[u32], rows: u32, out: &mut [u32]) -> Written
     requires { ⌜ rows ≤ mostRows ⌝ }
     requires { ⌜ SoundFacts from rows (now body) ⌝ }
     ensures { λ r. ⌜ Wrote (meaning.write to rows (rowsOf from (now (body .entry))) (length (now (out .entry))))
         r (now (out .entry)) (now (out .exit)) ⌝ }
 {
+    if bound::most_words(to, rows) <= out.len() {
+        return write_fitting(from, to, body, rows, out);
+    }
     let need = rewrite::body::rewrite(from, to, body, rows, out, false);
     if out.len() < need {
         return Written::Refused(answer::no_room(need as u64));
     }
-    rewrite::body::rewrite(from, to, body, rows, out, true);
-    Written::Words(need)
+    write_fitting(from, to, body, rows, out)
+}
+
+// The same, into a buffer with room for it.
+fn write_fitting(from: Format, to: Format, body: &[u32], rows: u32, out: &mut [u32]) -> Written
+    requires { ⌜ rows ≤ mostRows ⌝ }
+    requires { ⌜ SoundFacts from rows (now body) ⌝ }
+    requires { ⌜ length (canonical to rows (rowsOf from (now body))) ≤ length (now out) ⌝ }
+    ensures { λ r. ⌜ Wrote (meaning.write to rows (rowsOf from (now (body .entry))) (length (now (out .entry))))
+        r (now (out .entry)) (now (out .exit)) ⌝ }
+{
+    Written::Words(rewrite::body::rewrite(from, to, body, rows, out, true))
 }

@@ -11,6 +11,7 @@ ghost use Rattle.answers.specs.Told.{verdictOf, Wrote};
 use answers::answer;
 use answers::answer::Written;
 use answers::refusal::Checked;
+use body_write::bound;
 use meaning::Format;
 use meaning::MOST_ROWS;
 use words::rows;
@@ -59,15 +60,29 @@ fn compress(format: Format, plain: &[u32], rows: u32, out: &mut [u32]) -> usize
     }
 }
 
-// Plain words written in canonical form; 9 where they do not fit.
+// The same, with what is told.
+fn write_fitting(format: Format, plain: &[u32], rows: u32, out: &mut [u32]) -> Written
+    requires { ⌜ PlainRows rows (now plain) ⌝ }
+    requires { ⌜ length (canonical format rows (hasRow 32 (now plain))) ≤ length (now out) ⌝ }
+    ensures { λ r. ⌜ Wrote (meaning.write format rows (hasRow 32 (now (plain .entry))) (length (now (out .entry))))
+        r (now (out .entry)) (now (out .exit)) ⌝ }
+{
+    Written::Words(compress(format, plain, rows, out))
+}
+
+// Plain words written in canonical form; 9 where they do not fit. They are measured first, unless the buffer surely has
+// room.
 pub fn write_plain(format: Format, plain: &[u32], rows: u32, out: &mut [u32]) -> Written
     requires { ⌜ PlainRows rows (now plain) ⌝ }
     ensures { λ r. ⌜ Wrote (meaning.write format rows (hasRow 32 (now (plain .entry))) (length (now (out .entry))))
         r (now (out .entry)) (now (out .exit)) ⌝ }
 {
+    if bound::most_words(format, rows) <= out.len() {
+        return write_fitting(format, plain, rows, out);
+    }
     let need = measure(format, plain, rows);
     if out.len() < need {
         return Written::Refused(answer::no_room(need as u64));
     }
-    Written::Words(compress(format, plain, rows, out))
+    write_fitting(format, plain, rows, out)
 }
