@@ -2,10 +2,10 @@
 
 use std::hint::black_box;
 
-use zvonurel::{MOST_BITMAPS, MOST_ROWS, WORD_BITS};
+use zvonurel::WORD_BITS;
 
 use crate::bitwise::body_count_bitwise;
-use crate::inputs::{Data, Kind};
+use crate::inputs::{self, Data, Kind};
 use crate::ones::{builds, count_ones};
 use crate::timing::best_seconds;
 
@@ -55,10 +55,7 @@ fn measured_call(call: Call, data: &Data, n: u32) -> u32 {
 /// One call and nothing else, for a profiler. Nth finds the last set row.
 pub fn one(call: &str, kind: &str, rows: &str, bitmaps: &str, repeats: &str) -> Option<()> {
     let named = Call::named(call)?;
-    let kind = Kind::ALL.into_iter().find(|k| k.name() == kind)?;
-    let rows: u32 = rows.parse().ok().filter(|r| (1..=MOST_ROWS).contains(r))?;
-    let bitmaps: usize = bitmaps.parse().ok().filter(|n| (1..=MOST_BITMAPS as usize).contains(n))?;
-    let repeats: u32 = repeats.parse().ok()?;
+    let (kind, rows, bitmaps, repeats) = inputs::arguments([kind, rows, bitmaps, repeats], 1)?;
     let data = Data::new(kind, rows, bitmaps);
     let last = count_ones(data.plain(0)).saturating_sub(1);
     for _ in 0..repeats {

@@ -1,6 +1,6 @@
 //! The inputs: the same words in every run.
 
-use zvonurel::{most_body_words, segments, IndexBuilder, ENTRY_WORDS, HEAD_WORDS, WORD_BITS};
+use zvonurel::{most_body_words, segments, IndexBuilder, ENTRY_WORDS, HEAD_WORDS, MOST_BITMAPS, MOST_ROWS, WORD_BITS};
 
 #[derive(Debug, Clone, Copy, PartialEq, Eq)]
 pub enum Kind {
@@ -22,6 +22,14 @@ impl Kind {
             Kind::Dense => "dense",
         }
     }
+}
+
+/// What `--one` is told of bitmaps, at least so many of them: their kind, rows and number, and the repeats.
+pub fn arguments([kind, rows, bitmaps, repeats]: [&str; 4], least: usize) -> Option<(Kind, u32, usize, u32)> {
+    let kind = Kind::ALL.into_iter().find(|k| k.name() == kind)?;
+    let rows = rows.parse().ok().filter(|r| (1..=MOST_ROWS).contains(r))?;
+    let bitmaps = bitmaps.parse().ok().filter(|n| (least..=MOST_BITMAPS as usize).contains(n))?;
+    Some((kind, rows, bitmaps, repeats.parse().ok()?))
 }
 
 /// The question that this is all for: at least five of twelve tanks.

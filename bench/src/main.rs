@@ -16,8 +16,6 @@ mod wah;
 use std::hint::black_box;
 use std::process::ExitCode;
 
-use zvonurel::{MOST_BITMAPS, MOST_ROWS};
-
 use crate::baseline::Plain;
 use crate::calls::{baselines, measured_call, plain_answer, Call, CALLS};
 use crate::growth::{growth, Figure};
@@ -112,10 +110,7 @@ fn buffer(data: &Data) -> Vec<u32> {
 /// One call and nothing else, for a profiler.
 fn one(call: &str, kind: &str, rows: &str, bitmaps: &str, repeats: &str) -> Option<()> {
     let call = Call::named(call)?;
-    let kind = Kind::ALL.into_iter().find(|k| k.name() == kind)?;
-    let rows: u32 = rows.parse().ok().filter(|r| (1..=MOST_ROWS).contains(r))?;
-    let bitmaps: usize = bitmaps.parse().ok().filter(|n| (2..=MOST_BITMAPS as usize).contains(n))?;
-    let repeats: u32 = repeats.parse().ok()?;
+    let (kind, rows, bitmaps, repeats) = inputs::arguments([kind, rows, bitmaps, repeats], 2)?;
     let data = Data::new(kind, rows, bitmaps);
     let mut out = buffer(&data);
     for _ in 0..repeats {

@@ -2,7 +2,7 @@
 
 use std::hint::black_box;
 
-use zvonurel::{Format, IndexBuilder, Refusal, MOST_BITMAPS, MOST_ROWS};
+use zvonurel::{Format, IndexBuilder, Refusal, MOST_ROWS};
 
 use crate::baseline::Plain;
 use crate::calls::{self, baselines, plain_answer};
@@ -112,10 +112,7 @@ fn measured_call(call: Call, both: &Both, out: &mut [u32]) -> Result<u64, Refusa
 /// One call and nothing else, for a profiler.
 pub fn one(call: &str, kind: &str, rows: &str, bitmaps: &str, repeats: &str) -> Option<()> {
     let named = Call::named(call)?;
-    let kind = Kind::ALL.into_iter().find(|k| k.name() == kind)?;
-    let rows: u32 = rows.parse().ok().filter(|r| (1..=MOST_ROWS).contains(r))?;
-    let bitmaps: usize = bitmaps.parse().ok().filter(|n| (1..=MOST_BITMAPS as usize).contains(n))?;
-    let repeats: u32 = repeats.parse().ok()?;
+    let (kind, rows, bitmaps, repeats) = inputs::arguments([kind, rows, bitmaps, repeats], 1)?;
     let both = Both::new(kind, rows, bitmaps);
     let mut out = both.buffer();
     for _ in 0..repeats {
