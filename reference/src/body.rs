@@ -47,9 +47,30 @@ pub(crate) struct Body {
     pub rows: Vec<bool>,
     /// What is spelt past the last row, for mistakes only.
     pub pads: Vec<bool>,
+    /// In order; together they have all segments.
     pub pieces: Vec<Piece>,
     /// The segments under each marker's dirty words, for mistakes only; none in WAH.
     pub dirties: Vec<Range<usize>>,
+}
+
+impl Body {
+    /// Which piece a segment lies in.
+    pub fn piece_over(&self, segment: usize) -> usize {
+        self.pieces.iter().position(|piece| piece.last >= segment).expect("a piece over every segment")
+    }
+
+    /// The segments of a piece.
+    pub fn segments(&self, piece: usize) -> Range<usize> {
+        let start = if piece == 0 { 0 } else { self.pieces[piece - 1].last + 1 };
+        start..self.pieces[piece].last + 1
+    }
+
+    /// First and last row of these segments. Pads are no rows.
+    pub fn extent(&self, segments: Range<usize>) -> (u32, u32) {
+        let width = self.format.width();
+        let end = (width * segments.end).min(self.rows.len());
+        ((width * segments.start) as u32, end as u32 - 1)
+    }
 }
 
 /// Takes a sound body apart.
@@ -81,16 +102,32 @@ fn read_alone(body: &[u32], rows: u32, format: Format) -> Result<Body, Refusal> 
 
 // ---- questions on one body's rows ----
 
-pub(crate) fn row_in(body: &Body, row: u32) -> Result<bool, Refusal> {
-    let (row, rows) = (row as usize, body.rows.len());
-    if row == rows && mistaken(Mistake::RowPastEndFalse) {
-        return Ok(false);
+/// What is told of a row.
+#[derive(Clone, Copy, Debug, PartialEq, Eq)]
+pub struct Row {
+    pub set: bool,
+    /// The first row of the piece that it lies in.
+    pub first: u32,
+    /// The last one; it is below R.
+    pub last: u32,
+}
+
+pub(crate) fn row_in(body: &Body, row: u32) -> Result<Row, Refusal> {
+    let (at, rows) = (row as usize, body.rows.len());
+    if at == rows && mistaken(Mistake::RowPastEndFalse) {
+        return Ok(Row { set: false, first: row, last: row });
     }
     let pads_too = mistaken_in(body.format, Mistake::RowInPads, Mistake::WahRowInPads);
-    if row >= rows && pads_too && body.pads.get(row - rows) == Some(&true) {
-        return Ok(true);
-    }
-    body.rows.get(widths::looked_up(body, row)).copied().ok_or(bad_argument())
+    let in_pads = at >= rows && pads_too && body.pads.get(at - rows) == Some(&true);
+    let set = in_pads || *body.rows.get(widths::looked_up(body, at)).ok_or(bad_argument())?;
+    let piece = body.piece_over(at / body.format.width());
+    let (first, last) = body.extent(body.segments(piece));
+    Ok(Row { set, first, last })
+}
+
+/// First and last row of each piece, in order.
+pub(crate) fn pieces_in(body: &Body) -> Vec<(u32, u32)> {
+    (0..body.pieces.len()).map(|piece| body.extent(body.segments(piece))).collect()
 }
 
 pub(crate) fn count_in(body: &Body) -> u32 {
@@ -123,9 +160,14 @@ pub(crate) fn expand_rows(body: &Body, room: usize) -> Result<Vec<u32>, Refusal>
     Ok(words)
 }
 
-/// Has a lone body this row?
-pub fn body_row(body: &[u32], rows: u32, format: Format, row: u32) -> Result<bool, Refusal> {
+/// Has a lone body this row, and which rows does its piece have?
+pub fn body_row(body: &[u32], rows: u32, format: Format, row: u32) -> Result<Row, Refusal> {
     row_in(&read_alone(body, rows, format)?, row)
+}
+
+/// First and last row of each piece of a lone body, in order.
+pub fn body_pieces(body: &[u32], rows: u32, format: Format) -> Result<Vec<(u32, u32)>, Refusal> {
+    Ok(pieces_in(&read_alone(body, rows, format)?))
 }
 
 /// How many rows a lone body has.

@@ -2,7 +2,7 @@
 
 use std::ops::Range;
 
-use crate::body::{self, check_words, count_in, expand_rows, nth_in, row_in, Body};
+use crate::body::{self, check_words, count_in, expand_rows, nth_in, pieces_in, row_in, Body, Row};
 use crate::format::Format;
 use crate::limits::{ENTRY_WORDS, HEAD_WORDS, MOST_BITMAPS, MOST_INDEX_WORDS, MOST_ROWS};
 use crate::mistakes::{mistaken, Mistake};
@@ -128,9 +128,14 @@ pub fn bitmap(index: &[u32], k: u32) -> Result<Range<usize>, Refusal> {
     open(index)?.part(k)
 }
 
-/// Has bitmap `k` this row?
-pub fn row(index: &[u32], k: u32, row: u32) -> Result<bool, Refusal> {
+/// Has bitmap `k` this row, and which rows does its piece have?
+pub fn row(index: &[u32], k: u32, row: u32) -> Result<Row, Refusal> {
     row_in(&open(index)?.body(k)?, row)
+}
+
+/// First and last row of each piece of bitmap `k`, in order.
+pub fn pieces(index: &[u32], k: u32) -> Result<Vec<(u32, u32)>, Refusal> {
+    Ok(pieces_in(&open(index)?.body(k)?))
 }
 
 /// How many rows bitmap `k` has.

@@ -21,10 +21,10 @@ mod segment;
 mod wah;
 mod widths;
 
-pub use body::{body_count, body_nth, body_row, check_body, compress, expand};
+pub use body::{body_count, body_nth, body_pieces, body_row, check_body, compress, expand, Row};
 pub use columns::{sum, value};
 pub use format::Format;
-pub use index::{bitmap, check, count, expand_bitmap, nth, row};
+pub use index::{bitmap, check, count, expand_bitmap, nth, pieces, row};
 pub use mistakes::{with_mistake, Mistake};
 pub use program::program;
 pub use questions::{and, and_not, histogram, not, or, symmetric, threshold, xor, Answer};

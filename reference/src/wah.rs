@@ -127,7 +127,10 @@ pub(crate) fn read(body: &[u32], rows: u32) -> Body {
         }
     }
     // Nor does it leave segments out.
-    bits.resize(whole, false);
+    if bits.len() < whole {
+        bits.resize(whole, false);
+        pieces.push(Piece { last: whole / WAH_ROWS - 1, dirty: false });
+    }
     if mistaken(Mistake::FillsJoined) {
         pieces = joined(&pieces, &bits);
     }

@@ -94,7 +94,7 @@ fn lone_bodies() {
         assert_eq!(body_count(&body, rows, format), Ok(set.len() as u32));
         for (n, r) in set.iter().enumerate() {
             assert_eq!(body_nth(&body, rows, format, n as u32), Ok(*r));
-            assert_eq!(body_row(&body, rows, format, *r), Ok(true));
+            assert_eq!(body_row(&body, rows, format, *r).map(|row| row.set), Ok(true));
         }
         let settled = compress(rows, &plain, format, ANY).unwrap();
         assert!(settled.len() <= body.len());
@@ -127,7 +127,7 @@ fn lists() {
             assert!(answer.words.len() <= 2 * answer.stretches as usize);
             assert_eq!(check_body(&answer.words, rows, format), Ok(()));
             for r in 0..rows {
-                assert_eq!(body_row(&answer.words, rows, format, r), Ok(held(r) >= t));
+                assert_eq!(body_row(&answer.words, rows, format, r).map(|row| row.set), Ok(held(r) >= t));
             }
             let table: Vec<u32> = (0..=list.len()).map(|c| u32::from(c >= t)).collect();
             assert_eq!(symmetric(&index, &list, &table, ANY).as_ref(), Ok(&answer));
@@ -250,7 +250,7 @@ fn columns() {
 
 fn ask_index(index: &[u32], list: &[u32], t: u32, room: usize) {
     let _ = (check(index), bitmap(index, t), row(index, t, t), count(index, 0));
-    let _ = (nth(index, 0, t), expand_bitmap(index, 0, room), and(index, 0, 1, room));
+    let _ = (pieces(index, t), nth(index, 0, t), expand_bitmap(index, 0, room), and(index, 0, 1, room));
     let _ = (or(index, 0, 1, room), xor(index, 1, 0, room), and_not(index, 0, 1, room));
     let _ = (not(index, 1, room), threshold(index, list, t, room), histogram(index, list));
     let _ = symmetric(index, list, &[1, 0, 1][..1 + list.len().min(2)], room);
@@ -263,7 +263,7 @@ fn ask_index(index: &[u32], list: &[u32], t: u32, room: usize) {
 
 fn ask_body(body: &[u32], rows: u32, format: Format, n: u32, room: usize) {
     let _ = (check_body(body, rows, format), body_row(body, rows, format, n), body_count(body, rows, format));
-    let _ = (body_nth(body, rows, format, n), expand(body, rows, format, room));
+    let _ = (body_pieces(body, rows, format), body_nth(body, rows, format, n), expand(body, rows, format, room));
     let _ = (compress(rows, body, format, room), rewrite(body, rows, format, Ewah, room));
     let _ = rewrite(body, rows, format, Wah, ANY);
 }

@@ -75,9 +75,9 @@ fn ninety_six_rows() {
     assert_eq!(check_body(&FIVE_64_WASTEFUL, 96, Ewah), Ok(()));
     assert_eq!(expand(&FIVE_64_WASTEFUL, 96, Ewah, 3), Ok(plain(96, &[5, 64])));
     for body in [FIVE_64, FIVE_64_WASTEFUL] {
-        assert_eq!(body_row(&body, 96, Ewah, 5), Ok(true));
-        assert_eq!(body_row(&body, 96, Ewah, 64), Ok(true));
-        assert_eq!(body_row(&body, 96, Ewah, 63), Ok(false));
+        assert_eq!(body_row(&body, 96, Ewah, 5), Ok(Row { set: true, first: 0, last: 31 }));
+        assert_eq!(body_row(&body, 96, Ewah, 64), Ok(Row { set: true, first: 64, last: 95 }));
+        assert_eq!(body_row(&body, 96, Ewah, 63), Ok(Row { set: false, first: 32, last: 63 }));
         assert_eq!(body_nth(&body, 96, Ewah, 0), Ok(5));
         assert_eq!(body_nth(&body, 96, Ewah, 1), Ok(64));
         assert_eq!(body_nth(&body, 96, Ewah, 2), Err(no(8, 0, 0)));

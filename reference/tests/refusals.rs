@@ -234,8 +234,8 @@ fn parts_of_the_index() {
     assert_eq!(bitmap(&LOOPED, 1), Ok(11..13));
     assert_eq!(bitmap(&LOOPED, 2), Ok(13..15));
     assert_eq!(bitmap(&index_of(0, &[&[], &[0]]), 0), Ok(7..7));
-    assert_eq!(row(&LOOPED, 1, 0), Ok(false));
-    assert_eq!(row(&LOOPED, 1, 3), Ok(true));
+    assert_eq!(row(&LOOPED, 1, 0), Ok(Row { set: false, first: 0, last: 3 }));
+    assert_eq!(row(&LOOPED, 1, 3), Ok(Row { set: true, first: 0, last: 3 }));
     assert_eq!(count(&LOOPED, 1), Ok(3));
     assert_eq!(nth(&LOOPED, 1, 2), Ok(3));
     assert_eq!(expand_bitmap(&LOOPED, 1, 1), Ok(vec![0xE]));

@@ -16,7 +16,7 @@ fn ask_body(rows: &[bool], body: &[u32], format: Format) {
     let n = set.len() as u32;
     assert_eq!(check_body(body, r, format), Ok(()), "{r} {body:x?}");
     assert_eq!(body_count(body, r, format), Ok(n));
-    assert_eq!(body_row(body, r, format, r - 1), Ok(last));
+    assert_eq!(body_row(body, r, format, r - 1).map(|row| row.set), Ok(last));
     assert_eq!([r, r | 31].map(|row| body_row(body, r, format, row)), [Err(BAD); 2]);
     let nths: Vec<u32> = (0..n).map(|n| body_nth(body, r, format, n).unwrap()).collect();
     assert_eq!(nths, set);

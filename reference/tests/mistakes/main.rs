@@ -130,9 +130,18 @@ fn tail_case(m: Mistake) -> String {
     }
 }
 
+/// The mistakes that have tables of their own.
+fn tables() -> Vec<wah::Case> {
+    wah::all()
+}
+
+fn find(m: Mistake) -> Option<wah::Case> {
+    tables().into_iter().find(|case| case.mistake == m)
+}
+
 /// A result in words, the case chosen for this mistake.
 fn case(m: Mistake) -> String {
-    wah::find(m).map_or_else(|| ewah_case(m), |case| (case.ask)())
+    find(m).map_or_else(|| ewah_case(m), |case| (case.ask)())
 }
 
 /// The same for the mistakes that were there before WAH.
@@ -253,7 +262,7 @@ fn tail_expected(m: Mistake) -> (String, String) {
         Mistake::DirtyPadPasses => (refused(7, 0, 1), text("Ok(())")),
         Mistake::PlainOnesPass => (refused(7, 0, 1), text("Ok([5])")),
         Mistake::RunSplitAtPads => (answer("4", 1), answer("4", 2)),
-        Mistake::RowInPads => (bad(), text("Ok(true)")),
+        Mistake::RowInPads => (bad(), text("Ok(Row { set: true, first: 0, last: 39 })")),
         Mistake::NthInPads => (bad(), text("Ok(40)")),
         Mistake::ExpandKeepsPads => (text("Ok([ffffffff, ff])"), text("Ok([ffffffff, ffffffff])")),
         Mistake::FullTailDirty => (text("Ok([5])"), text("Ok([20003, ff])")),
@@ -277,7 +286,7 @@ fn tail_expected(m: Mistake) -> (String, String) {
 
 /// (without, with) as they should be.
 fn expected(m: Mistake) -> (String, String) {
-    wah::find(m).map_or_else(|| ewah_expected(m), |case| (case.right.to_string(), case.wrong.to_string()))
+    find(m).map_or_else(|| ewah_expected(m), |case| (case.right.to_string(), case.wrong.to_string()))
 }
 
 /// The same for the mistakes that were there before WAH.
@@ -302,7 +311,7 @@ fn ewah_expected(m: Mistake) -> (String, String) {
         Mistake::SixBeforeFive => (refused(5, 0, 0), refused(6, 0, 0)),
         Mistake::LengthBeforeStart => (refused(4, 0, 3), refused(4, 0, 4)),
         Mistake::MissingAtLastWord => (refused(6, 0, 1), refused(6, 0, 0)),
-        Mistake::RowPastEndFalse => (bad(), text("Ok(false)")),
+        Mistake::RowPastEndFalse => (bad(), text("Ok(Row { set: false, first: 4, last: 4 })")),
         Mistake::TableTwoIsYes => (bad(), answer("20000, a", 1)),
         Mistake::HighThresholdEmpty => (bad(), answer("2", 1)),
         Mistake::IdleMarkerRefused => (text("Ok(())"), refused(6, 0, 5)),
@@ -313,7 +322,7 @@ fn ewah_expected(m: Mistake) -> (String, String) {
 
 #[test]
 fn each_mistake_shows() {
-    assert_eq!(Mistake::ALL.len(), 68 + wah::all().len());
+    assert_eq!(Mistake::ALL.len(), 68 + tables().len());
     for (place, &m) in Mistake::ALL.iter().enumerate() {
         assert!(!Mistake::ALL[..place].contains(&m));
         let before = case(m);
