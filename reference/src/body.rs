@@ -7,7 +7,7 @@ use crate::limits::MOST_ROWS;
 use crate::mistakes::{mistaken, mistaken_in, Mistake};
 use crate::refusal::{bad_argument, must_fit, refusal, too_many_rows, Refusal};
 use crate::segment::{bits_of, pad_mask, segments_in, segments_of, set_in, word_of_rows, Segment};
-use crate::{blocks, ewah, wah, widths};
+use crate::{blocks, ewah, extents, wah, widths};
 
 // ---- checking ----
 
@@ -51,6 +51,8 @@ pub(crate) struct Body {
     pub pieces: Vec<Piece>,
     /// The segments under each marker's dirty words, for mistakes only; none in WAH.
     pub dirties: Vec<Range<usize>>,
+    /// The segments under each marker's clean run, likewise.
+    pub runs: Vec<Range<usize>>,
 }
 
 impl Body {
@@ -120,8 +122,7 @@ pub(crate) fn row_in(body: &Body, row: u32) -> Result<Row, Refusal> {
     let pads_too = mistaken_in(body.format, Mistake::RowInPads, Mistake::WahRowInPads);
     let in_pads = at >= rows && pads_too && body.pads.get(at - rows) == Some(&true);
     let set = in_pads || *body.rows.get(widths::looked_up(body, at)).ok_or(bad_argument())?;
-    let piece = body.piece_over(at / body.format.width());
-    let (first, last) = body.extent(body.segments(piece));
+    let (first, last) = extents::told(body, at);
     Ok(Row { set, first, last })
 }
 

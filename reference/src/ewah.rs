@@ -89,11 +89,13 @@ pub(crate) fn read(body: &[u32], rows: u32) -> Body {
     let mut bits = Vec::new();
     let mut pieces = Vec::new();
     let mut dirties = Vec::new();
+    let mut runs = Vec::new();
     let mut segment = 0;
     let mut at = 0;
     while at < body.len() {
         let marker = marker_of(body[at]);
         at += 1;
+        runs.push(segment..segment + marker.clean);
         if marker.clean > 0 {
             bits.extend(std::iter::repeat_n(marker.value, WORD_BITS * marker.clean));
             segment += marker.clean;
@@ -109,7 +111,7 @@ pub(crate) fn read(body: &[u32], rows: u32) -> Body {
     }
     // Pads are no rows, though a run of ones may spell them.
     let pads = bits.split_off(rows as usize);
-    Body { format: Format::Ewah, rows: bits, pads, pieces, dirties }
+    Body { format: Format::Ewah, rows: bits, pads, pieces, dirties, runs }
 }
 
 // ---- writing ----

@@ -9,6 +9,7 @@ mod blocks;
 mod body;
 mod columns;
 mod ewah;
+mod extents;
 mod format;
 mod index;
 pub mod limits;

@@ -257,6 +257,42 @@ pub enum Mistake {
     RewrittenContentsKept,
     /// Refusal 9 of a rewritten index counts its bodies alone.
     RewriteNeedsBodiesOnly,
+    /// Asked at a row, runs of one value side by side are one piece.
+    RowJoinsRuns,
+    /// Asked at a row, fills of one value side by side are one piece.
+    RowJoinsFills,
+    /// In EWAH, the last row of a piece over pads is told as the last pad.
+    LastRowInPads,
+    /// The same in WAH.
+    WahLastRowInPads,
+    /// In EWAH, a piece's first and last segment are told for its first and last row.
+    ExtentInSegments,
+    /// The same in WAH.
+    WahExtentInSegments,
+    /// The first and last row of a WAH piece are told as if its segments had 32 rows.
+    ExtentBy32,
+    /// At a dirty word the rows of its marker's clean run are told, if it has one.
+    DirtyTellsRun,
+    /// In EWAH, the row asked is told for the first row of its piece.
+    FirstIsAsked,
+    /// The same in WAH.
+    WahFirstIsAsked,
+    /// Asked at a row, a marker's dirty words are one piece.
+    DirtyWordsJoined,
+    /// Asked at a row, literals side by side are one piece.
+    LiteralsJoined,
+    /// In EWAH, the row behind a piece is told for its last, unless that's row R.
+    LastRowOneMore,
+    /// The same in WAH.
+    WahLastRowOneMore,
+    /// Asked at a row, a clean dirty word beside a run of its value belongs to the run.
+    CleanDirtyInRun,
+    /// Asked at a row, a clean literal beside a fill of its value belongs to the fill.
+    CleanLiteralInFill,
+    /// A run is told as the one segment that the row lies in.
+    RunIsOneSegment,
+    /// A fill is told as the one segment that the row lies in.
+    FillIsOneSegment,
 }
 
 impl Mistake {
@@ -386,6 +422,24 @@ impl Mistake {
         Mistake::RewrittenKindKept,
         Mistake::RewrittenContentsKept,
         Mistake::RewriteNeedsBodiesOnly,
+        Mistake::RowJoinsRuns,
+        Mistake::RowJoinsFills,
+        Mistake::LastRowInPads,
+        Mistake::WahLastRowInPads,
+        Mistake::ExtentInSegments,
+        Mistake::WahExtentInSegments,
+        Mistake::ExtentBy32,
+        Mistake::DirtyTellsRun,
+        Mistake::FirstIsAsked,
+        Mistake::WahFirstIsAsked,
+        Mistake::DirtyWordsJoined,
+        Mistake::LiteralsJoined,
+        Mistake::LastRowOneMore,
+        Mistake::WahLastRowOneMore,
+        Mistake::CleanDirtyInRun,
+        Mistake::CleanLiteralInFill,
+        Mistake::RunIsOneSegment,
+        Mistake::FillIsOneSegment,
     ];
 }
 

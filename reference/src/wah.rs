@@ -136,7 +136,7 @@ pub(crate) fn read(body: &[u32], rows: u32) -> Body {
     }
     // Pads are no rows, though a fill of ones may spell them.
     let pads = bits.split_off(rows as usize);
-    Body { format: Format::Wah, rows: bits, pads, pieces, dirties: Vec::new() }
+    Body { format: Format::Wah, rows: bits, pads, pieces, dirties: Vec::new(), runs: Vec::new() }
 }
 
 fn literal_bits(word: u32) -> Vec<bool> {

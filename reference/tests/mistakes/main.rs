@@ -2,6 +2,7 @@
 
 #[path = "../common/mod.rs"]
 mod common;
+mod pieces;
 mod wah;
 use common::*;
 use reference::limits::{DIRTY_SHIFT, ENTRY_WORDS, HEAD_WORDS, WORD_BITS};
@@ -132,7 +133,7 @@ fn tail_case(m: Mistake) -> String {
 
 /// The mistakes that have tables of their own.
 fn tables() -> Vec<wah::Case> {
-    wah::all()
+    [wah::all(), pieces::all()].into_iter().flatten().collect()
 }
 
 fn find(m: Mistake) -> Option<wah::Case> {
