@@ -40,6 +40,14 @@
  * rows, none set, are 80000002 (in hexadecimal), 40 rows, all set, are C0000002, and rows 0 and 39 of 40 are 00000001
  * 00000100. zv_wah_compress writes a body of plain words.
  *
+ * A PIECE of a body in EWAH is the clean segments of one marker, if it counts any, or one dirty word; in WAH it is one
+ * fill or one literal. The answer on a row has the first and the last row of the piece that the row lies in, as that
+ * body is written. Pad bits are no rows, so the last piece ends with row R - 1. In clean segments every row from the
+ * first to the last has the value of the row asked for. Rows just outside may have it too, whatever form the body has:
+ * clean segments are whole ones, which a marker counts up to ZV_MOST_CLEAN, and a mixed segment may begin or end with
+ * such rows. A dirty word or a literal says no more than its bits: the rows in it may differ. A piece of more than
+ * ZV_WORD_BITS rows in EWAH, or ZV_WAH_SEGMENT_ROWS in WAH, is surely clean segments; one of no more may be either.
+ *
  * AN INDEX has a head of ZV_HEAD_WORDS words: in word 0 ZV_INDEX_KIND for EWAH or ZV_WAH_INDEX_KIND for WAH, the rows
  * in word 1, the number N of bitmaps in word 2. Then ZV_ENTRY_WORDS words for each bitmap: where its body starts and
  * how many words it has. Then the bodies, one behind the other. The whole of it is checked for every question. Bitmaps
@@ -68,9 +76,11 @@
  * as the rows: they check that body alone. zv_value looks through all slices for rows that do not exist, each time.
  * For many values of one column, expand its bitmaps once and put the values together from the bits.
  *
- * LISTING. zv_nth, zv_body_nth and zv_wah_body_nth check and walk from the front each time. To list all set rows,
- * expand the body once and scan the bits, as example/listing.c does: for 20,000 scattered set rows that is some
- * thousand times as fast.
+ * LISTING. zv_nth, zv_body_nth and zv_wah_body_nth check and walk from the front each time, and so do zv_row,
+ * zv_body_row and zv_wah_body_row. To list all set rows, expand the body once and scan the bits, as example/listing.c
+ * does: for 20,000 scattered set rows that is some thousand times as fast as zv_nth for each. Who asks for row 0, and
+ * then each time for the row behind the last one given, meets each piece once, in order; together these calls can take
+ * a time that grows with the square of the number of pieces, so to see the rows expand the body instead.
  *
  * STACK. A call needs less than ZV_MOST_STACK bytes of stack, whatever it is given: none recurses, and none has an
  * array whose length depends on the input. tests/c/stack.c measures some 16 KiB for zv_sum, and 4 KiB for any other. A
@@ -88,9 +98,9 @@ extern "C" {
 
 /* The version of the header and its library. */
 #define ZV_VERSION_MAJOR 0
-#define ZV_VERSION_MINOR 2
+#define ZV_VERSION_MINOR 3
 #define ZV_VERSION_PATCH 0
-#define ZV_VERSION "0.2.0"
+#define ZV_VERSION "0.3.0"
 
 /* Every limit and size, once. */
 
@@ -240,12 +250,15 @@ typedef struct zv_checked {
     uint64_t word;
 } zv_checked;
 
-/* 1 for yes, 0 for no. */
+/* Of a row: `value` is 1 if it is set and 0 if not, `first` and `last` are the first and the last row of the piece
+ * that it lies in. All three are 0 on a refusal. */
 typedef struct zv_flag {
     uint32_t number;
     uint32_t bitmap;
     uint64_t word;
     uint32_t value;
+    uint32_t first;
+    uint32_t last;
 } zv_flag;
 
 /* A count, or a row. */
@@ -303,7 +316,7 @@ typedef struct zv_histogram_counts {
 /* The first fault of the body. */
 zv_checked zv_check_body(const uint32_t *body, size_t body_words, uint32_t rows);
 
-/* Whether a row is set. 8: there is no such row. */
+/* Whether a row is set, and the piece that it lies in. 8: there is no such row. */
 zv_flag zv_body_row(const uint32_t *body, size_t body_words, uint32_t rows, uint32_t row);
 
 /* How many rows are set. */
@@ -330,7 +343,7 @@ zv_written zv_body_to_wah(const uint32_t *body, size_t body_words, uint32_t rows
 /* The first fault of the body. */
 zv_checked zv_wah_check_body(const uint32_t *body, size_t body_words, uint32_t rows);
 
-/* Whether a row is set. 8: there is no such row. */
+/* Whether a row is set, and the piece that it lies in. 8: there is no such row. */
 zv_flag zv_wah_body_row(const uint32_t *body, size_t body_words, uint32_t rows, uint32_t row);
 
 /* How many rows are set. */
@@ -365,7 +378,7 @@ zv_checked zv_bitmap_refusal(const uint32_t *index, size_t index_words, uint32_t
 /* Where in the index bitmap k's body lies, which is in the index's format. 8: there is no bitmap k. */
 zv_part zv_bitmap(const uint32_t *index, size_t index_words, uint32_t k);
 
-/* Whether a row of bitmap k is set. 8: there is no such bitmap, or no such row. */
+/* Whether a row of bitmap k is set, and the piece that it lies in. 8: there is no such bitmap, or no such row. */
 zv_flag zv_row(const uint32_t *index, size_t index_words, uint32_t k, uint32_t row);
 
 /* How many rows of bitmap k are set. 8: there is no bitmap k. */

@@ -125,9 +125,9 @@ fn by_rows(data: &Columns, row: u32) -> Result<u64, Refusal> {
     let list = &data.lists[0];
     let mut value = 0;
     for (i, k) in list[1..].iter().enumerate() {
-        value |= u64::from(zvonurel::row(index, *k, row)?) << i;
+        value |= u64::from(zvonurel::row(index, *k, row)?.set) << i;
     }
-    assert!(zvonurel::row(index, list[0], row)?, "a row that exists");
+    assert!(zvonurel::row(index, list[0], row)?.set, "a row that exists");
     Ok(value)
 }
 

@@ -21,7 +21,7 @@
 //! let answer = zvonurel::threshold(&index, &[0, 1, 2], 2, &mut out)?;
 //! let body = &out[..answer.words];
 //! assert_eq!(zvonurel::body_count(body, 4)?, 2);
-//! assert!(zvonurel::body_row(body, 4, 1)? && zvonurel::body_row(body, 4, 3)?);
+//! assert!(zvonurel::body_row(body, 4, 1)?.set && zvonurel::body_row(body, 4, 3)?.set);
 //!
 //! // there is no way for at least four of three to have a row
 //! let refusal = zvonurel::threshold(&index, &[0, 1, 2], 4, &mut out).unwrap_err();
@@ -59,8 +59,8 @@
 //!
 //! Plain Rust over the proved calls, not itself proved; these allocate what they return:
 //!
-//! - [`set_rows`] and [`spells`] list a body's rows, and in [`wah`] those of one in WAH. A loop of [`body_nth`] would
-//!   walk the body anew for each row.
+//! - [`set_rows`] and [`spells`] list a body's rows, and in [`wah`] those of one in WAH. A loop of [`body_nth`] or of
+//!   [`body_row`] would walk the body anew for each row.
 //! - [`IndexBuilder`] makes an index in either format of bodies, plain words, rows or the values of columns, and
 //!   [`index_of`] and [`wah::index_of`] of words that may be anything.
 //! - [`import`] makes a body of the words that another EWAH library wrote, [`import_java`] of a whole file, or says why
@@ -130,6 +130,45 @@ pub struct Answer {
     pub stretches: u32,
 }
 
+/// Whether a row is set, and the first and the last row of the piece that it lies in, as the body is written. A
+/// **piece** in EWAH is the clean segments that one marker counts, or one dirty word; in WAH it is one fill or one
+/// literal. Pad bits are no rows, so the last piece ends with the last row.
+///
+/// In clean segments every row from `first` to `last` is set or clear as the row asked for. Rows just outside may be
+/// so too, in canonical form as in any other: clean segments are whole ones, a marker counts at most [`MOST_CLEAN`] of
+/// them, and a mixed segment may begin or end with such rows. In a dirty word or a literal, which has at most
+/// [`Format::segment_rows`] rows, the others may be different. So this does not tell how far set rows go on:
+/// [`spells`] does.
+///
+/// Who asks for row 0, and then each time for the row behind `last`, meets each piece once, in order. Each of these
+/// calls walks the body anew, so together they can take a time that grows with the square of the number of pieces.
+///
+/// ```
+/// use zvonurel::{body_row, Row};
+///
+/// // 96 rows, of which rows 5 and 64 are set: a dirty word, 32 clear rows, a dirty word
+/// let body = [0x20000, 0x20, 0x20002, 0x1];
+/// assert_eq!(body_row(&body, 96, 5), Ok(Row { set: true, first: 0, last: 31 }));
+/// assert_eq!(body_row(&body, 96, 32), Ok(Row { set: false, first: 32, last: 63 }));
+/// // the rows behind are clear too, but in another piece
+/// assert_eq!(body_row(&body, 96, 65), Ok(Row { set: false, first: 64, last: 95 }));
+/// ```
+#[derive(Clone, Copy, Debug, PartialEq, Eq, Hash)]
+pub struct Row {
+    /// Whether the row is set.
+    pub set: bool,
+    /// The first row of the piece that it lies in.
+    pub first: u32,
+    /// The last row of that piece.
+    pub last: u32,
+}
+
+impl Row {
+    fn of(told: &raw::Flag) -> Row {
+        Row { set: told.value == 1, first: told.first, last: told.last }
+    }
+}
+
 /// The library's number 0 says that the call was not refused. At 8 `argument` is asked which argument it was.
 fn settled<T>(
     number: u32,
@@ -174,15 +213,20 @@ pub fn check_body(body: &[u32], rows: u32) -> Result<(), Refusal> {
     lone::check_body(Format::Ewah, body, rows)
 }
 
-/// Whether a row of a body in EWAH is set.
+/// Whether a row of a body in EWAH is set, and which rows the piece has that it lies in: see [`Row`].
 ///
 /// # Errors
 /// 3 for too many rows; 5, 6 or 7 for the body's first fault; 8 where there is no such row.
 ///
 /// ```
-/// assert_eq!(zvonurel::body_row(&[0x40000, 0x1, 0x80], 40, 39), Ok(true));
+/// use zvonurel::{body_row, Row};
+///
+/// // rows 0 and 39 of 40, in two dirty words
+/// assert_eq!(body_row(&[0x40000, 0x1, 0x80], 40, 39), Ok(Row { set: true, first: 32, last: 39 }));
+/// // all 40, in one run
+/// assert_eq!(body_row(&[0x5], 40, 39), Ok(Row { set: true, first: 0, last: 39 }));
 /// ```
-pub fn body_row(body: &[u32], rows: u32, row: u32) -> Result<bool, Refusal> {
+pub fn body_row(body: &[u32], rows: u32, row: u32) -> Result<Row, Refusal> {
     lone::body_row(Format::Ewah, body, rows, row)
 }
 
@@ -322,19 +366,21 @@ pub fn bitmap(index: &[u32], k: u32) -> Result<&[u32], Refusal> {
     settled(told.number, told.bitmap, told.word, &index[start..start + length], || argument::bitmap(index, k))
 }
 
-/// Whether a row of bitmap k is set.
+/// Whether a row of bitmap k is set, and which rows the piece of its body has that the row lies in: see [`Row`].
 ///
 /// # Errors
 /// 1 to 7, or 10, for the index's first fault; 8 where there is no such bitmap or row.
 ///
 /// ```
+/// use zvonurel::Row;
+///
 /// let index = [1, 4, 3, 9, 2, 11, 2, 13, 2, 0x20000, 0x3, 0x20000, 0xE, 0x20000, 0x8];
-/// assert_eq!(zvonurel::row(&index, 0, 1), Ok(true));
+/// assert_eq!(zvonurel::row(&index, 0, 1), Ok(Row { set: true, first: 0, last: 3 }));
 /// ```
-pub fn row(index: &[u32], k: u32, row: u32) -> Result<bool, Refusal> {
+pub fn row(index: &[u32], k: u32, row: u32) -> Result<Row, Refusal> {
     // SAFETY: each pointer is a slice's, with its length.
     let told = unsafe { raw::zv_row(index.as_ptr(), index.len(), k, row) };
-    settled(told.number, told.bitmap, told.word, told.value == 1, || argument::row(index, k, row))
+    settled(told.number, told.bitmap, told.word, Row::of(&told), || argument::row(index, k, row))
 }
 
 /// How many rows of bitmap k are set.

@@ -2,7 +2,7 @@
 
 use crate::raw;
 use crate::Format::{self, Ewah, Wah};
-use crate::{none, settled, words, BadArgument, Refusal};
+use crate::{none, settled, words, BadArgument, Refusal, Row};
 
 pub(crate) fn check_body(format: Format, body: &[u32], rows: u32) -> Result<(), Refusal> {
     let call = match format {
@@ -14,14 +14,14 @@ pub(crate) fn check_body(format: Format, body: &[u32], rows: u32) -> Result<(), 
     settled(told.number, told.bitmap, told.word, (), none)
 }
 
-pub(crate) fn body_row(format: Format, body: &[u32], rows: u32, row: u32) -> Result<bool, Refusal> {
+pub(crate) fn body_row(format: Format, body: &[u32], rows: u32, row: u32) -> Result<Row, Refusal> {
     let call = match format {
         Ewah => raw::zv_body_row,
         Wah => raw::zv_wah_body_row,
     };
     // SAFETY: each pointer is a slice's, with its length.
     let told = unsafe { call(body.as_ptr(), body.len(), rows, row) };
-    settled(told.number, told.bitmap, told.word, told.value == 1, || Some(BadArgument::Row { row, rows }))
+    settled(told.number, told.bitmap, told.word, Row::of(&told), || Some(BadArgument::Row { row, rows }))
 }
 
 pub(crate) fn body_count(format: Format, body: &[u32], rows: u32) -> Result<u32, Refusal> {

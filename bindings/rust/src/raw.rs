@@ -20,6 +20,8 @@ pub struct Flag {
     pub bitmap: u32,
     pub word: u64,
     pub value: u32,
+    pub first: u32,
+    pub last: u32,
 }
 
 #[repr(C)]

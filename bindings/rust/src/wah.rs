@@ -49,7 +49,7 @@
 //! [`IndexBuilder::with_format`]: crate::IndexBuilder::with_format
 
 use crate::Format::{Ewah, Wah};
-use crate::{builder, lone, Refusal, SetRows, Spells};
+use crate::{builder, lone, Refusal, Row, SetRows, Spells};
 
 /// Whether a body in WAH of that many rows is sound.
 ///
@@ -72,15 +72,20 @@ pub fn check_body(body: &[u32], rows: u32) -> Result<(), Refusal> {
     lone::check_body(Wah, body, rows)
 }
 
-/// Whether a row of a body in WAH is set.
+/// Whether a row of a body in WAH is set, and which rows the fill or the literal has that it lies in: see [`Row`].
 ///
 /// # Errors
 /// 3 for too many rows; 6, 7 or 10 for the body's first fault; 8 where there is no such row.
 ///
 /// ```
-/// assert_eq!(zvonurel::wah::body_row(&[0x1, 0x100], 40, 39), Ok(true));
+/// use zvonurel::{wah, Row};
+///
+/// // rows 0 and 39 of 40, in two literals
+/// assert_eq!(wah::body_row(&[0x1, 0x100], 40, 39), Ok(Row { set: true, first: 31, last: 39 }));
+/// // all 40, in one fill
+/// assert_eq!(wah::body_row(&[0xC000_0002], 40, 39), Ok(Row { set: true, first: 0, last: 39 }));
 /// ```
-pub fn body_row(body: &[u32], rows: u32, row: u32) -> Result<bool, Refusal> {
+pub fn body_row(body: &[u32], rows: u32, row: u32) -> Result<Row, Refusal> {
     lone::body_row(Wah, body, rows, row)
 }
 

@@ -97,7 +97,7 @@ fn body_agrees(random: &mut Random, set: &[bool]) {
             assert_eq!(wah::body_nth(body, rows, n as u32), Ok(*row));
         }
         for row in (0..rows).step_by(1 + rows as usize / 19) {
-            assert_eq!(wah::body_row(body, rows, row), Ok(set[row as usize]));
+            assert_eq!(wah::body_row(body, rows, row).unwrap().set, set[row as usize]);
         }
     }
     assert_eq!(written(|out| to_wah(&ewah, rows, out)), wah);

@@ -39,8 +39,8 @@ fn bodies() {
 
 #[test]
 fn one_body() {
-    assert_eq!(body_row(&FORTY, 40, 39), Ok(true));
-    assert_eq!(body_row(&FORTY, 40, 38), Ok(false));
+    assert_eq!(body_row(&FORTY, 40, 39), Ok(Row { set: true, first: 32, last: 39 }));
+    assert_eq!(body_row(&FORTY, 40, 38), Ok(Row { set: false, first: 32, last: 39 }));
     assert_eq!(told(body_row(&FORTY, 40, 40)), Err(BAD));
     assert_eq!(body_count(&FORTY, 40), Ok(2));
     assert_eq!(body_nth(&FORTY, 40, 1), Ok(39));
@@ -56,7 +56,7 @@ fn one_body() {
     assert_eq!(body_count(&[0x5], 40), Ok(40));
     assert_eq!(body_nth(&[0x5], 40, 39), Ok(39));
     assert_eq!(told(body_nth(&[0x5], 40, 40)), Err(BAD));
-    assert_eq!(body_row(&[0x5], 40, 39), Ok(true));
+    assert_eq!(body_row(&[0x5], 40, 39), Ok(Row { set: true, first: 0, last: 39 }));
     assert_eq!(told(body_row(&[0x5], 40, 40)), Err(BAD));
 }
 
@@ -68,8 +68,8 @@ fn one_index() {
     assert_eq!(bitmap_refusal(&LOOPED, 1), None);
     assert_eq!(bitmap_refusal(&LOOPED, 3).map(|refusal| refusal.numbers()), Some(BAD));
     assert_eq!(told(bitmap(&LOOPED, 3)), Err(BAD));
-    assert_eq!(row(&LOOPED, 0, 1), Ok(true));
-    assert_eq!(row(&LOOPED, 0, 2), Ok(false));
+    assert_eq!(row(&LOOPED, 0, 1), Ok(Row { set: true, first: 0, last: 3 }));
+    assert_eq!(row(&LOOPED, 0, 2), Ok(Row { set: false, first: 0, last: 3 }));
     assert_eq!(told(row(&LOOPED, 0, 4)), Err(BAD));
     assert_eq!(count(&LOOPED, 1), Ok(3));
     assert_eq!(told(count(&LOOPED, 3)), Err(BAD));

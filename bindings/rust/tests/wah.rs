@@ -72,8 +72,8 @@ fn wasteful() {
 
 #[test]
 fn one_body() {
-    assert_eq!(wah::body_row(&FORTY, 40, 39), Ok(true));
-    assert_eq!(wah::body_row(&FORTY, 40, 38), Ok(false));
+    assert_eq!(wah::body_row(&FORTY, 40, 39), Ok(Row { set: true, first: 31, last: 39 }));
+    assert_eq!(wah::body_row(&FORTY, 40, 38), Ok(Row { set: false, first: 31, last: 39 }));
     assert_eq!(said(wah::body_row(&FORTY, 40, 40)), "there is no row 40, of 40 counted from 0");
     assert_eq!(wah::body_count(&FORTY, 40), Ok(2));
     assert_eq!(wah::body_nth(&FORTY, 40, 1), Ok(39));
@@ -87,7 +87,7 @@ fn one_body() {
     assert_eq!(wah::body_count(&[0xC000_0002], 40), Ok(40));
     assert_eq!(wah::body_nth(&[0xC000_0002], 40, 39), Ok(39));
     assert_eq!(told(wah::body_nth(&[0xC000_0002], 40, 40)), Err(BAD));
-    assert_eq!(wah::body_row(&[0xC000_0002], 40, 39), Ok(true));
+    assert_eq!(wah::body_row(&[0xC000_0002], 40, 39), Ok(Row { set: true, first: 0, last: 39 }));
     assert_eq!(told(wah::body_row(&[0xC000_0002], 40, 40)), Err(BAD));
 }
 
@@ -145,7 +145,8 @@ fn one_index() {
     assert!(std::ptr::eq(bitmap(&ARCHIVE, 1).unwrap(), &ARCHIVE[10..11]));
     assert_eq!(bitmap_refusal(&ARCHIVE, 1), None);
     assert_eq!(told(bitmap(&ARCHIVE, 3)), Err(BAD));
-    assert_eq!((row(&ARCHIVE, 0, 1), row(&ARCHIVE, 0, 2)), (Ok(true), Ok(false)));
+    assert_eq!(row(&ARCHIVE, 0, 1), Ok(Row { set: true, first: 0, last: 3 }));
+    assert_eq!(row(&ARCHIVE, 0, 2), Ok(Row { set: false, first: 0, last: 3 }));
     assert_eq!(told(row(&ARCHIVE, 0, 4)), Err(BAD));
     assert_eq!((count(&ARCHIVE, 1), nth(&ARCHIVE, 1, 2)), (Ok(3), Ok(3)));
     assert_eq!(told(nth(&ARCHIVE, 1, 3)), Err(BAD));
