@@ -1,6 +1,6 @@
 /*
- * What the tests of the calls share: a buffer, comparisons of whole answers with it, the questions on a
- * bitmap, and every call on an index that is wrong.
+ * What the tests of the calls share: a buffer, comparisons of whole answers with it, the pieces that rows lie in, the
+ * questions on a bitmap, and every call on an index that is wrong.
  */
 #ifndef ZVONUREL_TESTS_ANSWERS_H
 #define ZVONUREL_TESTS_ANSWERS_H
@@ -83,18 +83,59 @@ static inline void counted(source at, zv_histogram_counts got, const uint32_t *w
     }
 }
 
+/* the answer on a row; `n`, `b` and `w` are 0 where it is not refused */
+static inline void flagged(source at, zv_flag got, uint32_t value, uint32_t first, uint32_t last, uint32_t n,
+                           uint32_t b, uint64_t w)
+{
+    refusal(at, got.number, got.bitmap, got.word, n, b, w);
+    same(at, "value", got.value, value);
+    same(at, "first", got.first, first);
+    same(at, "last", got.last, last);
+}
+
 static inline void valued(source at, zv_column_value got, uint64_t want, uint32_t n, uint32_t b, uint64_t w)
 {
     refusal(at, got.number, got.bitmap, got.word, n, b, w);
     same(at, "value", got.value, want);
 }
 
+#define FLAGGED(got, value, first, last) flagged(HERE, got, value, first, last, 0, 0, 0)
+#define NOT_FLAGGED(got, n, b, w) flagged(HERE, got, 0, 0, 0, n, b, w)
 #define VALUED(got, want, n, b, w) valued(HERE, got, want, n, b, w)
 #define COUNTED(got, want, n, b, w) counted(HERE, got, want, n, b, w)
 #define WROTE(got, want) wrote(HERE, got, WORDS(want))
 #define NOT_WRITTEN(got, n, b, w) not_written(HERE, got, n, b, w)
 #define ANSWERED(got, want, stretches) answered(HERE, got, WORDS(want), stretches)
 #define NOT_ANSWERED(got, n, b, w) not_answered(HERE, got, n, b, w)
+
+/* a piece: its last row, and its segment, which clean segments are all like */
+typedef struct {
+    uint32_t last, segment;
+} piece;
+
+/* zv_body_row or zv_wah_body_row of a body, with its rows, or zv_row of an index, with a bitmap's number */
+typedef zv_flag row_call(const uint32_t *words, size_t length, uint32_t rows_or_k, uint32_t row);
+
+/* these are all pieces of a sound body, in order: asked at their first rows, at their last and at rows between */
+static inline void every_piece(source at, row_call *call, const uint32_t *words, size_t length, uint32_t rows_or_k,
+                               const piece *pieces, size_t count)
+{
+    uint32_t first = 0;
+
+    for (size_t i = 0; i < count; i++) {
+        const uint32_t last = pieces[i].last, step = 1 + (last - first) / 32;
+
+        for (uint32_t row = first; row <= last; row += row < last && last - row < step ? last - row : step) {
+            const uint32_t value = pieces[i].segment >> (row - first) % 32 & 1;
+            flagged(at, call(words, length, rows_or_k, row), value, first, last, 0, 0, 0);
+        }
+        first = last + 1;
+    }
+    flagged(at, call(words, length, rows_or_k, first), 0, 0, 0, ZV_BAD_ARGUMENT, 0, 0);
+    flagged(at, call(words, length, rows_or_k, UINT32_MAX), 0, 0, 0, ZV_BAD_ARGUMENT, 0, 0);
+}
+
+#define PIECES(call, words, rows_or_k, pieces) every_piece(HERE, call, WORDS(words), rows_or_k, WORDS(pieces))
 
 /* every question on an index is refused for the index's own fault */
 static inline void every_index_call(const uint32_t *index, size_t words, uint32_t n, uint32_t b, uint64_t w)
@@ -104,7 +145,7 @@ static inline void every_index_call(const uint32_t *index, size_t words, uint32_
     REFUSED(zv_check(index, words), n, b, w);
     REFUSED(zv_bitmap_refusal(index, words, 0), n, b, w);
     REFUSED(zv_bitmap(index, words, 0), n, b, w);
-    REFUSED(zv_row(index, words, 0, 0), n, b, w);
+    NOT_FLAGGED(zv_row(index, words, 0, 0), n, b, w);
     REFUSED(zv_count(index, words, 0), n, b, w);
     REFUSED(zv_nth(index, words, 0, 0), n, b, w);
     NOT_WRITTEN(zv_expand_bitmap(index, words, 0, WORDS(out)), n, b, w);
@@ -141,10 +182,10 @@ static inline void one_bitmap(const uint32_t *index, size_t words, uint64_t star
     SAME("a refused start", part.start, 0);
     SAME("a refused length", part.length, 0);
 
-    FINE(zv_row(index, words, 0, 1));
-    SAME("row 1 of 0", zv_row(index, words, 0, 1).value, 1);
-    SAME("row 2 of 0", zv_row(index, words, 0, 2).value, 0);
-    REFUSED(zv_row(index, words, 0, 4), ZV_BAD_ARGUMENT, 0, 0);
+    FLAGGED(zv_row(index, words, 0, 1), 1, 0, 3);
+    FLAGGED(zv_row(index, words, 0, 2), 0, 0, 3);
+    NOT_FLAGGED(zv_row(index, words, 0, 4), ZV_BAD_ARGUMENT, 0, 0);
+    NOT_FLAGGED(zv_row(index, words, 3, 0), ZV_BAD_ARGUMENT, 0, 0);
     FINE(zv_count(index, words, 1));
     SAME("the count of 1", zv_count(index, words, 1).value, 3);
     FINE(zv_nth(index, words, 1, 2));

@@ -28,10 +28,14 @@ static void one_body(void)
     REFUSED(zv_check_body(WORDS(too_few), 40), ZV_BAD_COUNT, 0, 1);
     REFUSED(zv_check_body(WORDS(pad_bit), 40), ZV_PAD_BIT, 0, 1);
 
-    FINE(zv_body_row(WORDS(forty), 40, 39));
-    SAME("row 39", zv_body_row(WORDS(forty), 40, 39).value, 1);
-    SAME("row 38", zv_body_row(WORDS(forty), 40, 38).value, 0);
-    REFUSED(zv_body_row(WORDS(forty), 40, 40), ZV_BAD_ARGUMENT, 0, 0);
+    FLAGGED(zv_body_row(WORDS(forty), 40, 39), 1, 32, 39);
+    FLAGGED(zv_body_row(WORDS(forty), 40, 38), 0, 32, 39);
+    NOT_FLAGGED(zv_body_row(WORDS(forty), 40, 40), ZV_BAD_ARGUMENT, 0, 0);
+    NOT_FLAGGED(zv_body_row(WORDS(forty), ZV_MOST_ROWS + 1, 0), ZV_TOO_LARGE, 0, 1);
+    NOT_FLAGGED(zv_body_row(WORDS(too_many_dirty), 40, 39), ZV_DIRTY_PAST_END, 0, 0);
+    NOT_FLAGGED(zv_body_row(WORDS(too_many_clean), 40, 39), ZV_BAD_COUNT, 0, 0);
+    NOT_FLAGGED(zv_body_row(WORDS(too_few), 40, 0), ZV_BAD_COUNT, 0, 1);
+    NOT_FLAGGED(zv_body_row(WORDS(pad_bit), 40, 0), ZV_PAD_BIT, 0, 1);
     FINE(zv_body_count(WORDS(forty), 40));
     SAME("the count", zv_body_count(WORDS(forty), 40).value, 2);
     SAME("a refused count", zv_body_count(WORDS(pad_bit), 40).value, 0);
@@ -56,8 +60,9 @@ static void full_tail(void)
     static const uint32_t plain[] = {0xFFFFFFFF, 0x000000FF};
 
     FINE(zv_check_body(WORDS(run), 40));
-    SAME("row 39", zv_body_row(WORDS(run), 40, 39).value, 1);
-    REFUSED(zv_body_row(WORDS(run), 40, 40), ZV_BAD_ARGUMENT, 0, 0);
+    FLAGGED(zv_body_row(WORDS(run), 40, 39), 1, 0, 39);
+    NOT_FLAGGED(zv_body_row(WORDS(run), 40, 40), ZV_BAD_ARGUMENT, 0, 0);
+    FLAGGED(zv_body_row(WORDS(word), 40, 39), 1, 32, 39);
     FINE(zv_body_count(WORDS(run), 40));
     SAME("the count", zv_body_count(WORDS(run), 40).value, 40);
     FINE(zv_body_nth(WORDS(run), 40, 39));
@@ -66,6 +71,50 @@ static void full_tail(void)
     WROTE(zv_expand(WORDS(run), 40, WORDS(out)), plain);
     WROTE(zv_expand(WORDS(word), 40, WORDS(out)), plain);
     WROTE(zv_compress(40, WORDS(plain), WORDS(out)), run);
+}
+
+/* the pieces of sound bodies, canonical and wasteful */
+static void pieces(void)
+{
+    static const uint32_t one[] = {0x00000002}, one_dirty[] = {0x00020000, 0x1}, all[] = {0x00000005},
+                          all_cut[] = {0x00020003, 0x000000FF}, both[] = {0x00060005, 0xFFFFFFFF, 0, 0x1},
+                          equal[] = {0x00000003, 0x00000003, 0x00000005},
+                          idle[] = {0, 1, 0x00000002, 1, 0, 0x00020000, 0x20, 0, 0x00000002, 0};
+    static const piece of_one[] = {{0, 0}}, of_one_dirty[] = {{0, 1}}, of_forty[] = {{31, 0x1}, {39, 0x80}},
+                       of_all[] = {{39, ~0u}}, of_all_cut[] = {{31, ~0u}, {39, 0xFF}},
+                       of_both[] = {{63, ~0u}, {95, ~0u}, {127, 0}, {131, 0x1}},
+                       of_equal[] = {{31, ~0u}, {63, ~0u}, {99, ~0u}}, of_idle[] = {{31, 0}, {63, 0x20}, {95, 0}};
+
+    PIECES(zv_body_row, one, 1, of_one);
+    PIECES(zv_body_row, one_dirty, 1, of_one_dirty);
+    PIECES(zv_body_row, forty, 40, of_forty);
+    /* pad bits are no rows, under a run or in a dirty word */
+    PIECES(zv_body_row, all, 40, of_all);
+    PIECES(zv_body_row, all_cut, 40, of_all_cut);
+    PIECES(zv_body_row, both, 132, of_both);
+    /* runs of one value are a piece for each marker, and a marker that counts nothing is none */
+    PIECES(zv_body_row, equal, 100, of_equal);
+    PIECES(zv_body_row, idle, 96, of_idle);
+}
+
+/* a run of more segments than a marker counts is as many pieces as it takes markers; in the second bitmap of an index
+ * rows 5 and 64 are set */
+static void long_pieces(void)
+{
+    static const uint32_t two[] = {0x0001FFFE, 0x2},
+                          most[] = {0x1FFFF, 0x1FFFF, 0x1FFFF, 0x1FFFF, 0x1FFFF, 0x1FFFF, 0x1FFFF, 0x1FFFF, 0x11},
+                          index[] = {1, 96, 3, 9, 1, 10, 4, 14, 1, 0x6, 0x00020000, 0x20, 0x00020002, 0x1, 0x7};
+    static const piece of_two[] = {{2097119, 0}, {2097151, 0}},
+                       of_most[] = {{2097119, ~0u},  {4194239, ~0u},  {6291359, ~0u},  {8388479, ~0u}, {10485599, ~0u},
+                                    {12582719, ~0u}, {14679839, ~0u}, {16776959, ~0u}, {16777215, ~0u}},
+                       of_first[] = {{95, 0}}, of_second[] = {{31, 0x20}, {63, 0}, {95, 0x1}},
+                       of_third[] = {{95, ~0u}};
+
+    PIECES(zv_body_row, two, 2097152, of_two);
+    PIECES(zv_body_row, most, ZV_MOST_ROWS, of_most);
+    PIECES(zv_row, index, 0, of_first);
+    PIECES(zv_row, index, 1, of_second);
+    PIECES(zv_row, index, 2, of_third);
 }
 
 static void one_index(void)
@@ -214,6 +263,8 @@ int main(void)
     clear();
     one_body();
     full_tail();
+    pieces();
+    long_pieces();
     one_index();
     bad_indexes();
     two_bitmaps();

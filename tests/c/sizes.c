@@ -1,6 +1,7 @@
 /*
  * The version, the sizes and the texts of include/zvonurel.h, against numbers worked out by hand and against what the
- * calls need. Writes `ok`, or the first difference, with exit status 1.
+ * calls need; and where the fields of the answer on a row lie. Writes `ok`, or the first difference, with exit status
+ * 1.
  *
  *   gcc -std=c99 -Wall -Wextra -Werror -pedantic -Iinclude tests/c/sizes.c \
  *       target/staticlib/libzvonurel_c.a -o target/sizes && target/sizes
@@ -48,6 +49,8 @@ HOLDS(a_wah_sum_may_be_divided, 30u / ZV_WAH_MOST_SUM_WORDS(33u, 1u) == 2u);
 HOLDS(a_sum_has_a_slice_more, ZV_MOST_VALUE_COLUMN == ZV_MOST_COLUMN + 1u && ZV_MOST_VALUE_COLUMN <= ZV_MOST_BITMAPS);
 HOLDS(a_word_is_its_fields, ZV_WAH_FILL_SHIFT == ZV_WAH_SEGMENT_ROWS && ZV_WAH_VALUE_SHIFT == ZV_WAH_FILL_SHIFT - 1u);
 HOLDS(a_fill_has_the_bits_below, ZV_WAH_MOST_FILL == (1u << ZV_WAH_VALUE_SHIFT) - 1u);
+HOLDS(a_row_has_its_piece, offsetof(zv_flag, first) == 20u && offsetof(zv_flag, last) == 24u);
+HOLDS(a_row_is_four_times_8_bytes, offsetof(zv_flag, value) == 16u && sizeof(zv_flag) == 32u);
 HOLDS(a_stack_is_a_power_of_two, ZV_MOST_STACK > 0u && (ZV_MOST_STACK & (ZV_MOST_STACK - 1u)) == 0u);
 
 /* In WAH so many rows can need more room than in EWAH. */

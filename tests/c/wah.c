@@ -21,10 +21,9 @@ static void one_body(void)
     static const uint32_t over[] = {0x00000001, 0x00000100};
 
     FINE(zv_wah_check_body(WORDS(forty), 40));
-    FINE(zv_wah_body_row(WORDS(forty), 40, 39));
-    SAME("row 39", zv_wah_body_row(WORDS(forty), 40, 39).value, 1);
-    SAME("row 38", zv_wah_body_row(WORDS(forty), 40, 38).value, 0);
-    REFUSED(zv_wah_body_row(WORDS(forty), 40, 40), ZV_BAD_ARGUMENT, 0, 0);
+    FLAGGED(zv_wah_body_row(WORDS(forty), 40, 39), 1, 31, 39);
+    FLAGGED(zv_wah_body_row(WORDS(forty), 40, 38), 0, 31, 39);
+    NOT_FLAGGED(zv_wah_body_row(WORDS(forty), 40, 40), ZV_BAD_ARGUMENT, 0, 0);
     FINE(zv_wah_body_count(WORDS(forty), 40));
     SAME("the count", zv_wah_body_count(WORDS(forty), 40).value, 2);
     FINE(zv_wah_body_nth(WORDS(forty), 40, 1));
@@ -46,12 +45,11 @@ static void one_body(void)
 static void every_body_call(source at, const uint32_t *body, size_t words, uint32_t rows, uint32_t n, uint64_t w)
 {
     const zv_checked checked = zv_wah_check_body(body, words, rows);
-    const zv_flag flag = zv_wah_body_row(body, words, rows, rows);
     const zv_number count = zv_wah_body_count(body, words, rows), nth = zv_wah_body_nth(body, words, rows, rows);
 
     refusal(at, checked.number, checked.bitmap, checked.word, n, 0, w);
-    refusal(at, flag.number, flag.bitmap, flag.word, n, 0, w);
-    same(at, "a refused row", flag.value, 0);
+    flagged(at, zv_wah_body_row(body, words, rows, rows), 0, 0, 0, n, 0, w);
+    flagged(at, zv_wah_body_row(body, words, rows, 0), 0, 0, 0, n, 0, w);
     refusal(at, count.number, count.bitmap, count.word, n, 0, w);
     same(at, "a refused count", count.value, 0);
     refusal(at, nth.number, nth.bitmap, nth.word, n, 0, w);
@@ -102,13 +100,49 @@ static void full_tail(void)
 {
     static const uint32_t fill[] = {0xC0000002};
 
-    SAME("row 39", zv_wah_body_row(WORDS(fill), 40, 39).value, 1);
-    REFUSED(zv_wah_body_row(WORDS(fill), 40, 40), ZV_BAD_ARGUMENT, 0, 0);
+    FLAGGED(zv_wah_body_row(WORDS(fill), 40, 39), 1, 0, 39);
+    NOT_FLAGGED(zv_wah_body_row(WORDS(fill), 40, 40), ZV_BAD_ARGUMENT, 0, 0);
     FINE(zv_wah_body_count(WORDS(fill), 40));
     SAME("the count", zv_wah_body_count(WORDS(fill), 40).value, 40);
     FINE(zv_wah_body_nth(WORDS(fill), 40, 39));
     SAME("set row 39", zv_wah_body_nth(WORDS(fill), 40, 39).value, 39);
     REFUSED(zv_wah_body_nth(WORDS(fill), 40, 40), ZV_BAD_ARGUMENT, 0, 0);
+}
+
+/* the pieces of sound bodies, canonical and wasteful: each word is one */
+static void pieces(void)
+{
+    static const uint32_t one[] = {0x00000001}, one_fill[] = {0x80000001}, all[] = {0xC0000002},
+                          literals[] = {0x7FFFFFFF, 0x000001FF}, cut[] = {0x80000001, 0x80000001},
+                          before[] = {0x00000000, 0x80000002}, behind[] = {0xC0000002, 0x7FFFFFFF, 0x00000005};
+    static const piece of_one[] = {{0, 1}}, of_one_fill[] = {{30, 0}}, of_forty[] = {{30, 0x1}, {39, 0x100}},
+                       of_all[] = {{39, ~0u}}, of_literals[] = {{30, ~0u}, {39, 0x1FF}}, of_cut[] = {{30, 0}, {61, 0}},
+                       of_before[] = {{30, 0}, {91, 0}}, of_behind[] = {{61, ~0u}, {92, ~0u}, {95, 0x5}};
+
+    PIECES(zv_wah_body_row, one, 1, of_one);
+    PIECES(zv_wah_body_row, one_fill, 31, of_one_fill);
+    PIECES(zv_wah_body_row, forty, 40, of_forty);
+    PIECES(zv_wah_body_row, all, 40, of_all);
+    PIECES(zv_wah_body_row, literals, 40, of_literals);
+    PIECES(zv_wah_body_row, cut, 62, of_cut);
+    PIECES(zv_wah_body_row, before, 92, of_before);
+    PIECES(zv_wah_body_row, behind, 96, of_behind);
+}
+
+/* one fill counts more segments than a marker does; in the second bitmap of an index rows 5 and 64 are set */
+static void long_pieces(void)
+{
+    static const uint32_t none_set[] = {0x80010843}, most[] = {0xC0084210, 0xC0000001},
+                          index[] = {2, 96, 3, 9, 1, 10, 4, 14, 1, 0x80000004, 0x20, 0x80000001, 0x4, 0, 0xC0000004};
+    static const piece of_none_set[] = {{2097151, 0}}, of_most[] = {{16777199, ~0u}, {16777215, ~0u}},
+                       of_first[] = {{95, 0}}, of_second[] = {{30, 0x20}, {61, 0}, {92, 0x4}, {95, 0}},
+                       of_third[] = {{95, ~0u}};
+
+    PIECES(zv_wah_body_row, none_set, 2097152, of_none_set);
+    PIECES(zv_wah_body_row, most, ZV_MOST_ROWS, of_most);
+    PIECES(zv_row, index, 0, of_first);
+    PIECES(zv_row, index, 1, of_second);
+    PIECES(zv_row, index, 2, of_third);
 }
 
 /* the same rows as plain words and as the canonical body of each format */
@@ -329,6 +363,8 @@ int main(void)
     one_body();
     corners();
     full_tail();
+    pieces();
+    long_pieces();
     rewriting();
     wasteful();
     one_index();

@@ -56,6 +56,39 @@ fn canonical(set: &[bool]) -> Vec<u32> {
     body(set, || true, || false)
 }
 
+/// The segments of each piece of a body: a fill's or one, a marker's clean ones or one dirty one.
+fn piece_segments(format: Format, body: &[u32]) -> Vec<u32> {
+    let (mut segments, mut words) = (Vec::new(), body.iter());
+    while let Some(word) = words.next() {
+        match format {
+            Format::Wah => segments.push(if *word >= 0x8000_0000 { word % 0x4000_0000 } else { 1 }),
+            Format::Ewah => {
+                segments.extend(Some(word / 2 % 0x1_0000).filter(|clean| *clean > 0));
+                segments.extend(words.by_ref().take(*word as usize / 0x2_0000).map(|_| 1));
+            }
+        }
+    }
+    segments
+}
+
+/// Asked at its first and its last row and between, each piece is told as the words say it, with the row's value.
+fn rows_agree(format: Format, body: &[u32], set: &[bool]) {
+    let (rows, width) = (set.len() as u32, format.segment_rows() as u32);
+    let ask = match format {
+        Format::Ewah => body_row,
+        Format::Wah => wah::body_row,
+    };
+    let mut first = 0;
+    for segments in piece_segments(format, body) {
+        let last = (first + width * segments).min(rows) - 1;
+        for row in [first, first.midpoint(last), last] {
+            assert_eq!(ask(body, rows, row), Ok(Row { set: set[row as usize], first, last }));
+        }
+        first = last + 1;
+    }
+    assert_eq!(first, rows);
+}
+
 /// What a call writes, into just the room that it says it needs.
 fn written(call: impl Fn(&mut [u32]) -> Result<usize, Refusal>) -> Vec<u32> {
     let need = match call(&mut []) {
@@ -96,10 +129,9 @@ fn body_agrees(random: &mut Random, set: &[bool]) {
         for (n, row) in listed.iter().enumerate().step_by(1 + listed.len() / 9) {
             assert_eq!(wah::body_nth(body, rows, n as u32), Ok(*row));
         }
-        for row in (0..rows).step_by(1 + rows as usize / 19) {
-            assert_eq!(wah::body_row(body, rows, row).unwrap().set, set[row as usize]);
-        }
+        rows_agree(Format::Wah, body, set);
     }
+    rows_agree(Format::Ewah, &ewah, set);
     assert_eq!(written(|out| to_wah(&ewah, rows, out)), wah);
     assert_eq!(written(|out| to_ewah(&ewah, rows, out)), ewah);
 }

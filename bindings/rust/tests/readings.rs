@@ -2,8 +2,11 @@
 
 #[path = "shared/calls.rs"]
 mod calls;
+#[path = "shared/pieces.rs"]
+mod pieces;
 mod shared;
 
+use pieces::met;
 use shared::{no_room, said, told, writes, BAD, LOOPED};
 use zvonurel::*;
 
@@ -58,6 +61,37 @@ fn one_body() {
     assert_eq!(told(body_nth(&[0x5], 40, 40)), Err(BAD));
     assert_eq!(body_row(&[0x5], 40, 39), Ok(Row { set: true, first: 0, last: 39 }));
     assert_eq!(told(body_row(&[0x5], 40, 40)), Err(BAD));
+}
+
+/// A dirty word is a piece, and so is each marker's run, beside others of the same value too. A marker that counts
+/// nothing is none, and pad bits are no rows.
+#[test]
+fn pieces_of_bodies() {
+    let of = |rows: u32, body: &[u32]| met(rows, |row| body_row(body, rows, row));
+    assert_eq!(told(body_row(&[], 0, 0)), Err(BAD));
+    assert_eq!((of(1, &[0x2]), of(1, &[0x20000, 0x1])), (vec![(0, 0)], vec![(0, 0)]));
+    assert_eq!(of(40, &FORTY), [(0, 31), (32, 39)]);
+    assert_eq!(of(40, &[0x5]), [(0, 39)]);
+    assert_eq!(of(40, &[0x20003, 0xFF]), [(0, 31), (32, 39)]);
+    assert_eq!(of(96, &[0x20000, 0x20, 0x20002, 0x1]), [(0, 31), (32, 63), (64, 95)]);
+    assert_eq!(of(96, &[0x60000, 0x20, 0, 0x1]), [(0, 31), (32, 63), (64, 95)]);
+    assert_eq!(of(132, &[0x60005, !0, 0, 0x1]), [(0, 63), (64, 95), (96, 127), (128, 131)]);
+    assert_eq!(of(100, &[0x3, 0x3, 0x5]), [(0, 31), (32, 63), (64, 99)]);
+    assert_eq!(of(96, &[0, 1, 0x4, 1, 0, 0x20000, 0x20, 0]), [(0, 63), (64, 95)]);
+    assert_eq!(of(2_097_152, &[0x1FFFE, 0x2]), [(0, 2_097_119), (2_097_120, 2_097_151)]);
+    let most = of(MOST_ROWS, &[&[0x1FFFF; 8][..], &[0x11]].concat());
+    assert_eq!((most.len(), most[7], most[8]), (9, (14_679_840, 16_776_959), (16_776_960, 16_777_215)));
+}
+
+#[test]
+fn pieces_of_bitmaps() {
+    // 96 rows: none, rows 5 and 64, all
+    let index = index_of(96, &[&[0x6][..], &[0x20000, 0x20, 0x20002, 0x1], &[0x7]]);
+    let of = |k: u32| met(96, |asked| row(&index, k, asked));
+    assert_eq!((of(0), of(2)), (vec![(0, 95)], vec![(0, 95)]));
+    assert_eq!(of(1), [(0, 31), (32, 63), (64, 95)]);
+    assert_eq!(row(&index, 1, 64), Ok(Row { set: true, first: 64, last: 95 }));
+    assert_eq!(row(&index, 1, 63), Ok(Row { set: false, first: 32, last: 63 }));
 }
 
 #[test]

@@ -2,8 +2,11 @@
 
 #[path = "shared/calls.rs"]
 mod calls;
+#[path = "shared/pieces.rs"]
+mod pieces;
 mod shared;
 
+use pieces::met;
 use shared::{changed, no_room, said, told, writes, BAD, LOOPED, UNTOUCHED};
 use zvonurel::*;
 
@@ -89,6 +92,33 @@ fn one_body() {
     assert_eq!(told(wah::body_nth(&[0xC000_0002], 40, 40)), Err(BAD));
     assert_eq!(wah::body_row(&[0xC000_0002], 40, 39), Ok(Row { set: true, first: 0, last: 39 }));
     assert_eq!(told(wah::body_row(&[0xC000_0002], 40, 40)), Err(BAD));
+}
+
+/// Each word is a piece, a clean literal beside a fill of the same value too, and pad bits are no rows.
+#[test]
+fn pieces_of_bodies() {
+    let of = |rows: u32, body: &[u32]| met(rows, |row| wah::body_row(body, rows, row));
+    assert_eq!(told(wah::body_row(&[], 0, 0)), Err(BAD));
+    assert_eq!((of(1, &[0x1]), of(1, &[0x8000_0001])), (vec![(0, 0)], vec![(0, 0)]));
+    assert_eq!(of(40, &FORTY), [(0, 30), (31, 39)]);
+    assert_eq!(of(40, &[0xC000_0002]), [(0, 39)]);
+    assert_eq!(of(40, &[0x7FFF_FFFF, 0x1FF]), [(0, 30), (31, 39)]);
+    assert_eq!(of(62, &[0x8000_0001, 0x8000_0001]), [(0, 30), (31, 61)]);
+    assert_eq!(of(92, &[0, 0x8000_0002]), [(0, 30), (31, 91)]);
+    assert_eq!(of(96, &[0xC000_0002, 0x7FFF_FFFF, 0x5]), [(0, 61), (62, 92), (93, 95)]);
+    assert_eq!(of(2_097_152, &[0x8001_0843]), [(0, 2_097_151)]);
+    assert_eq!(of(MOST_ROWS, &[0xC008_4210, 0x0]), [(0, 16_777_199), (16_777_200, 16_777_215)]);
+}
+
+#[test]
+fn pieces_of_bitmaps() {
+    // 96 rows: none, rows 5 and 64, all
+    let index = wah::index_of(96, &[&[0x8000_0004][..], &[0x20, 0x8000_0001, 0x4, 0], &[0xC000_0004]]);
+    let of = |k: u32| met(96, |asked| row(&index, k, asked));
+    assert_eq!((of(0), of(2)), (vec![(0, 95)], vec![(0, 95)]));
+    assert_eq!(of(1), [(0, 30), (31, 61), (62, 92), (93, 95)]);
+    assert_eq!(row(&index, 1, 64), Ok(Row { set: true, first: 62, last: 92 }));
+    assert_eq!(row(&index, 1, 61), Ok(Row { set: false, first: 31, last: 61 }));
 }
 
 /// Every call on a body alone is refused for the body's own fault, before its argument and its buffer are looked at.
