@@ -4,7 +4,7 @@ use std::panic::{catch_unwind, set_hook, take_hook, AssertUnwindSafe};
 use std::sync::atomic::{AtomicBool, Ordering::Relaxed};
 
 use reference::{with_mistake, Mistake};
-use zvonurel::HISTOGRAM_COUNTS;
+use zvonurel::{Row, HISTOGRAM_COUNTS};
 
 use crate::library::library;
 use crate::question::Question;
@@ -16,7 +16,8 @@ pub type Refused = (u32, u32, u64);
 #[derive(Debug, Clone, PartialEq, Eq)]
 pub enum Value {
     Sound,
-    Bit(bool),
+    /// A row, with its piece.
+    Row(Row),
     Number(u32),
     /// A column's value.
     Whole(u64),

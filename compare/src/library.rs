@@ -79,7 +79,7 @@ fn of_body(words: &[u32], q: &Question, out: &mut [u32]) -> Result<Value, Refusa
     let lone = Lone::of(q.format);
     match q.call {
         Call::CheckBody => (lone.check)(words, q.rows).map(|()| Value::Sound),
-        Call::BodyRow => (lone.row)(words, q.rows, q.number).map(|row| Value::Bit(row.set)),
+        Call::BodyRow => (lone.row)(words, q.rows, q.number).map(Value::Row),
         Call::BodyCount => (lone.count)(words, q.rows).map(Value::Number),
         Call::BodyNth => (lone.nth)(words, q.rows, q.number).map(Value::Number),
         Call::Expand => (lone.expand)(words, q.rows, out).map(Value::Words),
@@ -121,7 +121,7 @@ fn of_index(words: &[u32], q: &Question, out: &mut [u32]) -> Result<Value, Refus
             None => Ok(Value::Sound),
             Some(refusal) => Err(refusal),
         },
-        Call::Row => zvonurel::row(words, j, q.number).map(|row| Value::Bit(row.set)),
+        Call::Row => zvonurel::row(words, j, q.number).map(Value::Row),
         Call::Count => zvonurel::count(words, j).map(Value::Number),
         Call::Nth => zvonurel::nth(words, j, q.number).map(Value::Number),
         Call::ExpandBitmap => zvonurel::expand_bitmap(words, j, out).map(Value::Words),

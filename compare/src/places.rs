@@ -283,7 +283,7 @@ fn stray(words: &[u32], question: &Question, bitmap: u32, row: usize) -> Place {
     if question.call == Call::Sum && question.room < entry_place(bitmaps) {
         return StrayNoRoom;
     }
-    let first = list[1..].contains(&bitmap) && reference::row(words, list[0], row as u32) == Ok(false);
+    let first = list[1..].contains(&bitmap) && reference::row(words, list[0], row as u32).is_ok_and(|row| !row.set);
     match first {
         true => StrayFirst,
         false => StraySecond,

@@ -1,6 +1,6 @@
 //! A question put to the reference.
 
-use reference::{Format, Refusal};
+use reference::{Format, Refusal, Row};
 
 use crate::ask::Value;
 use crate::encode::{format_of, index_in};
@@ -24,8 +24,8 @@ fn wrote(written: Vec<u32>) -> (Value, Vec<u32>) {
     (Value::Words(written.len()), written)
 }
 
-fn bit(set: bool) -> (Value, Vec<u32>) {
-    plain(Value::Bit(set))
+fn of_row(Row { set, first, last }: Row) -> (Value, Vec<u32>) {
+    plain(Value::Row(zvonurel::Row { set, first, last }))
 }
 
 fn amount(n: u32) -> (Value, Vec<u32>) {
@@ -43,7 +43,7 @@ fn of_body(words: &[u32], q: &Question) -> Told {
     let format = in_reference(q.format);
     match q.call {
         Call::CheckBody => reference::check_body(words, q.rows, format).map(|()| plain(Value::Sound)),
-        Call::BodyRow => reference::body_row(words, q.rows, format, q.number).map(bit),
+        Call::BodyRow => reference::body_row(words, q.rows, format, q.number).map(of_row),
         Call::BodyCount => reference::body_count(words, q.rows, format).map(amount),
         Call::BodyNth => reference::body_nth(words, q.rows, format, q.number).map(amount),
         Call::Expand => reference::expand(words, q.rows, format, q.room).map(wrote),
@@ -83,7 +83,7 @@ fn of_index(words: &[u32], q: &Question) -> Told {
             reference::bitmap(words, j).map(|r| plain(Value::Part((!r.is_empty()).then_some(r.start), r.len())))
         }
         Call::BitmapRefusal => reference::bitmap(words, j).map(|_| plain(Value::Sound)),
-        Call::Row => reference::row(words, j, q.number).map(bit),
+        Call::Row => reference::row(words, j, q.number).map(of_row),
         Call::Count => reference::count(words, j).map(amount),
         Call::Nth => reference::nth(words, j, q.number).map(amount),
         Call::ExpandBitmap => reference::expand_bitmap(words, j, q.room).map(wrote),
