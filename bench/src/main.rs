@@ -10,6 +10,7 @@ mod counting;
 mod growth;
 mod inputs;
 mod ones;
+mod rows;
 mod timing;
 mod wah;
 
@@ -45,7 +46,8 @@ bench --one COLUMN-CALL COLUMN-KIND ROWS SLICES REPEATS
                  the same of two columns of so many slices each
 
 CALL   check count body_count expand expand_bitmap compress and threshold
-       symmetric histogram; body_nth nth (the last set row);
+       symmetric histogram; body_nth nth (the last set row); body_row row
+       wah_body_row wah_row (the last row);
        body_count_bitwise (body_count with the 32 bits of each dirty word
        tested one by one, proved to the same contract), count_ones (Rust's,
        over the plain words of bitmap 0); in WAH wah_threshold wah_check
@@ -92,7 +94,7 @@ fn main() -> ExitCode {
         }
         ["--wah"] => wah::table(),
         ["--one", call, kind, rows, of, repeats] => {
-            let ones = [one, counting::one, columns::one, wah::one];
+            let ones = [one, counting::one, rows::one, columns::one, wah::one];
             if ones.iter().all(|one| one(call, kind, rows, of, repeats).is_none()) {
                 return help();
             }
