@@ -1,7 +1,7 @@
 //! The readings, examples with known answers, held against both programs.
 
 use zvonurel::Format::{self, Ewah, Wah};
-use zvonurel::{index_of, segments, HISTOGRAM_COUNTS, WORD_BITS};
+use zvonurel::{index_of, segments, Row, HISTOGRAM_COUNTS, WORD_BITS};
 
 use crate::ask::{ask_library, ask_reference, Outcome, Refused, Value};
 use crate::encode::index_in;
@@ -31,6 +31,8 @@ pub fn run() -> bool {
     readings.wah_refusals();
     readings.wah_answers();
     readings.rewriting();
+    readings.pieces();
+    readings.wah_pieces();
     println!("{} readings hold for both", readings.held);
     !readings.failed
 }
@@ -232,5 +234,54 @@ impl Readings {
         self.reading(&words, &lone(Call::BodyToWah, Ewah, 62), Ok(Value::Words(2)), &[0, 1]);
         self.reading(&[0, 0], &lone(Call::BodyToWah, Wah, 62), Ok(Value::Words(1)), &[0x8000_0002]);
         self.reading(&[0x0002_0003, 0xFF], &lone(Call::BodyToEwah, Ewah, 40), Ok(Value::Words(1)), &[0x5]);
+    }
+
+    // ---- pieces, worked out by hand ----
+
+    /// These rows of a body, with their values, lie in the piece from the first row to the last.
+    fn piece(&mut self, format: Format, rows: u32, body: &[u32], (first, last): (u32, u32), asked: &[(u32, bool)]) {
+        for &(row, set) in asked {
+            let expected = Ok(Value::Row(Row { set, first, last }));
+            self.reading(body, &Question::lone(Call::BodyRow, format, rows).number(row), expected, &[]);
+        }
+    }
+
+    fn pieces(&mut self) {
+        self.piece(Ewah, 40, &[0x5], (0, 39), &[(0, true), (31, true), (32, true), (39, true)]);
+        self.piece(Ewah, 40, &[0x0002_0003, 0xFF], (0, 31), &[(0, true), (31, true)]);
+        self.piece(Ewah, 40, &[0x0002_0003, 0xFF], (32, 39), &[(32, true), (39, true)]);
+        let settled = [0x0002_0000, 0x20, 0x0002_0002, 0x1];
+        for body in [settled, [0x0006_0000, 0x20, 0, 1]] {
+            self.piece(Ewah, 96, &body, (0, 31), &[(0, false), (5, true), (31, false)]);
+            self.piece(Ewah, 96, &body, (32, 63), &[(32, false), (63, false)]);
+            self.piece(Ewah, 96, &body, (64, 95), &[(64, true), (95, false)]);
+        }
+        let none = [0x1_FFFE, 0x2];
+        self.piece(Ewah, 2_097_152, &none, (0, 2_097_119), &[(0, false), (2_097_119, false)]);
+        self.piece(Ewah, 2_097_152, &none, (2_097_120, 2_097_151), &[(2_097_120, false), (2_097_151, false)]);
+        // Equal runs, and idle markers before, between and behind.
+        let idle = [0, 1, 0x3, 1, 0x5, 0];
+        self.piece(Ewah, 96, &idle, (0, 31), &[(0, true), (31, true)]);
+        self.piece(Ewah, 96, &idle, (32, 95), &[(32, true), (95, true)]);
+        for (number, row) in [(1, 96), (1, u32::MAX), (2, 0)] {
+            let index = index_of(96, &[&settled[..], &idle]);
+            self.reading(&index, &Question::new(Call::Row).list(&[number]).number(row), Err((8, 0, 0)), &[]);
+        }
+    }
+
+    fn wah_pieces(&mut self) {
+        self.piece(Wah, 40, &[0xC000_0002], (0, 39), &[(0, true), (30, true), (31, true), (39, true)]);
+        self.piece(Wah, 40, &[0x1, 0x100], (0, 30), &[(0, true), (30, false)]);
+        self.piece(Wah, 40, &[0x1, 0x100], (31, 39), &[(31, false), (39, true)]);
+        // Fills of one value, and a clean literal beside one.
+        let fills = [0x8000_0001, 0x8000_0002, 0];
+        self.piece(Wah, 120, &fills, (0, 30), &[(0, false), (30, false)]);
+        self.piece(Wah, 120, &fills, (31, 92), &[(31, false), (92, false)]);
+        self.piece(Wah, 120, &fills, (93, 119), &[(93, false), (119, false)]);
+        self.piece(Wah, 2_031_616, &[0x8001_0000], (0, 2_031_615), &[(0, false), (2_031_615, false)]);
+        let index = index_in(Wah, 40, &[&[0x8000_0002][..], &[0x1, 0x100]]);
+        let row = Question::new(Call::Row).list(&[1]).number(39);
+        self.reading(&index, &row, Ok(Value::Row(Row { set: true, first: 31, last: 39 })), &[]);
+        self.reading(&index, &row.number(40), Err((8, 0, 0)), &[]);
     }
 }
