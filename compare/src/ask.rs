@@ -9,6 +9,7 @@ use zvonurel::{Row, HISTOGRAM_COUNTS};
 use crate::library::library;
 use crate::question::Question;
 use crate::second::second;
+use crate::walk::Walk;
 
 /// Number, bitmap, word.
 pub type Refused = (u32, u32, u64);
@@ -18,6 +19,7 @@ pub enum Value {
     Sound,
     /// A row, with its piece.
     Row(Row),
+    Walk(Walk),
     Number(u32),
     /// A column's value.
     Whole(u64),

@@ -7,6 +7,7 @@ use crate::encode::{entry_place, other, plain_mask, FORMATS};
 use crate::generate::{Effort, Form, Input};
 use crate::question::{Call, Question};
 use crate::random::Random;
+use crate::second::pieces;
 use crate::session::Session;
 
 /// A buffer is never made longer than this just to be long.
@@ -122,12 +123,17 @@ impl Asker<'_> {
         self.thin(numbers)
     }
 
-    pub fn row_numbers(&mut self) -> Vec<u32> {
+    /// Numbers for this question on a row: those of some piece's ends among them.
+    fn row_numbers(&mut self, question: &Question) -> Vec<u32> {
         let rows = self.input.rows;
         let inside = self.random.below(rows as usize) as u32;
         let last = rows.wrapping_sub(1);
         let [last_bit, wah_last_bit] = FORMATS.map(|format| last_bit(rows, format));
-        self.thin(vec![inside, 0, last, rows, rows.wrapping_add(1), last_bit, wah_last_bit, u32::MAX])
+        let pieces = pieces(&self.input.words, question).unwrap_or_default();
+        let ends = pieces.get(self.random.below(pieces.len())).map(|&(first, last)| [first, last]);
+        let mut numbers = vec![inside, 0, last, rows, rows.wrapping_add(1), last_bit, wah_last_bit, u32::MAX];
+        numbers.extend(ends.into_iter().flatten());
+        self.thin(numbers)
     }
 
     /// Numbers for nth on bitmap `k`.
@@ -148,12 +154,14 @@ impl Asker<'_> {
     fn body(&mut self) {
         self.ask(self.lone(Call::CheckBody));
         self.ask(self.lone(Call::BodyCount));
-        for row in self.row_numbers() {
+        for row in self.row_numbers(&self.lone(Call::BodyRow)) {
             self.ask(self.lone(Call::BodyRow).number(row));
         }
         for n in self.nth_numbers(0) {
             self.ask(self.lone(Call::BodyNth).number(n));
         }
+        let seed = self.random.word();
+        self.ask(self.lone(Call::BodyWalk).number(seed));
         let words = &self.input.words;
         self.ask_rooms(words, self.lone(Call::Expand));
         for call in Call::REWRITE_BODY {
@@ -230,13 +238,17 @@ impl Asker<'_> {
 
     fn rows_and_nths(&mut self) {
         let k = self.good();
-        for row in self.row_numbers() {
-            self.ask(Question::new(Call::Row).list(&[k]).number(row));
+        let question = Question::new(Call::Row).list(&[k]);
+        for row in self.row_numbers(&question) {
+            self.ask(question.clone().number(row));
         }
         for n in self.nth_numbers(k) {
             self.ask(Question::new(Call::Nth).list(&[k]).number(n));
         }
-        let bad = self.bad();
+        let (seed, bad) = (self.random.word(), self.bad());
+        for k in [k, bad] {
+            self.ask(Question::new(Call::Walk).list(&[k]).number(seed));
+        }
         for number in [0, self.input.rows] {
             self.ask(Question::new(Call::Row).list(&[bad]).number(number));
             self.ask(Question::new(Call::Nth).list(&[bad]).number(number));

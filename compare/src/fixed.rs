@@ -12,7 +12,7 @@ use crate::question::{Call, Question};
 use crate::random::Random;
 use crate::samples::{Samples, SAMPLES, SLICES};
 use crate::session::Session;
-use crate::{corners, counting, tails};
+use crate::{corners, counting, pieces, tails};
 
 fn index_input(format: Format, words: Vec<u32>, rows: u32, plain: Vec<Vec<u32>>) -> Input {
     let bitmaps = plain.len() as u32;
@@ -76,6 +76,7 @@ pub fn run(session: &mut Session) {
     }
     corners::run(session);
     counting::run(session);
+    pieces::run(session);
     tails::run(session);
     for format in FORMATS {
         edge_of_rows(session, format);

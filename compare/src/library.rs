@@ -6,6 +6,7 @@ use zvonurel::{wah, Format, Refusal, Row};
 use crate::ask::Value;
 use crate::encode::{format_of, other};
 use crate::question::{Call, Question};
+use crate::walk::{self, Asked};
 
 /// A call that writes into a buffer.
 type Writes = fn(&[u32], u32, &mut [u32]) -> Result<usize, Refusal>;
@@ -61,6 +62,63 @@ impl Lone {
     }
 }
 
+/// A lone body, by the calls of its format.
+struct Body<'a> {
+    lone: &'a Lone,
+    words: &'a [u32],
+    rows: u32,
+}
+
+impl Asked for Body<'_> {
+    fn rows(&self) -> u32 {
+        self.rows
+    }
+
+    fn count(&self) -> Result<u32, Refusal> {
+        (self.lone.count)(self.words, self.rows)
+    }
+
+    fn row(&self, row: u32) -> Result<Row, Refusal> {
+        (self.lone.row)(self.words, self.rows, row)
+    }
+
+    fn nth(&self, n: u32) -> Result<u32, Refusal> {
+        (self.lone.nth)(self.words, self.rows, n)
+    }
+
+    fn expand(&self, out: &mut [u32]) -> Result<usize, Refusal> {
+        (self.lone.expand)(self.words, self.rows, out)
+    }
+}
+
+/// A bitmap, by its number in an index.
+struct Bitmap<'a> {
+    index: &'a [u32],
+    k: u32,
+}
+
+impl Asked for Bitmap<'_> {
+    fn rows(&self) -> u32 {
+        self.index[1]
+    }
+
+    fn count(&self) -> Result<u32, Refusal> {
+        zvonurel::count(self.index, self.k)
+    }
+
+    fn row(&self, row: u32) -> Result<Row, Refusal> {
+        zvonurel::row(self.index, self.k, row)
+    }
+
+    fn nth(&self, n: u32) -> Result<u32, Refusal> {
+        zvonurel::nth(self.index, self.k, n)
+    }
+
+    fn expand(&self, out: &mut [u32]) -> Result<usize, Refusal> {
+        zvonurel::expand_bitmap(self.index, self.k, out)
+    }
+}
+
 fn index_to(format: Format) -> fn(&[u32], &mut [u32]) -> Result<usize, Refusal> {
     match format {
         Ewah => zvonurel::index_to_ewah,
@@ -82,6 +140,7 @@ fn of_body(words: &[u32], q: &Question, out: &mut [u32]) -> Result<Value, Refusa
         Call::BodyRow => (lone.row)(words, q.rows, q.number).map(Value::Row),
         Call::BodyCount => (lone.count)(words, q.rows).map(Value::Number),
         Call::BodyNth => (lone.nth)(words, q.rows, q.number).map(Value::Number),
+        Call::BodyWalk => walk::by_asking(&Body { lone: &lone, words, rows: q.rows }, q.number).map(Value::Walk),
         Call::Expand => (lone.expand)(words, q.rows, out).map(Value::Words),
         Call::BodyToEwah => (lone.to_ewah)(words, q.rows, out).map(Value::Words),
         Call::BodyToWah => (lone.to_wah)(words, q.rows, out).map(Value::Words),
@@ -124,6 +183,7 @@ fn of_index(words: &[u32], q: &Question, out: &mut [u32]) -> Result<Value, Refus
         Call::Row => zvonurel::row(words, j, q.number).map(Value::Row),
         Call::Count => zvonurel::count(words, j).map(Value::Number),
         Call::Nth => zvonurel::nth(words, j, q.number).map(Value::Number),
+        Call::Walk => walk::by_asking(&Bitmap { index: words, k: j }, q.number).map(Value::Walk),
         Call::ExpandBitmap => zvonurel::expand_bitmap(words, j, out).map(Value::Words),
         Call::BitmapToEwah => zvonurel::bitmap_to_ewah(words, j, out).map(Value::Words),
         Call::BitmapToWah => zvonurel::bitmap_to_wah(words, j, out).map(Value::Words),

@@ -6,10 +6,12 @@ mod choose_columns;
 mod columns;
 mod corners;
 mod counting;
+mod draft;
 mod encode;
 mod fixed;
 mod generate;
 mod library;
+mod pieces;
 mod places;
 mod program;
 mod question;
@@ -22,6 +24,7 @@ mod shrink;
 mod tail;
 mod tails;
 mod tear;
+mod walk;
 
 use std::process::ExitCode;
 use std::time::Instant;
@@ -41,9 +44,10 @@ compare SEED CASES [--mutate] [--long] [--only CASE] [--program PATH]
 
 Makes CASES indexes and bodies, in EWAH or in WAH, and indexes of columns beside
 some of them, always the same for one SEED, asks every question of the library
-and of the reference, and compares the results and the whole buffers. Then come
-the readings (examples with known answers) and a few fixed cases, and a table of
-the refusals that were reached in each format. Exit code 1: a difference, or a
+and of the reference, and compares the results and the whole buffers. Bodies are
+also walked from piece to piece, by the answers on their rows. Then come the
+readings (examples with known answers) and a few fixed cases, and a table of the
+refusals that were reached in each format. Exit code 1: a difference, or a
 refusal never reached.
 
 --mutate     builds one mistake after another into the reference; each has to

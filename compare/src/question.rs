@@ -8,6 +8,8 @@ pub enum Call {
     BodyRow,
     BodyCount,
     BodyNth,
+    /// Many calls: from piece to piece, by rows. The reference lists its pieces.
+    BodyWalk,
     Expand,
     BodyToEwah,
     BodyToWah,
@@ -20,6 +22,8 @@ pub enum Call {
     Row,
     Count,
     Nth,
+    /// Like `BodyWalk`.
+    Walk,
     ExpandBitmap,
     BitmapToEwah,
     BitmapToWah,
@@ -40,11 +44,12 @@ pub enum Call {
 }
 
 impl Call {
-    pub const ALL: [Call; 31] = [
+    pub const ALL: [Call; 33] = [
         Call::CheckBody,
         Call::BodyRow,
         Call::BodyCount,
         Call::BodyNth,
+        Call::BodyWalk,
         Call::Expand,
         Call::BodyToEwah,
         Call::BodyToWah,
@@ -56,6 +61,7 @@ impl Call {
         Call::Row,
         Call::Count,
         Call::Nth,
+        Call::Walk,
         Call::ExpandBitmap,
         Call::BitmapToEwah,
         Call::BitmapToWah,
@@ -133,7 +139,7 @@ pub struct Question {
     pub list: Vec<u32>,
     /// The list of a sum's second column.
     pub second: Vec<u32>,
-    /// Row, nth, or T.
+    /// Row, nth, T, or the seed of a walk.
     pub number: u32,
     pub table: Vec<u32>,
     /// Length of the buffer.
@@ -188,6 +194,7 @@ impl Question {
         match self.call {
             Call::BodyRow | Call::Row | Call::Value => parts.push(format!("row {}", self.number)),
             Call::BodyNth | Call::Nth => parts.push(format!("nth {}", self.number)),
+            Call::BodyWalk | Call::Walk => parts.push(format!("seed {}", self.number)),
             Call::Threshold => parts.push(format!("T {}", self.number)),
             Call::Symmetric => parts.push(format!("table {:?}", self.table)),
             Call::Sum => parts.push(format!("second {:?}", self.second)),

@@ -5,6 +5,7 @@ use reference::{Format, Refusal, Row};
 use crate::ask::Value;
 use crate::encode::{format_of, index_in};
 use crate::question::{Call, Question};
+use crate::walk;
 
 /// A value, and the words written.
 pub type Told = Result<(Value, Vec<u32>), Refusal>;
@@ -28,6 +29,20 @@ fn of_row(Row { set, first, last }: Row) -> (Value, Vec<u32>) {
     plain(Value::Row(zvonurel::Row { set, first, last }))
 }
 
+/// First and last row of each piece of the body that a question is about.
+pub fn pieces(words: &[u32], q: &Question) -> Result<Vec<(u32, u32)>, Refusal> {
+    match q.call.of_index() {
+        true => reference::pieces(words, q.list.first().copied().unwrap_or(0)),
+        false => reference::body_pieces(words, q.rows, in_reference(q.format)),
+    }
+}
+
+/// Those pieces, walked over the plain words.
+fn walked(words: &[u32], q: &Question, expanded: Result<Vec<u32>, Refusal>) -> Told {
+    let pieces = pieces(words, q)?;
+    Ok(plain(Value::Walk(walk::by_pieces(&pieces, &expanded?, q.number))))
+}
+
 fn amount(n: u32) -> (Value, Vec<u32>) {
     plain(Value::Number(n))
 }
@@ -46,6 +61,7 @@ fn of_body(words: &[u32], q: &Question) -> Told {
         Call::BodyRow => reference::body_row(words, q.rows, format, q.number).map(of_row),
         Call::BodyCount => reference::body_count(words, q.rows, format).map(amount),
         Call::BodyNth => reference::body_nth(words, q.rows, format, q.number).map(amount),
+        Call::BodyWalk => walked(words, q, reference::expand(words, q.rows, format, usize::MAX)),
         Call::Expand => reference::expand(words, q.rows, format, q.room).map(wrote),
         Call::BodyToEwah => reference::rewrite(words, q.rows, format, Format::Ewah, q.room).map(wrote),
         Call::BodyToWah => reference::rewrite(words, q.rows, format, Format::Wah, q.room).map(wrote),
@@ -86,6 +102,7 @@ fn of_index(words: &[u32], q: &Question) -> Told {
         Call::Row => reference::row(words, j, q.number).map(of_row),
         Call::Count => reference::count(words, j).map(amount),
         Call::Nth => reference::nth(words, j, q.number).map(amount),
+        Call::Walk => walked(words, q, reference::expand_bitmap(words, j, usize::MAX)),
         Call::ExpandBitmap => reference::expand_bitmap(words, j, q.room).map(wrote),
         Call::BitmapToEwah => reference::rewrite_bitmap(words, j, Format::Ewah, q.room).map(wrote),
         Call::BitmapToWah => reference::rewrite_bitmap(words, j, Format::Wah, q.room).map(wrote),

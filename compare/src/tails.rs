@@ -82,6 +82,7 @@ fn lone_body(session: &mut Session, body: &[u32], tail: &Tail) {
     for n in nths(tail) {
         session.ask(body, of(Call::BodyNth).number(n));
     }
+    session.ask(body, of(Call::BodyWalk).number(tail.rows));
     fitting(session, body, of(Call::Expand));
     for call in Call::REWRITE_BODY {
         fitting(session, body, of(call));
@@ -111,6 +112,7 @@ fn one_bitmap(session: &mut Session, index: &[u32], k: u32, tail: &Tail) {
     for n in nths(tail) {
         session.ask(index, of(Call::Nth).number(n));
     }
+    session.ask(index, of(Call::Walk).number(tail.rows));
     for call in [Call::ExpandBitmap, Call::Not, Call::BitmapToEwah, Call::BitmapToWah] {
         fitting(session, index, of(call));
     }
