@@ -78,9 +78,9 @@
  *
  * LISTING. zv_nth, zv_body_nth and zv_wah_body_nth check and walk from the front each time, and so do zv_row,
  * zv_body_row and zv_wah_body_row. To list all set rows, expand the body once and scan the bits, as example/listing.c
- * does: for 20,000 scattered set rows that is some thousand times as fast as zv_nth for each. Who asks for row 0, and
- * then each time for the row behind the last one given, meets each piece once, in order; together these calls can take
- * a time that grows with the square of the number of pieces, so to see the rows expand the body instead.
+ * does: for 20,000 scattered set rows that is some thousand times as fast as zv_nth for each. A body's pieces can be
+ * gone through by zv_body_row, from row 0 on and always to the row behind `last`. These calls can take, together, a
+ * time that grows with the square of the number of pieces; where it is the rows that matter, expand the body instead.
  *
  * STACK. A call needs less than ZV_MOST_STACK bytes of stack, whatever it is given: none recurses, and none has an
  * array whose length depends on the input. tests/c/stack.c measures some 16 KiB for zv_sum, and 4 KiB for any other. A

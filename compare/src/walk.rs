@@ -1,10 +1,9 @@
 //! A body walked from piece to piece by its rows.
 //!
-//! Asked at row 0, and then each time at the row behind the last one given, the library is to meet the reference's
-//! pieces, each once and in order, until the last row is given. The set rows in them add up to the count, and the nth
-//! set row lies in the first piece at which the running sum passes n. Each side comes to a `Walk` by a way of its own:
-//! the library by its answers on rows, its count and its nth rows, the reference by its list of pieces and a running
-//! sum.
+//! A walk begins at row 0, and goes on behind the piece of each answer up to the end of the rows. The library has to
+//! come by just the pieces that the reference lists. What these have of set rows is its count; and as soon as they
+//! have more than n so far, the piece is that of its set row n. Each side comes to a `Walk` by a way of its own: the
+//! library by its answers on rows, its count and its nth rows, the reference by its list of pieces and a running sum.
 
 use zvonurel::{segments, Refusal, Row, WORD_BITS};
 

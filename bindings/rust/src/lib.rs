@@ -140,8 +140,8 @@ pub struct Answer {
 /// [`Format::segment_rows`] rows, the others may be different. So this does not tell how far set rows go on:
 /// [`spells`] does.
 ///
-/// Who asks for row 0, and then each time for the row behind `last`, meets each piece once, in order. Each of these
-/// calls walks the body anew, so together they can take a time that grows with the square of the number of pieces.
+/// A body's pieces can be gone through from row 0 on, always to the row behind `last`. Each of these calls walks the
+/// body anew, so together they can take a time that grows with the square of the number of pieces.
 ///
 /// ```
 /// use zvonurel::{body_row, Row};

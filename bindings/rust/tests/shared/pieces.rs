@@ -2,8 +2,8 @@
 
 use zvonurel::{Refusal, Row};
 
-/// The first and the last row of each piece that is met from row 0 on, each time at the row behind the last one given.
-/// Asked at its last row, and at one between, a piece is the same.
+/// The first and the last row of each piece, from row 0 on and always to the row behind the piece. Asked at its last
+/// row, and at one between, a piece is the same.
 pub fn met(rows: u32, ask: impl Fn(u32) -> Result<Row, Refusal>) -> Vec<(u32, u32)> {
     let (mut pieces, mut next) = (Vec::new(), 0);
     while next < rows {
