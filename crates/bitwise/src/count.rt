@@ -8,8 +8,8 @@ ghost use Rattle.meaning.specs.Segment.{ones, isSet};
 ghost use Rattle.meaning.specs.Ewah.{ewahRows};
 ghost use Rattle.meaning.specs.Laws.{EwahFacts};
 use ewah::marker;
-use ewah_read::count::count_run;
-use ewah_read::count::pads_set;
+use ewah_count::count::count_run;
+use ewah_count::count::pads_set;
 use words::bits;
 use words::rows;
 

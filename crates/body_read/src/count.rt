@@ -13,7 +13,7 @@ pub fn count(format: Format, body: &[u32], rows: u32) -> u32
     ensures { λ r. ⌜ r ≡ countBelow rows (rowsOf format (now (body .entry))) ⌝ }
 {
     match format {
-        Format::Ewah => ewah_read::count::count(body, rows),
+        Format::Ewah => ewah_count::count::count(body, rows),
         Format::Wah => wah_read::count::count(body, rows),
     }
 }

@@ -1,6 +1,4 @@
-// Questions on one EWAH body that has no fault: row, count, nth, plain words. Each goes from marker to marker.
+// One EWAH body that has no fault, asked for a row, and read into plain words. Each goes from marker to marker.
 // Calls here have a `requires`; the public ones of `zvonurel` test their input first.
-pub mod count;
 pub mod expand;
-pub mod nth;
 pub mod row;

@@ -1,4 +1,4 @@
--- `bitwise::count::count` meets its contract, by the laws of `ewah_read`'s `Passing`. The invariant: the walk stands at
+-- `bitwise::count::count` meets its contract, by the laws of `ewah_count`'s `Passing`. The invariant: the walk stands at
 -- a marker, and n bits of the segments behind are set; at the end the pad bits among them are those of the marker read
 -- last.
 -- Assumes nothing.
@@ -11,8 +11,8 @@ use lib.ListN.{length}
 use Rattle.meaning.specs.Limits.{mostSegments}
 use Rattle.meaning.specs.Rows.{countBelow}
 use Rattle.meaning.specs.Ewah.{ewahRows}
-use Rattle.ewah_read.proofs.Passing.{Passed, Read, none-passed, marker-there, marker-read, all-passed}
-use Rattle.ewah_read.proofs.Passing.{dirty-fit, part-few, segments-fit, at-most, passed-next}
+use Rattle.ewah_count.proofs.Passing.{Passed, Read, none-passed, marker-there, marker-read, all-passed}
+use Rattle.ewah_count.proofs.Passing.{dirty-fit, part-few, segments-fit, at-most, passed-next}
 use Rattle.bitwise.proofs.count.count.Statement.{statement}
 use Rattle.bitwise.proofs.count.count.Tie as tie
 

@@ -1,4 +1,4 @@
--- `ewah_read::count::pads_set` meets its contract, by `pads-dirty` and `pads-clean`. Rows are no more than the bits of
+-- `ewah_count::count::pads_set` meets its contract, by `pads-dirty` and `pads-clean`. Rows are no more than the bits of
 -- their segments, and the pad bits fewer than a word's.
 -- Assumes nothing.
 use borrow.Author.Needs.{needs}
@@ -7,9 +7,9 @@ use Prim.Native.Nat.{ℕ, _-_, _*_, _≤_}
 use mathlib.Core.Path.{sym, ap₂, _∙_}
 use native.Mathlib.Nat.{mul-le-mul-right}
 use Rattle.meaning.specs.Segment.{segmentCount}
-use Rattle.ewah_read.proofs.LastSegment.{pads-clean, pads-dirty}
-use Rattle.ewah_read.proofs.count.pads_set.Statement.{statement}
-use Rattle.ewah_read.proofs.count.pads_set.Tie as tie
+use Rattle.ewah_count.proofs.LastSegment.{pads-clean, pads-dirty}
+use Rattle.ewah_count.proofs.count.pads_set.Statement.{statement}
+use Rattle.ewah_count.proofs.count.pads_set.Tie as tie
 
 read-requires : tie.Need-read-requires
 read-requires c κs = search needs

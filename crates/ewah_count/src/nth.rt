@@ -10,7 +10,7 @@ ghost use Rattle.meaning.specs.Laws.{EwahFacts};
 ghost use Rattle.meaning.specs.Answer.{askNth};
 ghost use Rattle.meaning.specs.Demands.{IsNth};
 ghost use Rattle.answers.specs.Told.{foundOf};
-ghost use Rattle.ewah_read.specs.Seeking.{SoughtIn};
+ghost use Rattle.ewah_count.specs.Seeking.{SoughtIn};
 use crate::count;
 use answers::answer::Found;
 use ewah::marker;

@@ -1,4 +1,4 @@
--- `ewah_read::count::count_run` meets its contract: by `fill-count` a clean segment has 32 set bits or none, and by `ones-replicate` a run its length times as many.
+-- `ewah_count::count::count_run` meets its contract: by `fill-count` a clean segment has 32 set bits or none, and by `ones-replicate` a run its length times as many.
 -- Assumes nothing.
 use native.Mathlib.Omega.{arith}
 use borrow.Author.Needs.{needs}
@@ -7,8 +7,8 @@ use mathlib.Core.Path.{sym, ap, _∙_}
 use native.Mathlib.Nat.{mul-le-mul-left}
 use Rattle.meaning.specs.Segment.{fill}
 use Rattle.meaning.proofs.Counting.{fill-count, ones-replicate}
-use Rattle.ewah_read.proofs.count.count_run.Statement.{statement}
-use Rattle.ewah_read.proofs.count.count_run.Tie as tie
+use Rattle.ewah_count.proofs.count.count_run.Statement.{statement}
+use Rattle.ewah_count.proofs.count.count_run.Tie as tie
 
 mul-result : tie.Need-mul-result
 mul-result c = search needs

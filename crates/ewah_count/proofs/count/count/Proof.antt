@@ -1,4 +1,4 @@
--- `ewah_read::count::count` meets its contract, by the laws of `Passing`. The invariant: the walk stands at a marker,
+-- `ewah_count::count::count` meets its contract, by the laws of `Passing`. The invariant: the walk stands at a marker,
 -- and n bits of the segments behind are set; at the end the pad bits among them are those of the marker read last.
 -- Assumes nothing.
 use borrow.Author.Needs.{needs}
@@ -10,10 +10,10 @@ use lib.ListN.{length}
 use Rattle.meaning.specs.Limits.{mostSegments}
 use Rattle.meaning.specs.Rows.{countBelow}
 use Rattle.meaning.specs.Ewah.{ewahRows}
-use Rattle.ewah_read.proofs.Passing.{Passed, Read, none-passed, marker-there, marker-read, all-passed}
-use Rattle.ewah_read.proofs.Passing.{dirty-fit, dirty-few, segments-fit, at-most, passed-next}
-use Rattle.ewah_read.proofs.count.count.Statement.{statement}
-use Rattle.ewah_read.proofs.count.count.Tie as tie
+use Rattle.ewah_count.proofs.Passing.{Passed, Read, none-passed, marker-there, marker-read, all-passed}
+use Rattle.ewah_count.proofs.Passing.{dirty-fit, dirty-few, segments-fit, at-most, passed-next}
+use Rattle.ewah_count.proofs.count.count.Statement.{statement}
+use Rattle.ewah_count.proofs.count.count.Tie as tie
 
 abbrev Inv-loop : tie.InvT-loop
 Inv-loop body rows n₀ at₀ left₀ last₀ n at left last = Passed rows body at left n last

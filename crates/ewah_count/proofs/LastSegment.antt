@@ -11,7 +11,7 @@ use Rattle.meaning.specs.Piece.{Piece, dirtyWord, lastDirty}
 use Rattle.meaning.specs.Ewah.{pieces, valueOf, cleanOf, dirtyOf}
 use Rattle.meaning.proofs.Decoded.{last-run, last-behind}
 use Rattle.ewah.proofs.Pieces.{cons-at}
-use Rattle.ewah_read.specs.Pads.{padsSet}
+use Rattle.ewah_count.specs.Pads.{padsSet}
 
 -- ---- where the last piece, if it is a dirty word, is below lim
 

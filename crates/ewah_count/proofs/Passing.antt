@@ -28,9 +28,9 @@ use Rattle.meaning.proofs.RowWords.{segments-few}
 use Rattle.ewah.specs.Markers.{FieldsOf}
 use Rattle.ewah.specs.declared.marker.Marker.{Marker}
 use Rattle.ewah.proofs.MarkerStep.{read-step}
-use Rattle.ewah_read.specs.Pads.{padsSet}
+use Rattle.ewah_count.specs.Pads.{padsSet}
 use Rattle.meaning.proofs.Pads.{pads-none, pads-all}
-use Rattle.ewah_read.proofs.LastSegment.{behind-words, last-word, behind-run, pads-clean, pads-dirty}
+use Rattle.ewah_count.proofs.LastSegment.{behind-words, last-word, behind-run, pads-clean, pads-dirty}
 
 -- where there are no dirty words, none of their bits are set
 pub none-set : (b : List ℕ) (from to : ℕ) → to ≡ from → ones 32 (take (to - from) (drop from b)) ≡ 0

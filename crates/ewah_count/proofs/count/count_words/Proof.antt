@@ -1,10 +1,10 @@
--- `ewah_read::count::count_words` meets its contract: of no words none are set; else what was counted. Assumes nothing.
+-- `ewah_count::count::count_words` meets its contract: of no words none are set; else what was counted. Assumes nothing.
 use mathlib.Core.Path.{sym}
 use denote.Ref.{now}
-use Rattle.ewah_read.proofs.Passing.{none-set}
+use Rattle.ewah_count.proofs.Passing.{none-set}
 use borrow.Author.Needs.{needs}
-use Rattle.ewah_read.proofs.count.count_words.Statement.{statement}
-use Rattle.ewah_read.proofs.count.count_words.Tie as tie
+use Rattle.ewah_count.proofs.count.count_words.Statement.{statement}
+use Rattle.ewah_count.proofs.count.count_words.Tie as tie
 
 returns : tie.Need-returns
 returns c =
