@@ -2,22 +2,20 @@
 -- Assumes nothing.
 use Prim.Native.Nat.{ℕ, _≤_, _<_}
 use mathlib.Core.Bool.{Bool, true, false, false≢true}
-use mathlib.Core.Path.{_≡_, sym, ap, _∙_, subst}
+use mathlib.Core.Path.{_≡_, subst}
 use mathlib.Core.List.{List, _++_}
-use native.Mathlib.Omega.{arith}
 use borrow.Author.Tests.{le-leb, lt-leb}
 use lib.ListN.{length, drop}
-use Rattle.meaning.specs.Segment.{segmentCount, fromRows}
 use Rattle.meaning.specs.Refusal.{refused, answer, refuseIf}
 use Rattle.meaning.specs.Format.{canonical}
 use Rattle.meaning.specs.declared.Format.{Format}
-use Rattle.meaning.specs.Answer.{askRow, askPlain, write}
-use Rattle.meaning.proofs.RowWords.{from-length}
+use Rattle.meaning.specs.Answer.{askRow, write}
 use Rattle.answers.specs.declared.refusal.Refusal.{Refusal}
 use Rattle.answers.specs.declared.answer.Written.{Written}
 use Rattle.answers.specs.declared.answer.Written.the-variants as written
 use Rattle.answers.specs.Told.{refusal, Wrote}
-use Rattle.answers.proofs.Tells.{wrote-none, wrote-words}
+use Rattle.answers.proofs.Tells.{wrote-words}
+use Rattle.plain.proofs.Buffers.{write-none}
 
 pub row-past : (R : ℕ) (p : ℕ → Bool) (r : ℕ) → R ≤ r → refused 8 0 0 ≡ askRow R p r
 unfolding askRow refuseIf
@@ -27,50 +25,21 @@ pub row-here : (R : ℕ) (p : ℕ → Bool) (r : ℕ) (x : Bool) → r < R → x
 unfolding askRow refuseIf
 row-here R p r x h e = rw (lt-leb R r h, e)
 
--- the plain words of the rows p into a buffer: n of them, too many or not
-module _ (R : ℕ) (p : ℕ → Bool) (out : List ℕ) (n : ℕ) (is : n ≡ segmentCount 32 R) where
-  long : segmentCount 32 R ≡ length (fromRows 32 R p)
-  long = sym (from-length 32 (omega arith) R p)
-
-  pub plain-none : (r : Refusal) → r ≡ refusal 9 n → length out < n
-      → Wrote (askPlain R p (length out)) (written.Refused r) out out
-  unfolding askPlain
-  plain-none r e h = rw e (wrote-none out (fromRows 32 R p) n (is ∙ long) h)
-
-  pub plain-words : (out′ : List ℕ) → n ≤ length out → out′ ≡ fromRows 32 R p ++ drop (segmentCount 32 R) out
-      → Wrote (askPlain R p (length out)) (written.Words n) out out′
-  unfolding askPlain
-  plain-words out′ h e =
-      wrote-words out (fromRows 32 R p) n (is ∙ long) out′ h
-      (e ∙ ap (λ (k : ℕ). fromRows 32 R p ++ drop k out) long)
-
 -- a body that is only measured asks for no room
 pub not-stored : (F : Format) (R : ℕ) (p : ℕ → Bool) (out : List ℕ) → false ≡ true → length (canonical F R p) ≤ length out
 not-stored F R p out e = absurd (false≢true e)
 
 -- the canonical body of the rows p, of n words, into a buffer
 module _ (F : Format) (R : ℕ) (p : ℕ → Bool) (out : List ℕ) (n : ℕ) (is : n ≡ length (canonical F R p)) where
-  pub write-none : (r : Refusal) → r ≡ refusal 9 n → length out < n
-      → Wrote (write F R p (length out)) (written.Refused r) out out
-  unfolding write
-  write-none r e h = rw e (wrote-none out (canonical F R p) n is h)
-
   pub write-words : (out′ : List ℕ) → n ≤ length out → out′ ≡ canonical F R p ++ drop (length (canonical F R p)) out
       → Wrote (write F R p (length out)) (written.Words n) out out′
   unfolding write
   write-words out′ h e = wrote-words out (canonical F R p) n is out′ h e
 
-  -- where another count of the words was told
-  pub write-told : (m : ℕ) (out′ : List ℕ) → n ≤ length out → m ≡ length (canonical F R p) → out′ ≡ canonical F R p ++ drop m out
-      → Wrote (write F R p (length out)) (written.Words m) out out′
-  unfolding write
-  write-told m out′ h e g =
-      wrote-words out (canonical F R p) m e out′ (omega arith) (g ∙ ap (λ (k : ℕ). canonical F R p ++ drop k out) e)
-
   -- where the buffer was measured first, as `mid`, and is as it was
   pub write-kept : (mid : List ℕ) (r : Refusal) → mid ≡ out → r ≡ refusal 9 n → length mid < n
       → Wrote (write F R p (length out)) (written.Refused r) out mid
-  write-kept mid r k e h = rw k (write-none r e (rw k at h))
+  write-kept mid r k e h = rw k (write-none F R p out n is r e (rw k at h))
 
 -- what was written to the buffer as it was measured, was written to it
 pub write-mid : (F : Format) (R : ℕ) (p : ℕ → Bool) (out mid : List ℕ) (r : Written) (out′ : List ℕ) → mid ≡ out

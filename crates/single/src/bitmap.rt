@@ -77,7 +77,7 @@ pub fn plain(index: &[u32], k: u32, out: &mut [u32]) -> Written
     ensures { λ r. ⌜ Wrote (meaning.askPlain (rowCount (now (index .entry))) (rowsAt (now (index .entry)) k)
         (length (now (out .entry)))) r (now (out .entry)) (now (out .exit)) ⌝ }
 {
-    body::plain(
+    plain::expand::plain(
         contents::format(index),
         contents::body(index, k),
         contents::rows(index),

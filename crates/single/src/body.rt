@@ -1,10 +1,8 @@
 // Questions on a body that has no fault: what is left to be refused, and the answer.
 ghost use mathlib.Core.Path.{_≡_};
 ghost use Prim.Native.Nat.{_≤_};
-ghost use mathlib.Core.List.{_++_};
-ghost use lib.ListN.{length, drop};
+ghost use lib.ListN.{length};
 ghost use Rattle.meaning.specs.Limits.{mostRows};
-ghost use Rattle.meaning.specs.Segment.{segmentCount, fromRows};
 ghost use Rattle.meaning.specs.Format.{rowsOf, canonical};
 ghost use Rattle.meaning.specs.Laws.{SoundFacts};
 ghost use Rattle.meaning.specs.Answer as meaning;
@@ -18,7 +16,6 @@ use body_read::nth;
 use body_read::row;
 use body_write::bound;
 use meaning::Format;
-use words::rows;
 
 // Whether row r is set; 8 where there is none.
 pub fn row(format: Format, body: &[u32], rows: u32, r: u32) -> Flag
@@ -42,33 +39,6 @@ pub fn nth(format: Format, body: &[u32], rows: u32, n: u32) -> Number
         Found::Row(r) => Number::Is(r),
         Found::Past => Number::Refused(answer::bad_argument()),
     }
-}
-
-// The rows as plain words, into a buffer with room for them.
-fn expand(format: Format, body: &[u32], rows: u32, out: &mut [u32])
-    requires { ⌜ (rows ≤ mostRows) × SoundFacts format rows (now body) × (segmentCount 32 rows ≤ length (now out)) ⌝ }
-    ensures { λ _. ⌜ now (out .exit)
-        ≡ fromRows 32 rows (rowsOf format (now (body .entry))) ++ drop (segmentCount 32 rows) (now (out .entry)) ⌝ }
-{
-    match format {
-        Format::Ewah => ewah_read::expand::expand(body, rows, out),
-        Format::Wah => rewrite::expand::expand(body, rows, out),
-    }
-}
-
-// The plain words; 9 where they do not fit.
-pub fn plain(format: Format, body: &[u32], rows: u32, out: &mut [u32]) -> Written
-    requires { ⌜ rows ≤ mostRows ⌝ }
-    requires { ⌜ SoundFacts format rows (now body) ⌝ }
-    ensures { λ r. ⌜ Wrote (meaning.askPlain rows (rowsOf format (now (body .entry))) (length (now (out .entry))))
-        r (now (out .entry)) (now (out .exit)) ⌝ }
-{
-    let need = rows::segment_count(rows) as usize;
-    if out.len() < need {
-        return Written::Refused(answer::no_room(need as u64));
-    }
-    expand(format, body, rows, out);
-    Written::Words(need)
 }
 
 // The body in canonical form of the format `to`; 9 where it does not fit.

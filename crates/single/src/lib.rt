@@ -1,5 +1,3 @@
-// Questions on one body or one bitmap once its check has passed: what is left to be refused, 8 and 9, and the answer. Plain words are
-// checked here too, since no format knows them.
+// Questions on one body or one bitmap once its check has passed: what is left to be refused, 8 and 9, and the answer.
 pub mod bitmap;
 pub mod body;
-pub mod plain;

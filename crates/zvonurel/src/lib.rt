@@ -80,7 +80,7 @@ pub fn expand(format: Format, body: &[u32], rows: u32, out: &mut [u32]) -> Writt
     let checked = check_body(format, body, rows);
     match checked {
         Checked::Refused(refusal) => Written::Refused(refusal),
-        Checked::Sound => single::body::plain(format, body, rows, out),
+        Checked::Sound => plain::expand::plain(format, body, rows, out),
     }
 }
 
@@ -89,10 +89,10 @@ pub fn compress(format: Format, rows: u32, plain: &[u32], out: &mut [u32]) -> Wr
     ensures { λ r. ⌜ Wrote (meaning.compress format rows (now (plain .entry)) (length (now (out .entry))))
         r (now (out .entry)) (now (out .exit)) ⌝ }
 {
-    let checked = single::plain::check_plain(plain, rows);
+    let checked = plain::compress::check_plain(plain, rows);
     match checked {
         Checked::Refused(refusal) => Written::Refused(refusal),
-        Checked::Sound => single::plain::write_plain(format, plain, rows, out),
+        Checked::Sound => plain::compress::write_plain(format, plain, rows, out),
     }
 }
 

@@ -1,4 +1,4 @@
--- `zvonurel::compress` meets its contract: the refusal of `single::plain::check_plain`; or, by `plain-rows`, valid plain words, and then `single::plain::write_plain`. Assumes nothing.
+-- `zvonurel::compress` meets its contract: the refusal of `plain::compress::check_plain`; or, by `plain-rows`, valid plain words, and then `plain::compress::write_plain`. Assumes nothing.
 use borrow.Author.Needs.{needs}
 use denote.Ref.{now}
 use lib.ListN.{length}
@@ -6,7 +6,7 @@ use Rattle.meaning.specs.Segment.{hasRow}
 use Rattle.meaning.specs.Answer.{plainFault, write, compress}
 use Rattle.answers.proofs.Checks.{sound-is, refuses}
 use Rattle.answers.proofs.Tells.{wrote-refused, wrote-then}
-use Rattle.single.proofs.PlainWords.{plain-rows}
+use Rattle.plain.proofs.PlainWords.{plain-rows}
 use Rattle.zvonurel.proofs.compress.Statement.{statement}
 use Rattle.zvonurel.proofs.compress.Tie as tie
 

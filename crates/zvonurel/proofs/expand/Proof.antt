@@ -1,4 +1,4 @@
--- `zvonurel::expand` meets its contract: the check's refusal; or, by `facts`, a sound body, and then `single::body::plain`. Assumes nothing.
+-- `zvonurel::expand` meets its contract: the check's refusal; or, by `facts`, a sound body, and then `plain::expand::plain`. Assumes nothing.
 use borrow.Author.Needs.{needs}
 use mathlib.Core.Path.{_≡_}
 use denote.Ref.{now}

@@ -1,4 +1,4 @@
--- `single::bitmap::plain` meets its contract: `single::body::plain` of the bitmap's body. Assumes nothing.
+-- `single::bitmap::plain` meets its contract: `plain::expand::plain` of the bitmap's body. Assumes nothing.
 use Prim.Native.Nat.{ℕ}
 use mathlib.Core.Path.{subst}
 use mathlib.Core.List.{List}

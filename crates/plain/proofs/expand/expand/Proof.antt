@@ -1,9 +1,9 @@
--- `single::body::expand` meets its contract: in each format its own expansion. Assumes nothing.
+-- `plain::expand::expand` meets its contract: in each format its own expansion. Assumes nothing.
 use borrow.Author.Needs.{needs}
 use Rattle.meaning.specs.Ewah.{ewahRows}
 use Rattle.meaning.specs.Format.{rowsOf}
-use Rattle.single.proofs.body.expand.Statement.{statement}
-use Rattle.single.proofs.body.expand.Tie as tie
+use Rattle.plain.proofs.expand.expand.Statement.{statement}
+use Rattle.plain.proofs.expand.expand.Tie as tie
 
 enum-told : tie.Need-enum-told
 enum-told c = search needs

@@ -1,11 +1,11 @@
--- `single::plain::measure` meets its contract: in each format its own measure. Assumes nothing.
+-- `plain::compress::measure` meets its contract: in each format its own measure. Assumes nothing.
 use mathlib.Core.Path.{sym, ap, _∙_}
 use lib.ListN.{length}
 use denote.Ref.{now}
 use borrow.Author.Needs.{needs}
-use Rattle.single.proofs.PlainWords.{canonical-plain}
-use Rattle.single.proofs.plain.measure.Statement.{statement}
-use Rattle.single.proofs.plain.measure.Tie as tie
+use Rattle.plain.proofs.PlainWords.{canonical-plain}
+use Rattle.plain.proofs.compress.measure.Statement.{statement}
+use Rattle.plain.proofs.compress.measure.Tie as tie
 
 enum-told : tie.Need-enum-told
 enum-told c = search needs

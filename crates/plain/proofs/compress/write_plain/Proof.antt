@@ -1,12 +1,12 @@
--- `single::plain::write_plain` meets its contract: what surely fits is written, and else it is measured; 9 by `write-none`.
+-- `plain::compress::write_plain` meets its contract: what surely fits is written, and else it is measured; 9 by `write-none`.
 -- Assumes nothing.
 use borrow.Author.Needs.{needs}
 use native.Mathlib.Omega.{arith}
 use denote.Ref.{now}
 use Rattle.meaning.specs.Segment.{hasRow}
-use Rattle.single.proofs.Asks.{write-none}
-use Rattle.single.proofs.plain.write_plain.Statement.{statement}
-use Rattle.single.proofs.plain.write_plain.Tie as tie
+use Rattle.plain.proofs.Buffers.{write-none}
+use Rattle.plain.proofs.compress.write_plain.Statement.{statement}
+use Rattle.plain.proofs.compress.write_plain.Tie as tie
 
 most-words-requires : tie.Need-most-words-requires
 most-words-requires c κs = search needs

@@ -1,11 +1,11 @@
--- `single::plain::write_fitting` meets its contract: what was written, by `write-told`. Assumes nothing.
+-- `plain::compress::write_fitting` meets its contract: what was written, by `write-told`. Assumes nothing.
 use mathlib.Core.Path.{refl}
 use denote.Ref.{now}
 use borrow.Author.Needs.{needs}
 use Rattle.meaning.specs.Segment.{hasRow}
-use Rattle.single.proofs.Asks.{write-told}
-use Rattle.single.proofs.plain.write_fitting.Statement.{statement}
-use Rattle.single.proofs.plain.write_fitting.Tie as tie
+use Rattle.plain.proofs.Buffers.{write-told}
+use Rattle.plain.proofs.compress.write_fitting.Statement.{statement}
+use Rattle.plain.proofs.compress.write_fitting.Tie as tie
 
 compress-requires : tie.Need-compress-requires
 compress-requires c κs = search needs

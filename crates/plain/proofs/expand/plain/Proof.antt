@@ -1,11 +1,11 @@
--- `single::body::plain` meets its contract: 9 by `plain-none`, else the plain words by `plain-words`. Assumes nothing.
+-- `plain::expand::plain` meets its contract: 9 by `plain-none`, else the plain words by `plain-words`. Assumes nothing.
 use borrow.Author.Needs.{needs}
 use native.Mathlib.Omega.{arith}
 use denote.Ref.{now}
 use Rattle.meaning.specs.Format.{rowsOf}
-use Rattle.single.proofs.Asks.{plain-none, plain-words}
-use Rattle.single.proofs.body.plain.Statement.{statement}
-use Rattle.single.proofs.body.plain.Tie as tie
+use Rattle.plain.proofs.Buffers.{plain-none, plain-words}
+use Rattle.plain.proofs.expand.plain.Statement.{statement}
+use Rattle.plain.proofs.expand.plain.Tie as tie
 
 segment-count-requires : tie.Need-segment-count-requires
 segment-count-requires c κs = search needs

@@ -1,11 +1,11 @@
--- `single::plain::compress` meets its contract: in each format its own writing. Assumes nothing.
+-- `plain::compress::compress` meets its contract: in each format its own writing. Assumes nothing.
 use mathlib.Core.Path.{sym, ap, _∙_}
 use lib.ListN.{length}
 use denote.Ref.{now}
 use borrow.Author.Needs.{needs}
-use Rattle.single.proofs.PlainWords.{canonical-plain}
-use Rattle.single.proofs.plain.compress.Statement.{statement}
-use Rattle.single.proofs.plain.compress.Tie as tie
+use Rattle.plain.proofs.PlainWords.{canonical-plain}
+use Rattle.plain.proofs.compress.compress.Statement.{statement}
+use Rattle.plain.proofs.compress.compress.Tie as tie
 
 enum-told : tie.Need-enum-told
 enum-told c = search needs

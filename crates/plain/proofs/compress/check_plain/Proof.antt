@@ -1,13 +1,13 @@
--- `single::plain::check_plain` meets its contract: each of its five returns is a law of `PlainWords`, in the order of the faults. Assumes nothing.
+-- `plain::compress::check_plain` meets its contract: each of its five returns is a law of `PlainWords`, in the order of the faults. Assumes nothing.
 use borrow.Author.Needs.{needs}
 use mathlib.Core.Path.{ap, _∙_}
 use native.Mathlib.Omega.{arith}
 use denote.Ref.{now}
 use Rattle.meaning.specs.Segment.{segmentCount}
 use Rattle.answers.specs.Told.{refusedBy, verdictOf}
-use Rattle.single.proofs.PlainWords.{plain-over, plain-count, plain-none-left, plain-pad, plain-fine}
-use Rattle.single.proofs.plain.check_plain.Statement.{statement}
-use Rattle.single.proofs.plain.check_plain.Tie as tie
+use Rattle.plain.proofs.PlainWords.{plain-over, plain-count, plain-none-left, plain-pad, plain-fine}
+use Rattle.plain.proofs.compress.check_plain.Statement.{statement}
+use Rattle.plain.proofs.compress.check_plain.Tie as tie
 
 too-many-rows-requires : tie.Need-too-many-rows-requires
 too-many-rows-requires c κs = search needs
