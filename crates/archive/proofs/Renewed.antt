@@ -23,7 +23,7 @@ use Rattle.answers.specs.declared.refusal.Refusal.{Refusal}
 use Rattle.answers.specs.declared.answer.Written.the-variants as written
 use Rattle.answers.specs.Told.{refusal, Wrote}
 use Rattle.answers.proofs.Tells.{wrote-none, wrote-words}
-use Rattle.rewrite.specs.Packing.{Rewritten}
+use Rattle.row_write.specs.Packing.{Rewritten}
 use Rattle.archive.specs.Anew.{anew}
 
 -- ---- the sets of an index

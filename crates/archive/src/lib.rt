@@ -11,7 +11,7 @@ ghost use Rattle.meaning.specs.Laws.{IndexFacts};
 ghost use Rattle.meaning.specs.NewIndex.{writeIndex};
 ghost use Rattle.meaning.specs.Rewriting.{setsFrom};
 ghost use Rattle.answers.specs.Told.{Wrote};
-ghost use Rattle.rewrite.specs.Packing.{Rewritten};
+ghost use Rattle.row_write.specs.Packing.{Rewritten};
 ghost use Rattle.archive.specs.Anew.{anew, BodyAdded};
 use answers::answer;
 use answers::answer::Written;

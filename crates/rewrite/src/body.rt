@@ -7,11 +7,11 @@ ghost use lib.ListN.{length};
 ghost use Rattle.meaning.specs.Limits.{mostRows};
 ghost use Rattle.meaning.specs.Format.{rowsOf, canonical};
 ghost use Rattle.meaning.specs.Laws.{SoundFacts};
-ghost use Rattle.rewrite.specs.Packing.{Rewritten};
-use crate::output;
-use crate::piece;
+ghost use Rattle.row_write.specs.Packing.{Rewritten};
 use bodies::cursor;
 use meaning::Format;
+use row_write::output;
+use row_write::piece;
 use words::rows;
 
 // The canonical body of the rows of a sound one, written to the front of `out` where `store` says so, and else only

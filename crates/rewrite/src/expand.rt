@@ -9,14 +9,14 @@ ghost use Rattle.meaning.specs.declared.Format.the-variants.{Wah};
 ghost use Rattle.meaning.specs.Format.{rowsOf};
 ghost use Rattle.meaning.specs.Laws.{WahFacts};
 ghost use Rattle.repack.specs.Filling.{rowsDone, Ready, Put};
-ghost use Rattle.rewrite.specs.Walking.{rowIn, Gives};
-use crate::piece;
+ghost use Rattle.row_write.specs.Walking.{rowIn, Gives};
 use bodies::cursor;
 use ewah::cursor::Piece;
 use meaning::Format;
 use repack::fill;
 use repack::fill::Filler;
 use repack::packer;
+use row_write::piece;
 
 // The first k rows of a piece more; a run's all have its value.
 fn put(out: &mut [u32], s: Filler, piece: Piece, k: u32) -> Filler

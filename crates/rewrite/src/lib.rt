@@ -3,7 +3,4 @@
 // Calls here have a `requires`; the public ones of `zvonurel` test their input first.
 pub mod body;
 pub mod compress;
-mod emit;
 pub mod expand;
-mod output;
-mod piece;

@@ -12,9 +12,9 @@ use Rattle.meaning.specs.declared.Format.{Format}
 use Rattle.meaning.specs.Ahead.{advanced}
 use Rattle.meaning.proofs.Formats.{width-pos, facts-some}
 use Rattle.ewah.specs.Cursors.{Stands, leftOf, piecesFrom}
-use Rattle.rewrite.specs.Walking.{rowIn}
-use Rattle.rewrite.specs.Packing.{Packed, Coming}
-use Rattle.rewrite.proofs.Walking.{At, at-start, at-next, behind, piece-some, piece-low, rows-some, piece-gives, piece-rows}
+use Rattle.row_write.specs.Walking.{rowIn}
+use Rattle.row_write.specs.Packing.{Packed, Coming}
+use Rattle.row_write.proofs.Walking.{At, at-start, at-next, behind, piece-some, piece-low, rows-some, piece-gives, piece-rows}
 use Rattle.rewrite.proofs.body.rewrite.Statement.{statement}
 use Rattle.rewrite.proofs.body.rewrite.Tie as tie
 

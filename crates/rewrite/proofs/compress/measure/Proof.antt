@@ -11,8 +11,8 @@ use Rattle.meaning.specs.Format.{width}
 use Rattle.meaning.proofs.Formats.{width-pos}
 use Rattle.body_write.proofs.Emitting.{emitted-measured}
 use Rattle.repack.proofs.PlainSegments.{segment-inside}
-use Rattle.rewrite.specs.Sending.{Sent}
-use Rattle.rewrite.proofs.Sending.{Next, next-word, sent-start, sent-growing, sent-on, sent-words}
+use Rattle.row_write.specs.Sending.{Sent}
+use Rattle.row_write.proofs.Sending.{Next, next-word, sent-start, sent-growing, sent-on, sent-words}
 use Rattle.rewrite.proofs.compress.measure.Statement.{statement}
 use Rattle.rewrite.proofs.compress.measure.Tie as tie
 

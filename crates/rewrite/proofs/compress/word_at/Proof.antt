@@ -9,7 +9,7 @@ use Rattle.meaning.specs.Format.{width}
 use Rattle.meaning.proofs.Formats.{width-pos}
 use Rattle.meaning.proofs.Cut.{rows-some, rows-le}
 use Rattle.repack.proofs.PlainSegments.{segment-is}
-use Rattle.rewrite.proofs.Sending.{word-short}
+use Rattle.row_write.proofs.Sending.{word-short}
 use Rattle.rewrite.proofs.compress.word_at.Statement.{statement}
 use Rattle.rewrite.proofs.compress.word_at.Tie as tie
 

@@ -11,8 +11,8 @@ use Rattle.meaning.specs.Format.{width}
 use Rattle.meaning.proofs.Formats.{width-pos}
 use Rattle.body_write.proofs.Emitting.{emitted-stored}
 use Rattle.repack.proofs.PlainSegments.{segment-inside}
-use Rattle.rewrite.specs.Sending.{Sent}
-use Rattle.rewrite.proofs.Sending.{Next, next-word, sent-start, sent-room, sent-on, sent-words, sent-all}
+use Rattle.row_write.specs.Sending.{Sent}
+use Rattle.row_write.proofs.Sending.{Next, next-word, sent-start, sent-room, sent-on, sent-words, sent-all}
 use Rattle.rewrite.proofs.compress.write.Statement.{statement}
 use Rattle.rewrite.proofs.compress.write.Tie as tie
 

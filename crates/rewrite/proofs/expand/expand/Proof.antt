@@ -15,7 +15,7 @@ use Rattle.meaning.proofs.RowWords.{rows-fit}
 use Rattle.meaning.specs.Ahead.{advanced}
 use Rattle.ewah.specs.Cursors.{Stands, leftOf, piecesFrom}
 use Rattle.repack.specs.Filling.{rowsDone, Ready, Laid}
-use Rattle.rewrite.proofs.Walking.{At, at-start, at-next, behind, piece-some, piece-low, piece-gives, piece-rows}
+use Rattle.row_write.proofs.Walking.{At, at-start, at-next, behind, piece-some, piece-low, piece-gives, piece-rows}
 use Rattle.rewrite.proofs.expand.expand.Statement.{statement}
 use Rattle.rewrite.proofs.expand.expand.Tie as tie
 

@@ -5,7 +5,7 @@ use lib.Pow.{pow-pos}
 use native.Mathlib.Nat.{mod-lt}
 use borrow.Author.Needs.{needs}
 use Rattle.repack.proofs.RowsPut.{put-same}
-use Rattle.rewrite.proofs.Walking.{rows-kept}
+use Rattle.row_write.proofs.Walking.{rows-kept}
 use Rattle.rewrite.proofs.expand.put.Statement.{statement}
 use Rattle.rewrite.proofs.expand.put.Tie as tie
 
