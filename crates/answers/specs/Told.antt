@@ -1,11 +1,11 @@
 -- Paper 01's outcome, number and values, for each case of an answer.
 -- Assumes nothing.
 use Prim.Native.Nat.{ℕ}
-use mathlib.Core.Bool.{Bool}
 use mathlib.Core.Path.{_≡_}
 use mathlib.Core.List.{List}
 use lib.ListN.{take}
 use Rattle.meaning.specs.Refusal.{Outcome, Verdict, sound, refused, answer}
+use Rattle.meaning.specs.declared.Row.{Row}
 use Rattle.meaning.specs.Answer.{bufferAfter, wordsReported, stretchesReported, histogramReported}
 use Rattle.answers.specs.declared.refusal.Refusal.{Refusal}
 use Rattle.answers.specs.declared.refusal.Checked.{Checked}
@@ -40,8 +40,8 @@ refusal n w = record { number = n; bitmap = 0; word = w }
 abbrev pub strayRefusal : (bitmap row : ℕ) → Refusal
 strayRefusal b r = record { number = 11; bitmap = b; word = r }
 
-unfoldable pub flagOf : Flag → Outcome Bool
-flagOf (flag.Is b) = answer b
+unfoldable pub flagOf : Flag → Outcome Row
+flagOf (flag.Is row) = answer row
 flagOf (flag.Refused r) = refusedBy r
 
 unfoldable pub numberOf : Number → Outcome ℕ

@@ -4,10 +4,11 @@ ghost use Rattle.answers.specs.Told.{refusal, strayRefusal, Counted, ref
 use crate::refusal::Checked;
 use crate::refusal::Refusal;
 use meaning::HISTOGRAM_COUNTS;
+use meaning::Row;
 
-// Whether a row is set.
+// Whether a row is set, and the first and last row of its piece.
 pub enum Flag {
-    Is(bool),
+    Is(Row),
     Refused(Refusal),
 }
 

@@ -1,23 +1,14 @@
 -- What a body has to be for its format's own walk, and that the rows are those of its format.
 -- Assumes nothing.
-use Prim.Native.Nat.{ℕ, _*_, _<_}
+use Prim.Native.Nat.{ℕ}
 use mathlib.Core.Path.{_≡_, sym, ap, subst}
 use mathlib.Core.List.{List}
-use native.Mathlib.Omega.{arith}
-use lib.ListN.{length}
 use Rattle.meaning.specs.Ewah.{ewahRows}
 use Rattle.meaning.specs.Wah.{wahRows}
-use Rattle.meaning.specs.Format.{width, segmentsOf, rowsOf}
+use Rattle.meaning.specs.Format.{rowsOf}
 use Rattle.meaning.specs.declared.Format.{Format}
 use Rattle.meaning.specs.declared.Format.the-variants.{Ewah, Wah}
 use Rattle.meaning.specs.Laws.{SoundFacts}
-use Rattle.meaning.proofs.RowWords.{rows-fit}
-use Rattle.meaning.proofs.Formats.{width-pos, facts-count}
-
--- a row lies in a segment of the body
-pub row-within : (F : Format) (R : ℕ) (b : List ℕ) → SoundFacts F R b → (r : ℕ) → r < R
-    → r < length (segmentsOf F b) * width F
-row-within F R b f r h = rw (facts-count F R b f) (omega (arith, rows-fit (width F) (width-pos F) R))
 
 -- the facts of the format that it is
 pub facts-as : (F : Format) (R : ℕ) (b : List ℕ) (G : Format) → F ≡ G → SoundFacts F R b → SoundFacts G R b

@@ -1,15 +1,22 @@
-// Whether a row is set: the walk goes from marker to marker up to its segment.
+// A row: the walk goes from marker to marker up to its segment, and reads no dirty word but its own.
 ghost use mathlib.Core.Path.{_≡_};
-ghost use Prim.Native.Nat.{_*_, _<_};
-ghost use lib.ListN.{length, getD};
-ghost use Rattle.meaning.specs.Ewah.{segments, ewahRows, dueAfter};
+ghost use Prim.Native.Nat.{_≤_, _<_};
+ghost use lib.ListN.{length};
+ghost use Rattle.meaning.specs.Limits.{mostRows};
+ghost use Rattle.meaning.specs.Ewah.{segments, pieces, dueAfter};
+ghost use Rattle.meaning.specs.Extent.{rowIn};
+ghost use Rattle.meaning.specs.Laws.{EwahFacts};
+ghost use Rattle.meaning.specs.declared.Format.the-variants.{Ewah};
+ghost use Rattle.extent.specs.Place.{PlaceOf};
 use ewah::marker;
+use extent::Place;
+use meaning::Row;
 use words::bits;
 
-// The word of segment s.
-pub fn segment(body: &[u32], s: u32) -> u32
+// Where segment s is written.
+fn locate(body: &[u32], s: u32) -> Place
     requires { ⌜ (dueAfter 0 (now body) ≡ 0) × (s < length (segments (now body))) ⌝ }
-    ensures { λ r. ⌜ r ≡ getD (segments (now (body .entry))) s 0 ⌝ }
+    ensures { λ r. ⌜ PlaceOf (segments (now (body .entry))) (pieces 0 (now (body .entry))) s r ⌝ }
 {
     let mut at = 0;
     let mut ahead = s;
@@ -18,22 +25,39 @@ pub fn segment(body: &[u32], s: u32) -> u32
         let clean = m.clean;
         let dirty = m.dirty;
         if ahead < clean {
-            return marker::segment(m.value);
+            let word = marker::segment(m.value);
+            let from = s - ahead;
+            return Place {
+                word,
+                from,
+                size: clean,
+            };
         }
         let behind = ahead - clean;
         if behind < dirty {
-            return body[at + 1 + behind as usize];
+            let word = body[at + 1 + behind as usize];
+            return Place {
+                word,
+                from: s,
+                size: 1,
+            };
         }
         ahead = behind - dirty;
         at = at + 1 + dirty as usize;
     }
-    0
+    Place {
+        word: 0,
+        from: 0,
+        size: 0,
+    }
 }
 
-// Whether row r is set.
-pub fn row(body: &[u32], r: u32) -> bool
-    requires { ⌜ (dueAfter 0 (now body) ≡ 0) × (r < length (segments (now body)) * 32) ⌝ }
-    ensures { λ x. ⌜ x ≡ ewahRows (now (body .entry)) r ⌝ }
+// The answer on row r.
+pub fn row(body: &[u32], rows: u32, r: u32) -> Row
+    requires { ⌜ (rows ≤ mostRows) × EwahFacts rows (now body) × (r < rows) ⌝ }
+    ensures { λ x. ⌜ x ≡ rowIn Ewah rows (now (body .entry)) r ⌝ }
 {
-    bits::has(segment(body, r >> 5), r & 31)
+    let place = locate(body, r >> 5);
+    let set = bits::has(place.word, r & 31);
+    extent::row(set, place.from, place.size, 32, rows)
 }

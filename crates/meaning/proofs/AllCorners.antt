@@ -1,30 +1,31 @@
--- Corner cases of the definitions, read by hand off paper 01 and requests 3 and 4: zero rows, the last segment, empty bodies and indexes, the limits, faults that come together.
+-- Corner cases of the definitions, read by hand off paper 01 and requests 3 to 5: zero rows, the last segment, empty bodies and indexes, the limits, faults that come together.
 -- Files are proved in the order of their names, so a wrong definition is refused here or in `AllReadings` before a law's proof is.
 -- Assumes nothing.
 use Prim.Native.Nat.{ℕ}
-use mathlib.Core.Bool.{Bool, true, false, not, _&&_}
+use mathlib.Core.Bool.{Bool, true, false, _&&_}
 use mathlib.Core.Path.{_≡_, refl}
 use mathlib.Core.List.{List, [], _∷_}
+use lib.Dec.{eqb}
 use lib.ListN.{replicate}
+use Rattle.meaning.specs.Rows.{bit}
 use Rattle.meaning.specs.Refusal.{Outcome, refused, answer}
-use Rattle.meaning.specs.Ewah.{ewahFault}
+use Rattle.meaning.specs.Ewah.{pieces, ewahFault}
 use Rattle.meaning.specs.Wah.{wahFault}
 use Rattle.meaning.specs.Rewriting.{rewrite, rewriteBitmap, rewriteIndex}
-use Rattle.meaning.specs.Answer.{checkBody, bodyRow, bodyCount, bodyNth, expand, compress, check, bitmapRefusal, bitmap, partOf, notOf, threshold, symmetric}
+use Rattle.meaning.specs.Answer.{checkBody, bodyRow, bodyCount, bodyNth, expand, compress, check, bitmapRefusal, bitmap, partOf, row, notOf, threshold, symmetric}
 use Rattle.meaning.specs.declared.Format.the-variants.{Ewah, Wah}
+use Rattle.meaning.specs.declared.Row.{Row}
 use Rattle.meaning.specs.Readings.{isSound, isRefused, isAnswer, isNumber, same, looped, three, ninetySix, wasteful}
 
 unfoldable pub every : List Bool → Bool
 every [] = true
 every (t ∷ ts) = t && every ts
 
-unfoldable isYes : Outcome Bool → Bool
-isYes (refused n b w) = false
-isYes (answer t) = t
-
-unfoldable isNo : Outcome Bool → Bool
-isNo (refused n b w) = false
-isNo (answer t) = not t
+-- the row is set where `set` is 1, and lies in a piece from row `first` to row `last`
+unfoldable isRow : Outcome Row → (set first last : ℕ) → Bool
+unfolding bit
+isRow (refused n b w) set first last = false
+isRow (answer t) set first last = eqb (bit (t .set)) set && eqb (t .first) first && eqb (t .last) last
 
 pub bodies : List Bool
 bodies =
@@ -54,8 +55,6 @@ bodies =
     ∷ isNumber (bodyCount Ewah 40 (0x00020003 ∷ 0xFF ∷ 1 ∷ [])) 40
     ∷ isNumber (bodyNth Ewah 40 (5 ∷ []) 39) 39
     ∷ isRefused (bodyNth Ewah 40 (5 ∷ []) 40) 8 0 0
-    ∷ isYes (bodyRow Ewah 40 (5 ∷ []) 39)
-    ∷ isRefused (bodyRow Ewah 40 (5 ∷ []) 40) 8 0 0
     ∷ isAnswer (expand Ewah 40 (5 ∷ []) 2) (0xFFFFFFFF ∷ 0xFF ∷ [])
     -- it is written so, down to one row
     ∷ isAnswer (compress Ewah 40 (0xFFFFFFFF ∷ 0xFF ∷ []) 1) (5 ∷ [])
@@ -72,15 +71,10 @@ bodies =
     ∷ isSound (checkBody Ewah 16777216 (0x0001FFFE ∷ 0x0001FFFE ∷ 0x0001FFFE ∷ 0x0001FFFE ∷ 0x0001FFFE ∷ 0x0001FFFE ∷ 0x0001FFFE ∷ 0x0001FFFE ∷ 0x00000010 ∷ []))
     ∷ isRefused (checkBody Ewah 16777217 []) 3 0 1
     ∷ isRefused (compress Ewah 16777217 [] 0) 3 0 1
-    -- rows and set rows past the last; 3 and the body's faults come before 8
-    ∷ isRefused (bodyRow Ewah 64 (5 ∷ []) 64) 8 0 0
-    ∷ isRefused (bodyRow Ewah 64 (3 ∷ []) 64) 6 0 1
+    -- set rows past the last
     ∷ isRefused (bodyNth Ewah 64 (5 ∷ []) 64) 8 0 0
     ∷ isRefused (bodyNth Ewah 0 [] 0) 8 0 0
-    ∷ isRefused (bodyRow Ewah 0 [] 0) 8 0 0
-    -- rows 5 and 64 of 96: a row, how many, each of them, and one past the last
-    ∷ isYes (bodyRow Ewah 96 ninetySix 64)
-    ∷ isNo (bodyRow Ewah 96 ninetySix 63)
+    -- rows 5 and 64 of 96: how many, each of them, and one past the last
     ∷ isNumber (bodyCount Ewah 96 ninetySix) 2
     ∷ isNumber (bodyNth Ewah 96 ninetySix 0) 5
     ∷ isNumber (bodyNth Ewah 96 ninetySix 1) 64
@@ -188,11 +182,7 @@ wahs =
     -- the longest: a fill of all segments of the most rows
     ∷ isSound (checkBody Wah 16777216 (0x80084211 ∷ []))
     ∷ isRefused (checkBody Wah 16777216 (0x80084212 ∷ [])) 6 0 0
-    -- questions: the last row, the count without pad bits, the nth
-    ∷ isYes (bodyRow Wah 40 (0xC0000002 ∷ []) 39)
-    ∷ isRefused (bodyRow Wah 40 (0xC0000002 ∷ []) 40) 8 0 0
-    ∷ isNo (bodyRow Wah 64 (0x7FFFFFFF ∷ 0 ∷ 3 ∷ []) 31)
-    ∷ isYes (bodyRow Wah 64 (0x7FFFFFFF ∷ 0 ∷ 3 ∷ []) 62)
+    -- questions: the count without pad bits, the nth
     ∷ isNumber (bodyCount Wah 40 (0xC0000002 ∷ [])) 40
     ∷ isNumber (bodyNth Wah 64 (0x7FFFFFFF ∷ 0 ∷ 3 ∷ []) 32) 63
     ∷ isRefused (bodyNth Wah 40 (0xC0000002 ∷ []) 40) 8 0 0
@@ -238,12 +228,68 @@ wahs =
     ∷ isAnswer (symmetric archive (1 ∷ []) (1 ∷ 0 ∷ []) 1) (0xC0000002 ∷ [])
     ∷ []
 
+-- a row, and the first and last row of its piece
+pub rows : List Bool
+rows =
+    -- rows past the last; 3 and the body's faults come before 8
+    isRefused (bodyRow Ewah 64 (5 ∷ []) 64) 8 0 0
+    ∷ isRefused (bodyRow Ewah 64 (3 ∷ []) 64) 6 0 1
+    ∷ isRefused (bodyRow Ewah 16777217 [] 0) 3 0 1
+    ∷ isRefused (bodyRow Ewah 0 [] 0) 8 0 0
+    ∷ isRefused (bodyRow Ewah 0 (0 ∷ 1 ∷ []) 0) 8 0 0
+    -- rows 5 and 64 of 96: a dirty word, a run, a dirty word; the same rows as three dirty words
+    ∷ isRow (bodyRow Ewah 96 ninetySix 5) 1 0 31
+    ∷ isRow (bodyRow Ewah 96 ninetySix 31) 0 0 31
+    ∷ isRow (bodyRow Ewah 96 ninetySix 32) 0 32 63
+    ∷ isRow (bodyRow Ewah 96 ninetySix 63) 0 32 63
+    ∷ isRow (bodyRow Ewah 96 ninetySix 64) 1 64 95
+    ∷ isRow (bodyRow Ewah 96 wasteful 40) 0 32 63
+    ∷ isRow (bodyRow Ewah 96 wasteful 64) 1 64 95
+    -- cut at the last real row: a run of ones, a dirty word under one marker with a run, one row
+    ∷ isRow (bodyRow Ewah 40 (5 ∷ []) 0) 1 0 39
+    ∷ isRow (bodyRow Ewah 40 (5 ∷ []) 39) 1 0 39
+    ∷ isRefused (bodyRow Ewah 40 (5 ∷ []) 40) 8 0 0
+    ∷ isRow (bodyRow Ewah 40 (0x00020003 ∷ 0xFF ∷ []) 31) 1 0 31
+    ∷ isRow (bodyRow Ewah 40 (0x00020003 ∷ 0xFF ∷ []) 32) 1 32 39
+    ∷ isRow (bodyRow Ewah 1 (3 ∷ []) 0) 1 0 0
+    -- runs of one value under two markers are two pieces, with idle markers before, between and behind
+    ∷ isRow (bodyRow Ewah 128 (5 ∷ 5 ∷ []) 63) 1 0 63
+    ∷ isRow (bodyRow Ewah 128 (5 ∷ 5 ∷ []) 64) 1 64 127
+    ∷ isRow (bodyRow Ewah 72 (0 ∷ 5 ∷ 1 ∷ 0 ∷ 3 ∷ 1 ∷ []) 10) 1 0 63
+    ∷ isRow (bodyRow Ewah 72 (0 ∷ 5 ∷ 1 ∷ 0 ∷ 3 ∷ 1 ∷ []) 71) 1 64 71
+    -- so are the two markers of a run that one cannot hold
+    ∷ isRow (bodyRow Ewah 2097152 (0x0001FFFE ∷ 0x00000002 ∷ []) 2097119) 0 0 2097119
+    ∷ isRow (bodyRow Ewah 2097152 (0x0001FFFE ∷ 0x00000002 ∷ []) 2097120) 0 2097120 2097151
+    -- a run and dirty words of its value under the same marker: each word by itself
+    ∷ isRow (bodyRow Ewah 160 (0x00060004 ∷ 0 ∷ 0 ∷ 0 ∷ []) 63) 0 0 63
+    ∷ isRow (bodyRow Ewah 160 (0x00060004 ∷ 0 ∷ 0 ∷ 0 ∷ []) 100) 0 96 127
+    -- WAH: segments of 31 rows; a fill, literals, fills of one segment, a cut at the last row
+    ∷ isRow (bodyRow Wah 40 (0xC0000002 ∷ []) 39) 1 0 39
+    ∷ isRefused (bodyRow Wah 40 (0xC0000002 ∷ []) 40) 8 0 0
+    ∷ isRow (bodyRow Wah 64 (0x7FFFFFFF ∷ 0 ∷ 3 ∷ []) 30) 1 0 30
+    ∷ isRow (bodyRow Wah 64 (0x7FFFFFFF ∷ 0 ∷ 3 ∷ []) 31) 0 31 61
+    ∷ isRow (bodyRow Wah 64 (0x7FFFFFFF ∷ 0 ∷ 3 ∷ []) 62) 1 62 63
+    ∷ isRow (bodyRow Wah 124 (0x80000002 ∷ 0x80000001 ∷ 0 ∷ []) 61) 0 0 61
+    ∷ isRow (bodyRow Wah 124 (0x80000002 ∷ 0x80000001 ∷ 0 ∷ []) 62) 0 62 92
+    ∷ isRow (bodyRow Wah 124 (0x80000002 ∷ 0x80000001 ∷ 0 ∷ []) 93) 0 93 123
+    -- of an index: its own format and rows, and 8 for the bitmap or the row
+    ∷ isRow (row archive 2 30) 0 0 30
+    ∷ isRow (row archive 2 39) 1 31 39
+    ∷ isRow (row archiveEwah 2 39) 1 32 39
+    ∷ isRefused (row archive 3 0) 8 0 0
+    ∷ isRefused (row archive 2 40) 8 0 0
+    ∷ []
+
+pub rows-hold : every rows ≡ true
+unfolding every rows isRow isRefused bodyRow row pieces ewahFault wahFault
+rows-hold = refl
+
 pub bodies-hold : every bodies ≡ true
-unfolding every bodies isYes isNo isNumber isSound isRefused isAnswer checkBody bodyRow bodyCount bodyNth expand compress ewahFault
+unfolding every bodies isNumber isSound isRefused isAnswer checkBody bodyCount bodyNth expand compress ewahFault
 bodies-hold = refl
 
 pub wahs-hold : every wahs ≡ true
-unfolding every wahs isYes isNo isNumber isSound isRefused isAnswer checkBody bodyRow bodyCount bodyNth expand compress rewrite rewriteBitmap rewriteIndex check notOf threshold symmetric ewahFault wahFault
+unfolding every wahs isNumber isSound isRefused isAnswer checkBody bodyCount bodyNth expand compress rewrite rewriteBitmap rewriteIndex check notOf threshold symmetric ewahFault wahFault
 wahs-hold = refl
 
 pub indexes-hold : every indexes ≡ true

@@ -13,7 +13,7 @@ use native.Mathlib.Omega.{arith}
 use borrow.Author.Tests.{lt-ltb, le-ltb}
 use Rattle.meaning.specs.Segment.{Segment, kind, kinds, rowsIn, segmentCount, lastRows, lastLimit, isSet, bitAt, hasRow, fromRows}
 use Rattle.meaning.proofs.Segments.{cut, cut-length, cut-inside, cut-end, cut-last, cut-below, kinds-inside, kinds-end, last-some}
-use Rattle.meaning.proofs.RowWords.{count-suc, count-zero, rows-decide, before-last}
+use Rattle.meaning.proofs.RowWords.{count-suc, count-zero, rows-decide, begins}
 
 -- a bit below k of a word cut at k
 low-bit : (x j d : ℕ) → x % 2 ^ (suc d + j) / 2 ^ j % 2 ≡ x / 2 ^ j % 2
@@ -71,7 +71,7 @@ module _ (w : ℕ) (pos : 0 < w) where
 
   pub rows-inside : (R i : ℕ) → suc i < segmentCount w R → rowsIn w R i ≡ w
   unfolding rowsIn
-  rows-inside R i h = omega (arith, before-last w pos R (suc i) h, suc-mul i w)
+  rows-inside R i h = omega (arith, begins w pos R (suc i) h, suc-mul i w)
 
   pub rows-end : (R i : ℕ) → suc i ≡ segmentCount w R → rowsIn w R i ≡ lastRows w R
   unfolding rowsIn lastRows

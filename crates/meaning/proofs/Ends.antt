@@ -130,7 +130,7 @@ run-at (suc c) x ys zero h = refl
 run-at (suc c) x ys (suc i) h = run-at c x ys i (omega arith)
 
 -- and behind
-run-past : (c x : ℕ) (ys : List ℕ) (i : ℕ) → getD (replicate c x ++ ys) (c + i) 0 ≡ getD ys i 0
+pub run-past : (c x : ℕ) (ys : List ℕ) (i : ℕ) → getD (replicate c x ++ ys) (c + i) 0 ≡ getD ys i 0
 run-past zero x ys i = ap (λ (z : ℕ). getD ys z 0) (omega arith)
 run-past (suc c) x ys i = ap (λ (z : ℕ). getD (x ∷ (replicate c x ++ ys)) z 0) e ∙ run-past c x ys i
   where

@@ -21,7 +21,7 @@ use Rattle.meaning.specs.Ahead.{heldAt, answerRows, answerSegments, Stre
 use Rattle.meaning.proofs.Formats.{width-pos}
 use Rattle.meaning.proofs.Segments.{kinds-length, kind-fill}
 use Rattle.meaning.proofs.Cut.{bit-below, kinds-at, rows-some, rows-le, rows-bit}
-use Rattle.meaning.proofs.RowWords.{word-by-bits, from-bit, from-below, from-length, before-last}
+use Rattle.meaning.proofs.RowWords.{word-by-bits, from-bit, from-below, from-length, begins}
 use Rattle.meaning.proofs.Counting.{zero-clear, full-set, count-add, count-ext, count-all}
 use Rattle.meaning.proofs.Counted.{count-none}
 
@@ -195,7 +195,7 @@ module _ (F : Format) (R : ℕ) (f : ℕ → Bool) (bodies : List (List ℕ)) wh
 
     -- the segments before it have no pad bits
     rows-before : o * w ≤ R
-    rows-before = before-last w pos R o (omega (arith, s .some, s .within))
+    rows-before = omega (arith, begins w pos R o (omega (arith, s .some, s .within)))
 
     -- how many rows it has
     abbrev its : ℕ

@@ -26,6 +26,8 @@ pub mod ColumnValues
 pub mod ColumnsHold
 pub mod BitmapPart
 pub mod Walk
+pub mod Spans
+pub mod PiecesMet
 pub mod Stretches
 pub mod Even
 pub mod Ends

@@ -18,6 +18,7 @@ use Rattle.meaning.specs.declared.Format.{Format}
 use Rattle.meaning.specs.declared.Format.the-variants.{Ewah, Wah}
 use Rattle.meaning.specs.Index.{isKind, formatOf, bitmapCount, entryPlace, startOf, lengthOf, rowCount, bodyAt, rowsAt, entriesFault, bodiesFault, headFault, indexFault}
 use Rattle.meaning.specs.Question.{intersection, union, symmetricDifference, difference, complement, byTable}
+use Rattle.meaning.specs.Extent.{rowIn}
 use Rattle.meaning.specs.NewIndex.{indexOf, writeIndex}
 use Rattle.meaning.specs.Column.{sumValue}
 use Rattle.meaning.specs.Answer as meaning
@@ -107,9 +108,9 @@ module _ (index : List ℕ) where
 
 -- ---- the questions
 
-ask-row : (R : ℕ) (p : ℕ → Bool) (r : ℕ) → Numbered (meaning.askRow R p r)
+ask-row : (F : Format) (R : ℕ) (b : List ℕ) (r : ℕ) → Numbered (meaning.askRow F R b r)
 unfolding meaning.askRow
-ask-row R p r = refuse (leb R r) 8 0 0 _ (omega arith) (answered (p r))
+ask-row F R b r = refuse (leb R r) 8 0 0 _ (omega arith) (answered (rowIn F R b r))
 
 ask-count : (R : ℕ) (p : ℕ → Bool) → Numbered (meaning.askCount R p)
 unfolding meaning.askCount
@@ -140,7 +141,7 @@ module _ (F : Format) (R : ℕ) (b : List ℕ) where
 
   pub body-row : (r : ℕ) → Numbered (meaning.bodyRow F R b r)
   unfolding meaning.bodyRow
-  body-row r = after (meaning.checkBody F R b) _ check-body (ask-row R (rowsOf F b) r)
+  body-row r = after (meaning.checkBody F R b) _ check-body (ask-row F R b r)
 
   pub body-count : Numbered (meaning.bodyCount F R b)
   unfolding meaning.bodyCount
@@ -175,7 +176,7 @@ module _ (index : List ℕ) where
 
     pub row : (r : ℕ) → Numbered (meaning.row index k r)
     unfolding meaning.row
-    row r = after (meaning.bitmapRefusal index k) _ bitmap-refusal (ask-row (rowCount index) (rowsAt index k) r)
+    row r = after (meaning.bitmapRefusal index k) _ bitmap-refusal (ask-row (formatOf index) (rowCount index) (bodyAt index k) r)
 
     pub count : Numbered (meaning.count index k)
     unfolding meaning.count

@@ -10,7 +10,7 @@ use native.Mathlib.Nat.{suc-mul, zero-mul, one-mul}
 use native.Mathlib.Omega.{arith}
 use Rattle.meaning.specs.Rows.{countBelow}
 use Rattle.meaning.specs.Segment.{segmentCount, lastLimit, lastOf, hasRow, isSet, bitAt, fill, allSet, pads}
-use Rattle.meaning.proofs.RowWords.{has-at, before-last, pad-clear, last-getD}
+use Rattle.meaning.proofs.RowWords.{has-at, begins, pad-clear, last-getD}
 use Rattle.meaning.proofs.Counted.{count-none}
 use Rattle.meaning.proofs.Counting.{count-all, full-set}
 
@@ -34,7 +34,7 @@ module _ (w : ℕ) (pos : 0 < w) (R : ℕ) (xs : List ℕ) (n : ℕ)
   unfolding isSet bitAt fill allSet
   full-row f r h =
       let j = R + r - n * w in
-      let l : n * w ≤ R = before-last w pos R n (omega arith) in
+      let l : n * w < R = begins w pos R n (omega arith) in
       let m : length xs * w ≡ n * w + w = ap (λ (k : ℕ). k * w) end ∙ suc-mul n w in
       let e : n * w + j ≡ R + r = omega arith in
       ap (hasRow w xs) (sym e)

@@ -152,10 +152,10 @@ module _ (w : ℕ) (pos : 0 < w) where
   rows-fit zero = omega arith
   rows-fit (suc r) = rw (count-suc r, suc-mul (r / w) w) (omega (arith, div-add-mod' r w, mod-lt r pos))
 
-  -- segments before the last have no pad bits
-  pub before-last : (R i : ℕ) → i < segmentCount w R → i * w ≤ R
-  before-last zero i h = absurd (omega (arith, count-zero))
-  before-last (suc r) i h = let l : i * w ≤ r = le-div-iff-mul-le pos .0 (omega (arith, count-suc r)) in omega arith
+  -- each segment begins at a row
+  pub begins : (R i : ℕ) → i < segmentCount w R → i * w < R
+  begins zero i h = absurd (omega (arith, count-zero))
+  begins (suc r) i h = let l : i * w ≤ r = le-div-iff-mul-le pos .0 (omega (arith, count-suc r)) in omega arith
 
   -- segments with no pad bit set have no bit past the last row
   pub pad-clear : (rows : ℕ) (xs : List ℕ) → length xs ≡ segmentCount w rows → lastOf xs < lastLimit w rows → (r : ℕ) → rows ≤ r → hasRow w xs r ≡ false

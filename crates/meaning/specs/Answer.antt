@@ -13,6 +13,8 @@ use Rattle.meaning.specs.Segment.{segmentCount, lastLimit, lastOf, hasRo
 use Rattle.meaning.specs.Refusal.{Outcome, refused, answer, Verdict, sound, refuseIf, _then_}
 use Rattle.meaning.specs.Format.{rowsOf, bodyFault, canonical}
 use Rattle.meaning.specs.declared.Format.{Format}
+use Rattle.meaning.specs.declared.Row.{Row}
+use Rattle.meaning.specs.Extent.{rowIn}
 use Rattle.meaning.specs.Index.{formatOf, rowCount, bitmapCount, bodyAt, rowsAt, indexFault}
 use Rattle.meaning.specs.Question.{intersection, union, symmetricDifference, difference, complement, atLeast, byTable, histogramOf, stretches}
 
@@ -43,12 +45,14 @@ unfoldable pub partOf : Outcome (List ℕ) → List ℕ
 partOf (refused number bitmap word) = []
 partOf (answer words) = words
 
--- ---- questions on a set of R rows
+-- ---- a question on a body as it is written
 
--- whether row r is set; 8 if there is no such row
-unfoldable pub askRow : (R : ℕ) → (ℕ → Bool) → (r : ℕ) → Outcome Bool
-unfolding refuseIf
-askRow R p r = refuseIf (leb R r) 8 0 0 (answer (p r))
+-- whether row r is set, and the first and last row of its piece; 8 if there is no such row
+unfoldable pub askRow : Format → (R : ℕ) → List ℕ → (r : ℕ) → Outcome Row
+unfolding refuseIf rowIn
+askRow F R body r = refuseIf (leb R r) 8 0 0 (answer (rowIn F R body r))
+
+-- ---- questions on a set of R rows
 
 -- how many rows are set
 unfoldable pub askCount : (R : ℕ) → (ℕ → Bool) → Outcome ℕ
@@ -84,9 +88,9 @@ module _ (F : Format) (R : ℕ) (body : List ℕ) where
   checkBody = rowsFault R then bodyFault F 0 0 R body
 
   -- `body_row`
-  unfoldable pub bodyRow : (r : ℕ) → Outcome Bool
-  unfolding checkBody _then_ askRow rowsOf
-  bodyRow r = checkBody then askRow R (rowsOf F body) r
+  unfoldable pub bodyRow : (r : ℕ) → Outcome Row
+  unfolding checkBody _then_ askRow
+  bodyRow r = checkBody then askRow F R body r
 
   -- `body_count`
   unfoldable pub bodyCount : Outcome ℕ
@@ -147,9 +151,9 @@ module _ (index : List ℕ) where
   bitmap k = bitmapRefusal k then answer (bodyAt index k)
 
   -- `row`
-  unfoldable pub row : (k r : ℕ) → Outcome Bool
-  unfolding bitmapRefusal _then_ askRow rowCount rowsAt
-  row k r = bitmapRefusal k then askRow (rowCount index) (rowsAt index k) r
+  unfoldable pub row : (k r : ℕ) → Outcome Row
+  unfolding bitmapRefusal _then_ askRow rowCount bodyAt
+  row k r = bitmapRefusal k then askRow (formatOf index) (rowCount index) (bodyAt index k) r
 
   -- `count`
   unfoldable pub count : (k : ℕ) → Outcome ℕ

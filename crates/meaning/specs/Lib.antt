@@ -8,6 +8,7 @@ pub mod Ewah
 pub mod Canonical
 pub mod Wah
 pub mod Format
+pub mod Extent
 pub mod Index
 pub mod Question
 pub mod Answer
@@ -18,6 +19,7 @@ pub mod Demands
 pub mod Paragraph
 pub mod Laws
 pub mod Rewriting
+pub mod PieceLaws
 pub mod ColumnLaws
 pub mod Readings
 pub mod ColumnReadings

@@ -21,7 +21,7 @@ use Rattle.meaning.specs.Question.{histogramOf}
 use Rattle.meaning.specs.Ahead.{StretchAt, answerRows}
 use Rattle.meaning.proofs.Formats.{width-pos, width-le}
 use Rattle.meaning.proofs.Counting.{count-ext, count-le, count-all}
-use Rattle.meaning.proofs.RowWords.{length-tabulate, getD-tabulate, before-last, rows-fit}
+use Rattle.meaning.proofs.RowWords.{length-tabulate, getD-tabulate, begins, rows-fit}
 use Rattle.meaning.proofs.Cut.{rows-le}
 use Rattle.meaning.proofs.Evaluated.{mask-bit, count-cut, count-in, count-out, count-mixed}
 use Rattle.words.specs.Counters.{countAt}
@@ -92,7 +92,7 @@ module _ (F : Format) (counts : List ℕ) (s : Survey) (mask : ℕ) where
     real-le = omega (arith, rows-le w (width-pos F) R i, width-le F)
 
     before : i * w ≤ R
-    before = before-last w (width-pos F) R i (omega (arith, st .some, st .within))
+    before = omega (arith, begins w (width-pos F) R i (omega (arith, st .some, st .within)))
 
     -- they are all rows from its start on, up to its end
     real-is : real ≡ min R (i * w + w) - i * w

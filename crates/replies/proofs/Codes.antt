@@ -10,6 +10,7 @@ use lib.ListN.{length, take, drop}
 use lib.Seq.{take-append-seam}
 use mir.Val.{boolByte}
 use Rattle.meaning.specs.Refusal.{Outcome, refused, answer, Verdict, Numbered}
+use Rattle.meaning.specs.declared.Row.{Row}
 use Rattle.meaning.specs.Answer.{bufferAfter, wordsReported, stretchesReported, histogramReported}
 use Rattle.meaning.specs.Demands.{ThresholdDemand}
 use Rattle.answers.specs.declared.refusal.Checked.{Checked}
@@ -27,7 +28,7 @@ use Rattle.replies.specs.declared.reply.ZvValue.{ZvValue}
 use Rattle.replies.specs.declared.reply.ZvWritten.{ZvWritten}
 use Rattle.replies.specs.declared.reply.ZvAnswered.{ZvAnswered}
 use Rattle.replies.specs.declared.reply.ZvHistogram.{ZvHistogram}
-use Rattle.replies.specs.Exported.{numberIn, bitmapIn, wordIn, flagIn, valueIn, checkedCode, flagCode, numberCode, valueCode, writtenCode, answeredCode, writtenReply, answeredReply, told, verdictTold, flagTold, numberTold, valueRead, writtenTold, answeredTold, Checks, Flags, Numbers, Values, Writes, Reports, Counts, histogramReply, histogramCode, countsTold}
+use Rattle.replies.specs.Exported.{numberIn, bitmapIn, wordIn, flagIn, firstIn, lastIn, valueIn, checkedCode, flagCode, numberCode, valueCode, writtenCode, answeredCode, writtenReply, answeredReply, told, verdictTold, flagTold, numberTold, valueRead, writtenTold, answeredTold, Checks, Flags, Numbers, Values, Writes, Reports, Counts, histogramReply, histogramCode, countsTold}
 use Rattle.meaning.proofs.Numbered.{number-of}
 
 -- ---- reading an outcome
@@ -50,12 +51,15 @@ flag-back : (b : Bool) → eqb (cond b 1 0) 1 ≡ b
 flag-back true = refl
 flag-back false = refl
 
-flag-is : (o : Outcome Bool) (x : Bool) → o ≡ answer x → eqb (flagIn o) 1 ≡ x
-unfolding flagIn
-flag-is o x e = rw e (flag-back x)
+abbrev rowRead : Outcome Row → Row
+rowRead o = record { set = eqb (flagIn o) 1; first = firstIn o; last = lastIn o }
 
-pub flags : (o : Outcome Bool) (r : ZvFlag) → Numbered o → r ≡ flagCode o → Flags o r
-flags o r n e = record { code = e; tells = ap flagTold e ∙ told-is o (eqb (flagIn o) 1) n (flag-is o) }
+flag-is : (o : Outcome Row) (x : Row) → o ≡ answer x → rowRead o ≡ x
+unfolding flagIn firstIn lastIn
+flag-is o x e = ap rowRead e ∙ ap (λ (b : Bool). record { set = b; first = x .first; last = x .last }) (flag-back (x .set))
+
+pub flags : (o : Outcome Row) (r : ZvFlag) → Numbered o → r ≡ flagCode o → Flags o r
+flags o r n e = record { code = e; tells = ap flagTold e ∙ told-is o (rowRead o) n (flag-is o) }
 
 -- of a number and of a value, which differ in their width alone
 value-is : (o : Outcome ℕ) → Numbered o → told (numberIn o) (bitmapIn o) (wordIn o) (valueIn o) ≡ o

@@ -1,12 +1,13 @@
 -- What an exported call returns for an outcome, field by field, and which outcome it tells its caller.
 -- Assumes nothing.
 use Prim.Native.Nat.{ℕ, zero, suc, _+_, _≤_}
-use mathlib.Core.Bool.{Bool, cond}
+use mathlib.Core.Bool.{cond}
 use mathlib.Core.Path.{_≡_}
 use mathlib.Core.List.{List}
 use lib.Dec.{eqb}
 use lib.ListN.{length, take, drop}
 use Rattle.meaning.specs.Refusal.{Outcome, refused, answer, Verdict}
+use Rattle.meaning.specs.declared.Row.{Row}
 use Rattle.meaning.specs.Index.{startOf, lengthOf}
 use Rattle.meaning.specs.Answer.{bufferAfter, wordsReported, stretchesReported, histogramReported, bitmap, bitmapRefusal, partOf}
 use Rattle.answers.specs.declared.refusal.Checked.{Checked}
@@ -44,10 +45,18 @@ module _ {A : Type 0} where
   ifAnswered (refused number bitmap word) n = 0
   ifAnswered (answer a) n = n
 
--- 1 for yes
-unfoldable pub flagIn : Outcome Bool → ℕ
+-- of a row: 1 for set, and the first and last row of its piece
+unfoldable pub flagIn : Outcome Row → ℕ
 flagIn (refused number bitmap word) = 0
-flagIn (answer b) = cond b 1 0
+flagIn (answer row) = cond (row .set) 1 0
+
+unfoldable pub firstIn : Outcome Row → ℕ
+firstIn (refused number bitmap word) = 0
+firstIn (answer row) = row .first
+
+unfoldable pub lastIn : Outcome Row → ℕ
+lastIn (refused number bitmap word) = 0
+lastIn (answer row) = row .last
 
 unfoldable pub valueIn : Outcome ℕ → ℕ
 valueIn (refused number bitmap word) = 0
@@ -56,8 +65,8 @@ valueIn (answer n) = n
 abbrev pub checkedCode : Verdict → ZvChecked
 checkedCode o = record { number = numberIn o; bitmap = bitmapIn o; word = wordIn o }
 
-abbrev pub flagCode : Outcome Bool → ZvFlag
-flagCode o = record { number = numberIn o; bitmap = bitmapIn o; word = wordIn o; value = flagIn o }
+abbrev pub flagCode : Outcome Row → ZvFlag
+flagCode o = record { number = numberIn o; bitmap = bitmapIn o; word = wordIn o; value = flagIn o; first = firstIn o; last = lastIn o }
 
 abbrev pub numberCode : Outcome ℕ → ZvNumber
 numberCode o = record { number = numberIn o; bitmap = bitmapIn o; word = wordIn o; value = valueIn o }
@@ -111,8 +120,8 @@ told (suc n) bitmap word a = refused (suc n) bitmap word
 abbrev pub verdictTold : ZvChecked → Verdict
 verdictTold r = told (r .number) (r .bitmap) (r .word) tt
 
-abbrev pub flagTold : ZvFlag → Outcome Bool
-flagTold r = told (r .number) (r .bitmap) (r .word) (eqb (r .value) 1)
+abbrev pub flagTold : ZvFlag → Outcome Row
+flagTold r = told (r .number) (r .bitmap) (r .word) (record { set = eqb (r .value) 1; first = r .first; last = r .last })
 
 abbrev pub numberTold : ZvNumber → Outcome ℕ
 numberTold r = told (r .number) (r .bitmap) (r .word) (r .value)
@@ -140,7 +149,7 @@ pub record Checks (o : Verdict) (r : ZvChecked) : Type 0 where
   pub code : r ≡ checkedCode o
   pub tells : verdictTold r ≡ o
 
-pub record Flags (o : Outcome Bool) (r : ZvFlag) : Type 0 where
+pub record Flags (o : Outcome Row) (r : ZvFlag) : Type 0 where
   pub code : r ≡ flagCode o
   pub tells : flagTold r ≡ o
 

@@ -20,13 +20,15 @@ pub struct ZvChecked {
     pub word: u64,
 }
 
-// `value` is 1 for a set row and 0 for another.
+// `value` is 1 for a set row and 0 for another; `first` and `last` are the first and last row of its piece.
 #[repr(C)]
 pub struct ZvFlag {
     pub number: u32,
     pub bitmap: u32,
     pub word: u64,
     pub value: u32,
+    pub first: u32,
+    pub last: u32,
 }
 
 #[repr(C)]
@@ -107,12 +109,16 @@ pub fn flag(told: Flag) -> ZvFlag
             bitmap: refusal.bitmap,
             word: refusal.word,
             value: 0,
+            first: 0,
+            last: 0,
         },
-        Flag::Is(value) => ZvFlag {
+        Flag::Is(row) => ZvFlag {
             number: 0,
             bitmap: 0,
             word: 0,
-            value: value as u32,
+            value: row.set as u32,
+            first: row.first,
+            last: row.last,
         },
     }
 }

@@ -9,6 +9,8 @@ use lib.ListN.{length, drop}
 use Rattle.meaning.specs.Refusal.{refused, answer, refuseIf}
 use Rattle.meaning.specs.Format.{canonical}
 use Rattle.meaning.specs.declared.Format.{Format}
+use Rattle.meaning.specs.declared.Row.{Row}
+use Rattle.meaning.specs.Extent.{rowIn}
 use Rattle.meaning.specs.Answer.{askRow, write}
 use Rattle.answers.specs.declared.refusal.Refusal.{Refusal}
 use Rattle.answers.specs.declared.answer.Written.{Written}
@@ -17,13 +19,13 @@ use Rattle.answers.specs.Told.{refusal, Wrote}
 use Rattle.answers.proofs.Tells.{wrote-words}
 use Rattle.plain.proofs.Buffers.{write-none}
 
-pub row-past : (R : ℕ) (p : ℕ → Bool) (r : ℕ) → R ≤ r → refused 8 0 0 ≡ askRow R p r
+pub row-past : (F : Format) (R : ℕ) (b : List ℕ) (r : ℕ) → R ≤ r → refused 8 0 0 ≡ askRow F R b r
 unfolding askRow refuseIf
-row-past R p r h = rw (le-leb R r h)
+row-past F R b r h = rw (le-leb R r h)
 
-pub row-here : (R : ℕ) (p : ℕ → Bool) (r : ℕ) (x : Bool) → r < R → x ≡ p r → answer x ≡ askRow R p r
+pub row-here : (F : Format) (R : ℕ) (b : List ℕ) (r : ℕ) (x : Row) → r < R → x ≡ rowIn F R b r → answer x ≡ askRow F R b r
 unfolding askRow refuseIf
-row-here R p r x h e = rw (lt-leb R r h, e)
+row-here F R b r x h e = rw (lt-leb R r h, e)
 
 -- a body that is only measured asks for no room
 pub not-stored : (F : Format) (R : ℕ) (p : ℕ → Bool) (out : List ℕ) → false ≡ true → length (canonical F R p) ≤ length out

@@ -32,10 +32,12 @@ module _ (index : List ℕ) (k : ℕ) (f : IndexFacts index) (below : k < bitmap
       subst (λ (G : Format). SoundFacts G R b) (sym e)
       (subst₂ (λ (n : ℕ) (l : List ℕ). SoundFacts (formatOf index) n l) (sym g) (sym h) (f .bodies k below))
 
-  -- so what is asked of them is asked of the bitmap
+  -- so what is asked of them is asked of the bitmap: of its body, and of its rows
+  pub written-as : (A : Type 0) (ask : Format → ℕ → List ℕ → A) (F : Format) (R : ℕ) (b : List ℕ)
+      → F ≡ formatOf index → R ≡ rowCount index → b ≡ bodyAt index k → ask F R b ≡ ask (formatOf index) (rowCount index) (bodyAt index k)
+  written-as A ask F R b e g h = ap (λ (G : Format). ask G R b) e ∙ ap₂ (ask (formatOf index)) g h
+
   pub asked-as : (A : Type 0) (ask : ℕ → (ℕ → Bool) → A) (F : Format) (R : ℕ) (b : List ℕ)
       → F ≡ formatOf index → R ≡ rowCount index → b ≡ bodyAt index k → ask R (rowsOf F b) ≡ ask (rowCount index) (rowsAt index k)
   unfolding rowsAt
-  asked-as A ask F R b e g h =
-      ap (λ (G : Format). ask R (rowsOf G b)) e
-      ∙ ap₂ (λ (n : ℕ) (l : List ℕ). ask n (rowsOf (formatOf index) l)) g h
+  asked-as A ask = written-as A (λ F R b. ask R (rowsOf F b))

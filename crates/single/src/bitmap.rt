@@ -5,7 +5,7 @@ ghost use lib.ListN.{length};
 ghost use Rattle.meaning.specs.Limits.{headWords};
 ghost use Rattle.meaning.specs.Rows.{countBelow};
 ghost use Rattle.meaning.specs.Refusal.{sound, refuseIf};
-ghost use Rattle.meaning.specs.Index.{rowCount, bitmapCount, rowsAt};
+ghost use Rattle.meaning.specs.Index.{formatOf, rowCount, bitmapCount, bodyAt, rowsAt};
 ghost use Rattle.meaning.specs.Laws.{IndexFacts};
 ghost use Rattle.meaning.specs.Answer as meaning;
 ghost use Rattle.answers.specs.Told.{verdictOf, flagOf, numberOf, Wrote};
@@ -29,11 +29,12 @@ pub fn check_number(index: &[u32], k: u32) -> Checked
     Checked::Sound
 }
 
-// Whether row r of bitmap k is set; 8 where there is none.
+// The answer on row r of bitmap k; 8 where there is none.
 pub fn row(index: &[u32], k: u32, r: u32) -> Flag
     requires { ⌜ IndexFacts (now index) ⌝ }
     requires { ⌜ k < bitmapCount (now index) ⌝ }
-    ensures { λ x. ⌜ flagOf x ≡ meaning.askRow (rowCount (now (index .entry))) (rowsAt (now (index .entry)) k) r ⌝ }
+    ensures { λ x. ⌜ flagOf x ≡ meaning.askRow (formatOf (now (index .entry))) (rowCount (now (index .entry)))
+        (bodyAt (now (index .entry)) k) r ⌝ }
 {
     body::row(
         contents::format(index),

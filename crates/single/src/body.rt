@@ -17,15 +17,16 @@ use body_read::row;
 use body_write::bound;
 use meaning::Format;
 
-// Whether row r is set; 8 where there is none.
+// The answer on row r; 8 where there is none.
 pub fn row(format: Format, body: &[u32], rows: u32, r: u32) -> Flag
+    requires { ⌜ rows ≤ mostRows ⌝ }
     requires { ⌜ SoundFacts format rows (now body) ⌝ }
-    ensures { λ x. ⌜ flagOf x ≡ meaning.askRow rows (rowsOf format (now (body .entry))) r ⌝ }
+    ensures { λ x. ⌜ flagOf x ≡ meaning.askRow format rows (now (body .entry)) r ⌝ }
 {
     if rows <= r {
         return Flag::Refused(answer::bad_argument());
     }
-    Flag::Is(row::row(format, body, r))
+    Flag::Is(row::row(format, body, rows, r))
 }
 
 // The nth set row; 8 where there are not so many.

@@ -1,3 +1,4 @@
 pub mod Passing
 pub mod WordBits
 pub mod LastWord
+pub mod Locating

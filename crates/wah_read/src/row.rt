@@ -1,15 +1,22 @@
-// Whether a row is set: the walk goes from word to word up to its segment.
+// A row: the walk goes from word to word up to its segment.
 ghost use mathlib.Core.Path.{_≡_};
-ghost use Prim.Native.Nat.{_*_, _<_};
-ghost use lib.ListN.{length, getD};
-ghost use Rattle.meaning.specs.Wah.{wahSegments, wahRows};
+ghost use Prim.Native.Nat.{_≤_, _<_};
+ghost use lib.ListN.{length};
+ghost use Rattle.meaning.specs.Limits.{mostRows};
+ghost use Rattle.meaning.specs.Wah.{wahSegments, wahPieces};
+ghost use Rattle.meaning.specs.Extent.{rowIn};
+ghost use Rattle.meaning.specs.Laws.{WahFacts};
+ghost use Rattle.meaning.specs.declared.Format.the-variants.{Wah};
+ghost use Rattle.extent.specs.Place.{PlaceOf};
+use extent::Place;
+use meaning::Row;
 use wah::word;
 use words::bits;
 
-// The word of segment s.
-fn segment(body: &[u32], s: u32) -> u32
+// Where segment s is written.
+fn locate(body: &[u32], s: u32) -> Place
     requires { ⌜ s < length (wahSegments (now body)) ⌝ }
-    ensures { λ r. ⌜ r ≡ getD (wahSegments (now (body .entry))) s 0 ⌝ }
+    ensures { λ r. ⌜ PlaceOf (wahSegments (now (body .entry))) (wahPieces (now (body .entry))) s r ⌝ }
 {
     let mut at = 0;
     let mut ahead = s;
@@ -17,18 +24,26 @@ fn segment(body: &[u32], s: u32) -> u32
         let x = body[at];
         let size = word::size(x);
         if ahead < size {
-            return word::spelled(x);
+            let word = word::spelled(x);
+            let from = s - ahead;
+            return Place { word, from, size };
         }
         ahead -= size;
         at += 1;
     }
-    0
+    Place {
+        word: 0,
+        from: 0,
+        size: 0,
+    }
 }
 
-// Whether row r is set.
-pub fn row(body: &[u32], r: u32) -> bool
-    requires { ⌜ r < length (wahSegments (now body)) * 31 ⌝ }
-    ensures { λ x. ⌜ x ≡ wahRows (now (body .entry)) r ⌝ }
+// The answer on row r.
+pub fn row(body: &[u32], rows: u32, r: u32) -> Row
+    requires { ⌜ (rows ≤ mostRows) × WahFacts rows (now body) × (r < rows) ⌝ }
+    ensures { λ x. ⌜ x ≡ rowIn Wah rows (now (body .entry)) r ⌝ }
 {
-    bits::has(segment(body, r / 31), r % 31)
+    let place = locate(body, r / 31);
+    let set = bits::has(place.word, r % 31);
+    extent::row(set, place.from, place.size, 31, rows)
 }

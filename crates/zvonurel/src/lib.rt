@@ -26,6 +26,7 @@ pub use answers::refusal::Checked;
 pub use answers::refusal::Refusal;
 pub use meaning::Format;
 use meaning::MOST_ROWS;
+pub use meaning::Row;
 
 // ---- one body alone, of a format: bitmap 0, with places counted in the body; too many rows are refused first
 
@@ -39,7 +40,7 @@ pub fn check_body(format: Format, body: &[u32], rows: u32) -> Checked
     bodies::check::check(format, body, rows, 0, 0)
 }
 
-// Whether a row is set.
+// Whether a row is set, and the first and last row of the piece that it lies in, as the body is written.
 pub fn body_row(format: Format, body: &[u32], rows: u32, row: u32) -> Flag
     ensures { λ r. ⌜ flagOf r ≡ meaning.bodyRow format rows (now (body .entry)) row ⌝ }
 {
@@ -144,7 +145,7 @@ pub fn bitmap(index: &[u32], k: u32) -> &[u32]
     }
 }
 
-// Whether a row of bitmap k is set.
+// Whether a row of bitmap k is set, and the first and last row of its piece in that bitmap's body.
 pub fn row(index: &[u32], k: u32, row: u32) -> Flag
     ensures { λ r. ⌜ flagOf r ≡ meaning.row (now (index .entry)) k row ⌝ }
 {

@@ -2,7 +2,7 @@
 -- `single::bitmap::row`. Assumes nothing.
 use denote.Ref.{now}
 use borrow.Author.Needs.{needs}
-use Rattle.meaning.specs.Index.{rowCount, rowsAt}
+use Rattle.meaning.specs.Index.{formatOf, rowCount, bodyAt}
 use Rattle.meaning.specs.Answer.{bitmapRefusal, askRow, row}
 use Rattle.answers.specs.Told.{flagOf}
 use Rattle.answers.proofs.Checks.{refuses, answers}
@@ -30,7 +30,7 @@ returns c =
     let k = c .before .before .before in
     let a = k .before .before .args in
     refuses (k .bitmap-refusal .result) (bitmapRefusal (now (a .index)) (a .k)) (k .bitmap-refusal .ensures)
-    (askRow (rowCount (now (a .index))) (rowsAt (now (a .index)) (a .k)) (a .row)) _ (c .before .checked .given .1)
+    (askRow (formatOf (now (a .index))) (rowCount (now (a .index))) (bodyAt (now (a .index)) (a .k)) (a .row)) _ (c .before .checked .given .1)
 
 returns-2 : tie.Need-returns-2
 unfolding row
@@ -38,7 +38,7 @@ returns-2 c =
     let k = c .before .before .before in
     let a = k .before .before .args in
     answers (k .bitmap-refusal .result) (bitmapRefusal (now (a .index)) (a .k)) (k .bitmap-refusal .ensures)
-    (askRow (rowCount (now (a .index))) (rowsAt (now (a .index)) (a .k)) (a .row)) (flagOf (c .row .result)) (c .before .enum-told .given .1)
+    (askRow (formatOf (now (a .index))) (rowCount (now (a .index))) (bodyAt (now (a .index)) (a .k)) (a .row)) (flagOf (c .row .result)) (c .before .enum-told .given .1)
     (c .row .ensures)
 
 pub row-spec : {M : Type 1} → statement M

@@ -1,10 +1,10 @@
 -- `single::bitmap::row` meets its contract: `single::body::row` of the bitmap's body. Assumes nothing.
-use mathlib.Core.Bool.{Bool}
 use mathlib.Core.Path.{_∙_}
 use denote.Ref.{now}
 use Rattle.meaning.specs.Refusal.{Outcome}
 use Rattle.meaning.specs.Answer.{askRow}
-use Rattle.single.proofs.Numbers.{facts-as, asked-as}
+use Rattle.meaning.specs.declared.Row.{Row}
+use Rattle.single.proofs.Numbers.{rows-as, facts-as, written-as}
 use Rattle.single.proofs.bitmap.row.Statement.{statement}
 use Rattle.single.proofs.bitmap.row.Tie as tie
 
@@ -20,13 +20,17 @@ rows-requires c κs = c .before .before .before .pre .0 .head .head
 row-requires : tie.Need-row-requires
 row-requires c κs =
     let s = c .before .before .before .before in
-    facts-as (now (s .args .index)) (s .args .k) (s .pre .0) (s .pre .1) _ _ _ (c .before .before .format .ensures) (c .rows .ensures) (c .before .body .ensures .0)
+    let f = s .pre .0 in (
+      rows-as (now (s .args .index)) (s .args .k) f (s .pre .1) _ (c .rows .ensures),
+      facts-as (now (s .args .index)) (s .args .k) f (s .pre .1) _ _ _ (c .before .before .format .ensures) (c .rows .ensures)
+          (c .before .body .ensures .0),
+    )
 
 returns : tie.Need-returns
 returns c =
     let s = c .before .before .before .before .before in
     c .row .ensures
-    ∙ asked-as (now (s .args .index)) (s .args .k) (s .pre .0) (s .pre .1) (Outcome Bool) (λ R p. askRow R p (s .args .r)) _ _ _
+    ∙ written-as (now (s .args .index)) (s .args .k) (s .pre .0) (s .pre .1) (Outcome Row) (λ F R b. askRow F R b (s .args .r)) _ _ _
     (c .before .before .before .format .ensures) (c .before .rows .ensures) (c .before .before .body .ensures .0)
 
 pub row-spec : {M : Type 1} → statement M
