@@ -65,6 +65,17 @@ check_threshold() {
     refuse "There are $tanks tanks, so ask for 1 to $tanks."
 }
 
+# A date and a time of day. Other characters than those of ASCII are left to the demo, which shows them so that they can
+# be seen.
+check_time() {
+    local date=$1 time=$2 LC_ALL=C
+    [[ $date$time =~ ^[\ -~]*$ ]] || return 0
+    [[ $date =~ ^[0-9]{4}-[0-9]{2}-[0-9]{2}$ && $date != 0000* && $(date -u -d "$date" +%F 2>/dev/null) == "$date" ]] ||
+        refuse "\`$date\` is no date: ask for one as 2026-03-12 22:00."
+    [[ $time =~ ^([01][0-9]|2[0-3]):[03]0$ ]] ||
+        refuse "\`$time\` is none of the times 00:00, 00:30 and so on to 23:30: ask for one as 2026-03-12 22:00."
+}
+
 # Standard input is left to the demo, whose log may be that. The library that was just proved is linked, and the demo
 # lands in $commands, whatever the caller has set.
 build_demo() {

@@ -6,6 +6,7 @@ use std::path::Path;
 
 use zvonurel::{Format, Refusal, ENTRY_WORDS, HEAD_WORDS, INDEX_KIND, WAH_FILL_SHIFT};
 
+use crate::calendar::Span;
 use crate::colour::Colour;
 use crate::file;
 use crate::index::{bitmaps, tank_and_colour, told, Asked};
@@ -15,17 +16,28 @@ use crate::report::{compared, Question};
 
 pub fn report([archive, log, colours, t]: [&OsString; 4], program: Option<&OsString>) -> Result<String, String> {
     let question = Question::read(log, colours, t)?;
-    let path = Path::new(archive);
-    let words = file::words(path)?;
-    suits(&words, &question.log).map_err(|why| format!("{}: {why}", path.display()))?;
+    let words = read(archive, &question.log)?;
     let asked = Asked::new(Format::Wah, words, &question.colours, question.t);
     let answer = asked.answer().map_err(told)?;
     let same = same_as_log(&question, &answer.rows)?;
     let compared = compared(program, &asked, &answer)?;
-    let (sound, drawn) = (size(&asked.index), question.drawn(&answer));
+    let (sound, drawn) = (sound_line(&asked.index), question.drawn(&answer));
     let rewritten = rewritten(&asked.index).map_err(told)?;
     let damaged = damaged(&asked.index, &question.log)?;
-    Ok(format!("Archive: {sound}; it is sound, and is asked as it is.\n{drawn}{same}{compared}\n{rewritten}{damaged}"))
+    Ok(format!("{sound}\n{drawn}{same}{compared}\n{rewritten}{damaged}"))
+}
+
+/// The words of a sound archive with the half hours and the bitmaps of the log.
+pub fn read(archive: &OsStr, log: &Log<Colour>) -> Result<Vec<u32>, String> {
+    let path = Path::new(archive);
+    let words = file::words(path)?;
+    suits(&words, log).map_err(|why| format!("{}: {why}", path.display()))?;
+    Ok(words)
+}
+
+/// What is said of a sound archive.
+pub fn sound_line(wah: &[u32]) -> String {
+    format!("Archive: {}; it is sound, and is asked as it is.", size(wah))
 }
 
 /// Writes the bitmaps of a log as an archive.
@@ -80,16 +92,20 @@ fn fault(refusal: &Refusal, log: &Log<Colour>) -> String {
 /// One line that says that the log, in EWAH, gives the same half hours, or at which one it does not.
 fn same_as_log(question: &Question, rows: &[u32]) -> Result<String, String> {
     let log = question.of_log()?.answer().map_err(told)?.rows;
-    let same = rows.iter().zip(&log).take_while(|(archived, logged)| archived == logged).count();
-    if let Some(row) = rows.get(same).into_iter().chain(log.get(same)).min() {
-        let (here, there) = if rows.get(same) == Some(row) { ("archive", "log") } else { ("log", "archive") };
-        let time = question.log.span().moment(*row as usize).shown(true);
-        return Err(format!("{time}: the {here} lists this half hour, and the {there} does not: name its own log."));
-    }
+    same(question.log.span(), rows, &log)?;
     Ok(match rows.len() {
         0 => "The log, put into EWAH, lists no half hour either.\n".to_string(),
         n => format!("The log, put into EWAH, lists the same {}.\n", count(n, "half hour")),
     })
+}
+
+/// Whether an archive and a log list the same half hours, or the first that but one of them lists.
+pub fn same(span: Span, archived: &[u32], logged: &[u32]) -> Result<(), String> {
+    let same = archived.iter().zip(logged).take_while(|(archived, logged)| archived == logged).count();
+    let Some(row) = archived.get(same).into_iter().chain(logged.get(same)).min() else { return Ok(()) };
+    let (here, there) = if archived.get(same) == Some(row) { ("archive", "log") } else { ("log", "archive") };
+    let time = span.moment(*row as usize).shown(true);
+    Err(format!("{time}: the {here} lists this half hour, and the {there} does not: name its own log."))
 }
 
 /// The archive in EWAH, and that in WAH again: how many words each has.

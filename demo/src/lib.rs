@@ -12,6 +12,7 @@ mod index;
 pub mod load;
 mod log;
 mod name;
+mod named;
 mod number;
 mod program;
 mod reading;

@@ -4,22 +4,19 @@
 use std::ffi::{OsStr, OsString};
 use std::path::Path;
 
-use crate::calendar::{Moment, Span};
 use crate::columns::Columns;
 use crate::index::told;
 use crate::log::Log;
-use crate::name::Name;
 use crate::number::count;
 use crate::reading::{milligrams, Reading};
 use crate::report::read_line;
-use crate::text::{joined, printable};
-use crate::{draw, file};
+use crate::{draw, file, named};
 
 /// Without a date and a time the last half hour is asked, and without two names the log's first two tanks.
 pub fn report(log: &OsStr, time: Option<[&OsString; 2]>, names: Option<[&OsString; 2]>) -> Result<String, String> {
-    let time = time.map(moment).transpose()?;
+    let time = time.map(named::moment).transpose()?;
     let log = file::read(Path::new(log))?;
-    let row = row(log.span(), time)?;
+    let row = time.map_or(Ok(log.span().rows - 1), |time| named::row(log.span(), time))?;
     let pair = pair(&log, names)?;
     let columns = Columns::new(&log).map_err(told)?;
     let sum = columns.sum(pair).map_err(told)?;
@@ -32,42 +29,17 @@ pub fn report(log: &OsStr, time: Option<[&OsString; 2]>, names: Option<[&OsStrin
     Ok(format!("{read}\n{added}\n\n{readings}\n{picture}Both had a reading:\n\n{spells}{compared}"))
 }
 
-/// The half hour that is asked for.
-fn moment(time: [&OsString; 2]) -> Result<Moment, String> {
-    let [date, clock] = time.map(|word| word.to_string_lossy());
-    Moment::read(&date, &clock).map_err(|what| format!("{what}: ask for one as 2026-03-12 22:00."))
-}
-
-fn row(span: Span, time: Option<Moment>) -> Result<usize, String> {
-    let last = span.rows - 1;
-    let Some(time) = time else { return Ok(last) };
-    span.row(time).ok_or_else(|| {
-        let [asked, first, last] = [time, span.from, span.moment(last)].map(|moment| moment.shown(true));
-        format!("{asked} is not in the log: ask for one from {first} to {last}.")
-    })
-}
-
 /// The places of the two tanks.
 fn pair(log: &Log<Reading>, names: Option<[&OsString; 2]>) -> Result<[usize; 2], String> {
     if log.tanks.len() < 2 {
         return Err("There is 1 tank, and a sum takes two: ask a log of more.".to_string());
     }
     let Some([first, second]) = names else { return Ok([0, 1]) };
-    let (first, second) = (tank(log, first)?, tank(log, second)?);
+    let (first, second) = (named::tank(log, first)?, named::tank(log, second)?);
     if first == second {
         return Err(format!("`{}` is named twice: name two tanks.", log.tanks[first].name.text));
     }
     Ok([first, second])
-}
-
-/// The place of the tank of this name, however it is written.
-fn tank(log: &Log<Reading>, name: &OsStr) -> Result<usize, String> {
-    let text = name.to_string_lossy();
-    let place = Name::read(&text).ok().and_then(|name| log.tanks.iter().position(|tank| tank.name.same(&name)));
-    place.ok_or_else(|| {
-        let names: Vec<&str> = log.tanks.iter().map(|tank| tank.name.text.as_str()).collect();
-        format!("There is no tank `{}`: the log has {}.", printable(&text), joined(&names, "and"))
-    })
 }
 
 fn names(log: &Log<Reading>, pair: [usize; 2]) -> [&str; 2] {
