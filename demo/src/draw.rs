@@ -87,7 +87,7 @@ pub fn sums(span: Span, sums: &[Option<u64>]) -> String {
 }
 
 /// So many half hours: `10 h 30 min`, `4 h`, `30 min`.
-fn length(half_hours: usize) -> String {
+pub fn length(half_hours: usize) -> String {
     let hours = grouped(half_hours / 2);
     match (half_hours / 2, half_hours % 2) {
         (0, 1) => "30 min".to_string(),

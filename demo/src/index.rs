@@ -44,6 +44,11 @@ pub fn tank_and_colour(bitmap: u32) -> (usize, Colour) {
     (bitmap / colours, Colour::ALL[bitmap % colours])
 }
 
+/// The number of the bitmap of a tank's place and a colour.
+pub fn bitmap_of(tank: usize, colour: Colour) -> u32 {
+    (tank * Colour::ALL.len() + colour as usize) as u32
+}
+
 impl Asked {
     /// A sound index in this format, with its bitmaps in that order.
     pub fn new(format: Format, index: Vec<u32>, colours: &[Colour], t: usize) -> Asked {
@@ -77,5 +82,19 @@ impl Asked {
     /// The lines that the program begins an answer of so many rows with.
     pub fn program_head(&self, set: usize) -> String {
         format!("rows {}\nnamed {}\nthreshold {}\nset {set}\n", self.rows, self.list.len(), self.t)
+    }
+}
+
+#[cfg(test)]
+mod tests {
+    use super::*;
+
+    #[test]
+    fn every_tank_and_colour_has_its_bitmap() {
+        for bitmap in 0..63 {
+            let (tank, colour) = tank_and_colour(bitmap);
+            assert_eq!(bitmap_of(tank, colour), bitmap);
+        }
+        assert_eq!(tank_and_colour(4), (1, Colour::Amber));
     }
 }

@@ -11,6 +11,7 @@ mod file;
 mod index;
 pub mod load;
 mod log;
+pub mod moment;
 mod name;
 mod named;
 mod number;

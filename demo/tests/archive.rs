@@ -7,7 +7,7 @@ mod numbers;
 use std::fs;
 use std::path::{Path, PathBuf};
 
-use common::{archive, log_text, repository, tanks, Folder, Told};
+use common::{archive, log_text, made, repository, tanks, Folder, Told};
 use numbers::{Numbers, BEGINNINGS};
 
 /// The words of a file.
@@ -23,12 +23,6 @@ fn bytes(words: &[u32]) -> Vec<u8> {
 
 fn asked(archive_: &Path, log: &Path, colours: &str, t: &str) -> Told {
     archive(&[archive_.as_os_str(), log.as_os_str(), colours.as_ref(), t.as_ref()])
-}
-
-fn made(folder: &Folder, log: &Path) -> PathBuf {
-    let path = folder.path("old.wah");
-    archive(&["--make".as_ref(), log.as_os_str(), path.as_os_str()]).answered();
-    path
 }
 
 /// Two tanks of 70 half hours, which in WAH are three segments, the last one of 8: green but for the first's half hour

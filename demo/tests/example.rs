@@ -1,5 +1,5 @@
-//! The scripts `example/run`, `example/ammonia` and `example/archive`: what they refuse before anything is built, and
-//! what they print where all was built.
+//! The scripts `example/run`, `example/ammonia`, `example/archive` and `example/moment`: what they refuse before anything
+//! is built, and what they print where all was built.
 
 mod common;
 #[path = "common/mock.rs"]
@@ -10,7 +10,7 @@ use std::os::unix::fs::symlink;
 use std::path::Path;
 use std::process::Command;
 
-use common::{log_text, readings_text, repository, run, Folder, Told, AMMONIA, ARCHIVE, TANKS};
+use common::{log_text, readings_text, repository, run, Folder, Told, AMMONIA, ARCHIVE, MOMENT, TANKS};
 use mock::Mock;
 
 fn unbuilt(folder: &Folder, arguments: &[&str]) -> Told {
@@ -124,6 +124,32 @@ fn a_wrong_question_to_an_archive_is_refused_in_the_words_of_the_demo() {
 }
 
 #[test]
+fn a_wrong_question_on_a_half_hour_is_refused_in_the_words_of_the_demo() {
+    let folder = Folder::new();
+    folder.write("log.txt", log_text("2026-03-02 00:00", &["gar"]));
+    for arguments in [
+        &["log.txt", "tank 1", "2026-02-29", "00:15"][..],
+        &["none.txt", "pond", "2026-3-2", "00:00", "blue", "none.wah"],
+        &["log.txt", "tank 1", "2026-03-02", "00:15"],
+        &["none.txt", "pond", "2026-03-02", "24:00", "blue"],
+        &["none.txt", "pond", "2026-03-02", "00:00", "blue"],
+        &["log.txt", "tank 1", "2026-03-02", "00:00", "red+red", "none.wah"],
+        &["log.txt", "tank 1", "2026-03-02", "00:00", ""],
+        &["none.txt", "tank 1", "2026-03-02", "00:00"],
+        &[".", "tank 1", "2026-03-02", "00:00", "red", "none.wah"],
+        &["log.txt", "pond", "2027-03-02", "00:00", "red", "none.wah"],
+        &["log.txt", "tank 1", "2026-03-02", "00:00", "red", "."],
+        &["log.txt", "tank 1", "2026-03-02", "00:00", "red", ""],
+    ] {
+        refused_alike(&folder, "example/moment", MOMENT, arguments);
+    }
+    let usage = "Usage: example/moment [LOG TANK DATE TIME [COLOURS [ARCHIVE]]].";
+    for arguments in [&["log.txt"][..], &["log.txt", "tank 1"], &["log.txt", "tank 1", "2026-03-02"], &["1"; 7]] {
+        unbuilt_script(&folder, "example/moment", arguments).refused(usage);
+    }
+}
+
+#[test]
 fn wrong_arguments_beside_those_of_the_week() {
     let folder = Folder::new();
     let week = repository("example/week.txt");
@@ -152,6 +178,8 @@ fn help_builds_nothing() {
         assert!(out.starts_with("Usage: example/ammonia [LOG [DATE TIME [FIRST SECOND]]].\n"), "{out}");
         let out = unbuilt_script(&folder, "example/archive", arguments).answered();
         assert!(out.starts_with("Usage: example/archive [ARCHIVE [LOG [COLOURS [T]]]].\n"), "{out}");
+        let out = unbuilt_script(&folder, "example/moment", arguments).answered();
+        assert!(out.starts_with("Usage: example/moment [LOG TANK DATE TIME [COLOURS [ARCHIVE]]].\n"), "{out}");
     }
 }
 
@@ -171,6 +199,9 @@ fn what_is_right_is_built() {
         ("example/archive", &[]),
         // whether it is an archive is told by the demo
         ("example/archive", &["log.txt", "log.txt", "red", "2"]),
+        ("example/moment", &[]),
+        ("example/moment", &["log.txt", "tank 1", "2024-02-29", "23:30"]),
+        ("example/moment", &["log.txt", "pond", "2024-02-29", "23:30", "red+green", "log.txt"]),
         // what can't be seen is shown by the demo
         ("example/ammonia", &["log.txt", "2026-03-09\u{200b}", "00:00"]),
     ] {
@@ -259,6 +290,24 @@ fn an_archive_stands_alone_on_standard_output() {
     assert_eq!((told.status, told.out.as_str()), (Some(0), whole.as_str()), "{}", told.err);
     mock.folder.write("else where/my old.wah", "cut off");
     let told = run(&mut command);
+    assert!(told.status == Some(1) && told.out.is_empty() && told.err.ends_with("Nothing was answered.\n"), "{told:?}");
+}
+
+/// Where nothing is named the week and its archive are asked, and else what is named.
+#[test]
+fn a_half_hour_stands_alone_on_standard_output() {
+    let mock = Mock::new();
+    let whole = fs::read_to_string(repository("example/moment-tank-10.txt")).expect("the expected answer");
+    let script = mock.path("example/moment");
+    let told = run(mock.command(&script).env("ZVONUREL_LIB", "elsewhere"));
+    assert_eq!((told.status, told.out.as_str()), (Some(0), whole.as_str()), "{}", told.err);
+    let week = fs::read(mock.path("example/week.txt")).expect("the week");
+    let log = mock.folder.write("else where/my week.txt", week);
+    let words = ["tank 4", "2026-03-03", "22:30", "amber"];
+    let told = run(mock.command(&script).arg("my week.txt").args(words).current_dir(log.parent().expect("a folder")));
+    let demo = run(Command::new(MOMENT).arg(&log).args(words));
+    assert_eq!((told.status, told.out), (Some(0), demo.out), "{}", told.err);
+    let told = run(mock.command(&script).arg(&log).args(["tank 13", "2026-03-03", "22:30"]));
     assert!(told.status == Some(1) && told.out.is_empty() && told.err.ends_with("Nothing was answered.\n"), "{told:?}");
 }
 

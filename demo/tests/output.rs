@@ -7,7 +7,7 @@ use std::os::fd::OwnedFd;
 use std::os::unix::net::UnixStream;
 use std::process::{Command, Stdio};
 
-use common::{ammonia, archive, repository, run, tanks, TANKS};
+use common::{ammonia, archive, moment, repository, run, tanks, TANKS};
 
 fn week() -> Command {
     let mut command = Command::new(TANKS);
@@ -34,6 +34,12 @@ fn help_is_no_fault() {
             "{out}"
         );
         let words = ["ARCHIVE", "LOG", "COLOURS", "T ", "PROGRAM"];
+        assert!(words.iter().all(|word| out.contains(&format!("\n  {word}"))), "{out}");
+    }
+    for arguments in [&["-h"][..], &["--help"], &["log", "-h"], &["x", "x", "x", "x", "x", "x", "x", "--help"]] {
+        let out = moment(arguments).answered();
+        assert!(out.starts_with("Usage: moment LOG TANK DATE TIME [COLOURS [ARCHIVE]].\n"), "{out}");
+        let words = ["LOG", "TANK", "DATE TIME", "COLOURS", "ARCHIVE"];
         assert!(words.iter().all(|word| out.contains(&format!("\n  {word}"))), "{out}");
     }
 }

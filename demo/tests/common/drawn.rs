@@ -1,5 +1,8 @@
 //! What the demo should draw of a log, by a second program, beside the demo's.
 
+// each file of tests uses a part of it
+#![allow(dead_code)]
+
 use crate::days::Day;
 
 /// What was read. `whole` has the half hours and the one behind the last, with their years.

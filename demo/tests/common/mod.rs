@@ -9,10 +9,11 @@ use std::process::{Command, Output};
 use std::sync::atomic::{AtomicUsize, Ordering};
 use std::{env, fs, process};
 
-/// The demo: its command on colours, that on readings, and that on an old archive.
+/// The demo: its command on colours, that on readings, that on an old archive, and that on one half hour.
 pub const TANKS: &str = env!("CARGO_BIN_EXE_tanks");
 pub const AMMONIA: &str = env!("CARGO_BIN_EXE_ammonia");
 pub const ARCHIVE: &str = env!("CARGO_BIN_EXE_archive");
+pub const MOMENT: &str = env!("CARGO_BIN_EXE_moment");
 
 /// What every refusal ends with.
 pub const REFUSED: &str = "Nothing was answered.\n";
@@ -122,4 +123,15 @@ pub fn ammonia<S: AsRef<OsStr>>(arguments: &[S]) -> Told {
 
 pub fn archive<S: AsRef<OsStr>>(arguments: &[S]) -> Told {
     run(Command::new(ARCHIVE).args(arguments))
+}
+
+/// Makes the archive of a log.
+pub fn made(folder: &Folder, log: &Path) -> PathBuf {
+    let path = folder.path("old.wah");
+    archive(&["--make".as_ref(), log.as_os_str(), path.as_os_str()]).answered();
+    path
+}
+
+pub fn moment<S: AsRef<OsStr>>(arguments: &[S]) -> Told {
+    run(Command::new(MOMENT).args(arguments))
 }
