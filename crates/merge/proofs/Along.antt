@@ -18,7 +18,7 @@ use Rattle.meaning.proofs.Sums.{sum-le, sum-add, sum-mono}
 use Rattle.ewah.specs.declared.cursor.Piece as code
 use Rattle.ewah.specs.declared.cursor.Piece.the-variants.{Clean, Dirty}
 use Rattle.ewah.specs.Cursors.{ValueLow, leftOf}
-use Rattle.words.specs.Counters.{countAt}
+use Rattle.counters.specs.Counters.{countAt}
 use Rattle.walk.specs.declared.survey.Survey.{Survey}
 use Rattle.walk.specs.Queries.{cursorOf, Standing, placeBody}
 use Rattle.walk.specs.Surveys.{onesIn, dirtyIn, bitIn, Surveyed, MovedAll}

@@ -11,7 +11,7 @@ use Rattle.meaning.specs.declared.Format.{Format}
 use Rattle.meaning.proofs.Formats.{width-pos, width-le}
 use Rattle.meaning.proofs.Cut.{rows-some, rows-le}
 use Rattle.meaning.proofs.Evaluated.{run-zeros, run-ones, low-word}
-use Rattle.words.specs.Counters.{countAt}
+use Rattle.counters.specs.Counters.{countAt}
 use Rattle.walk.specs.declared.survey.Survey.{Survey}
 use Rattle.merge.specs.declared.evaluate.Operation.{Operation}
 use Rattle.merge.specs.declared.evaluate.Part.the-variants.{Run, Word}

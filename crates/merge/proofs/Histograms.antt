@@ -24,7 +24,7 @@ use Rattle.meaning.proofs.Counting.{count-ext, count-le, count-all}
 use Rattle.meaning.proofs.RowWords.{length-tabulate, getD-tabulate, begins, rows-fit}
 use Rattle.meaning.proofs.Cut.{rows-le}
 use Rattle.meaning.proofs.Evaluated.{mask-bit, count-cut, count-in, count-out, count-mixed}
-use Rattle.words.specs.Counters.{countAt}
+use Rattle.counters.specs.Counters.{countAt}
 use Rattle.walk.specs.declared.survey.Survey.{Survey}
 use Rattle.walk.specs.Surveys.{MovedAll}
 use Rattle.merge.specs.Merges.{bodiesOf}

@@ -27,7 +27,7 @@ use Rattle.ewah.specs.declared.cursor.Piece as code
 use Rattle.ewah.specs.declared.cursor.Piece.the-variants.{Clean, Dirty}
 use Rattle.ewah.specs.Cursors.{ValueLow, leftOf, pieceThen, piecesFrom}
 use Rattle.bodies.proofs.Spans.{ahead-of}
-use Rattle.words.specs.Counters.{countAt}
+use Rattle.counters.specs.Counters.{countAt}
 use Rattle.words.proofs.BitLaws.{bit-set}
 use Rattle.walk.specs.declared.survey.Survey.{Survey}
 use Rattle.walk.specs.Queries.{cursorOf, CursorAt, Standing, placeBody}

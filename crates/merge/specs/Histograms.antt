@@ -11,7 +11,7 @@ use Rattle.meaning.specs.Segment.{allSet, rowsIn}
 use Rattle.meaning.specs.Format.{width}
 use Rattle.meaning.specs.declared.Format.{Format}
 use Rattle.meaning.specs.Ahead.{StretchAt, answerRows}
-use Rattle.words.specs.Counters.{countAt}
+use Rattle.counters.specs.Counters.{countAt}
 use Rattle.walk.specs.declared.survey.Survey.{Survey}
 
 -- of the rows of the first o segments, how many exactly c of the bodies have

@@ -7,12 +7,11 @@ ghost use Rattle.meaning.specs.Limits.{mostNamed, histogramCounts};
 ghost use Rattle.meaning.specs.Segment.{isSet, allSet};
 ghost use Rattle.meaning.specs.Format.{width};
 ghost use Rattle.meaning.specs.declared.Format.{Format};
-ghost use Rattle.words.specs.Counters.{countAt};
+ghost use Rattle.counters.specs.Counters.{countAt};
 ghost use Rattle.merge.specs.Operations.{chosen, LowNumber};
 ghost use Rattle.merge.specs.Parts.{Evaluated};
 use meaning::PLANES;
 use walk::survey::Survey;
-use words::counters;
 use words::rows;
 
 // A row is in the answer where at least so many of the list have it; where exactly so many have it; where the table

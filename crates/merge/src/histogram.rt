@@ -9,14 +9,13 @@ ghost use Rattle.meaning.specs.Format.{rowsOf};
 ghost use Rattle.meaning.specs.declared.Format.{Format};
 ghost use Rattle.meaning.specs.Index.{formatOf, rowCount};
 ghost use Rattle.meaning.specs.Question.{histogramOf};
-ghost use Rattle.words.specs.Counters.{countAt};
+ghost use Rattle.counters.specs.Counters.{countAt};
 ghost use Rattle.merge.specs.Merges.{Walkable, bodiesOf};
 ghost use Rattle.merge.specs.Histograms.{StretchCounted};
 use meaning::HISTOGRAM_COUNTS;
 use walk::survey;
 use walk::survey::Survey;
 use words::bits;
-use words::counters;
 use words::rows;
 
 // The numbers with the rows of a stretch counted in, of segments of that width, of whose last one the mask has the

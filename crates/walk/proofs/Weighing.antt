@@ -11,7 +11,7 @@ use Rattle.meaning.specs.Limits.{mostNamed, counterPlanes}
 use Rattle.meaning.specs.Rows.{sumBelow}
 use Rattle.meaning.specs.Segment.{bitAt}
 use Rattle.meaning.proofs.Sums.{sum-ext, sum-le}
-use Rattle.words.specs.Counters.{countAt}
+use Rattle.counters.specs.Counters.{countAt}
 use Rattle.words.proofs.BitLaws.{bit-lt}
 use Rattle.ewah.specs.declared.cursor.Cursor.{Cursor}
 use Rattle.ewah.specs.declared.cursor.Piece as code

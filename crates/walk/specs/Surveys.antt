@@ -11,7 +11,7 @@ use Rattle.meaning.specs.declared.Format.{Format}
 use Rattle.ewah.specs.declared.cursor.Piece as code
 use Rattle.ewah.specs.declared.cursor.Piece.the-variants.{Clean, Dirty}
 use Rattle.ewah.specs.Cursors.{InOrder, leftOf}
-use Rattle.words.specs.Counters.{countAt}
+use Rattle.counters.specs.Counters.{countAt}
 use Rattle.walk.specs.declared.survey.Survey.{Survey}
 use Rattle.walk.specs.Queries.{cursorOf, CursorAt, Standing}
 

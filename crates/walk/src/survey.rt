@@ -17,7 +17,6 @@ use ewah::cursor::Piece;
 use meaning::Format;
 use meaning::PLANES;
 use meaning::QUERY_NUMBERS;
-use words::counters;
 
 // The fewest segments that a piece has left, the places in a run of ones, those on a dirty word, and for each row the
 // dirty words that have it, as counters.

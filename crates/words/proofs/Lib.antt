@@ -1,6 +1,5 @@
 pub mod BitLaws
 pub mod Tests
-pub mod CounterLaws
 pub mod Entries
 pub mod Adders
 pub mod Segmented

@@ -7,7 +7,7 @@ use native.Mathlib.Omega.{arith}
 use borrow.Author.Needs.{needs}
 use borrow.Author.Tests.{le-leb, ne-eqb}
 use Rattle.meaning.proofs.Counting.{zero-clear, full-set}
-use Rattle.words.specs.Counters.{countAt}
+use Rattle.counters.specs.Counters.{countAt}
 use Rattle.words.proofs.Tests.{same-leb, eqb-more}
 use Rattle.merge.specs.Operations.{chosen}
 use Rattle.merge.proofs.evaluate.word.Statement.{statement}

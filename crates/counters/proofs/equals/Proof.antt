@@ -1,4 +1,4 @@
--- `words::counters::equals` meets its contract. The invariant: the bits of r say how the digits below k compare.
+-- `counters::equals` meets its contract. The invariant: the bits of r say how the digits below k compare.
 -- Assumes nothing.
 use mathlib.Core.Bool.{not, _&&_, and-true}
 use mathlib.Core.Path.{_≡_, sym, ap, _∙_}
@@ -10,12 +10,12 @@ use mir.Syntax.{w32}
 use mir.Val.{Fits}
 use Rattle.meaning.specs.Limits.{counterPlanes}
 use Rattle.meaning.specs.Segment.{isSet}
 use Rattle.words.proofs.BitLaws.{and-set, and-not-set}
-use Rattle.words.proofs.CounterLaws.{Compared, compared-none, compared-more, compared-all, agrees, agrees-one, agrees-zero}
+use Rattle.counters.proofs.CounterLaws.{Compared, compared-none, compared-more, compared-all, agrees, agrees-one, agrees-zero}
 use borrow.Author.Needs.{needs}
 use native.Mathlib.Omega.{arith}
-use Rattle.words.proofs.counters.equals.Statement.{statement}
-use Rattle.words.proofs.counters.equals.Tie as tie
+use Rattle.counters.proofs.equals.Statement.{statement}
+use Rattle.counters.proofs.equals.Tie as tie
 
 abbrev Inv-loop : tie.InvT-loop
 Inv-loop t planes r₀ k₀ r k = (k ≤ counterPlanes) × Compared agrees 32 planes t r k

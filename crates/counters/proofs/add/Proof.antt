@@ -1,13 +1,13 @@
--- `words::counters::add` meets its contract. The invariant: the word has been added to the planes below k, up to the carry.
+-- `counters::add` meets its contract. The invariant: the word has been added to the planes below k, up to the carry.
 -- Assumes nothing.
 use mathlib.Core.Path.{_≡_}
 use Prim.Native.Nat.{_-_, _≤_}
 use Rattle.meaning.specs.Limits.{counterPlanes}
-use Rattle.words.proofs.CounterLaws.{Added, added-none, added-more, added-early, added-all}
+use Rattle.counters.proofs.CounterLaws.{Added, added-none, added-more, added-early, added-all}
 use borrow.Author.Needs.{needs}
 use native.Mathlib.Omega.{arith}
-use Rattle.words.proofs.counters.add.Statement.{statement}
-use Rattle.words.proofs.counters.add.Tie as tie
+use Rattle.counters.proofs.add.Statement.{statement}
+use Rattle.counters.proofs.add.Tie as tie
 
 abbrev Inv-loop : tie.InvT-loop
 Inv-loop x r₀ carry₀ k₀ r carry k = (k ≤ counterPlanes) × Added r₀ x r carry k

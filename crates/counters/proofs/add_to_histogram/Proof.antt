@@ -1,4 +1,4 @@
--- `words::counters::add_to_histogram` meets its contract. The invariant: the counts below c have grown, the others are as they were.
+-- `counters::add_to_histogram` meets its contract. The invariant: the counts below c have grown, the others are as they were.
 -- Assumes nothing.
 use native.Mathlib.Decide.{decLe}
 use mathlib.Core.Bool.{Bool, _&&_, and-false}
@@ -15,14 +15,14 @@ use Rattle.meaning.specs.Rows.{countBelow}
 use Rattle.meaning.specs.Segment.{isSet}
 use Rattle.meaning.proofs.Counting.{count-ext, count-le}
 use Rattle.meaning.proofs.Counted.{count-none}
-use Rattle.words.specs.Counters.{countAt}
+use Rattle.counters.specs.Counters.{countAt}
 use Rattle.words.proofs.BitLaws.{and-set}
 use Rattle.words.proofs.Tests.{eqb-more}
 use Rattle.words.proofs.Entries.{Filled, filled-from, filled-more}
 use borrow.Author.Needs.{needs}
 use native.Mathlib.Omega.{arith}
-use Rattle.words.proofs.counters.add_to_histogram.Statement.{statement}
-use Rattle.words.proofs.counters.add_to_histogram.Tie as tie
+use Rattle.counters.proofs.add_to_histogram.Statement.{statement}
+use Rattle.counters.proofs.add_to_histogram.Tie as tie
 
 -- how many rows of the mask have the count c
 abbrev rowsAt : List ℕ → (base mask c : ℕ) → ℕ

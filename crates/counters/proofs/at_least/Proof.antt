@@ -1,4 +1,4 @@
--- `words::counters::at_least` meets its contract. The invariant: the bits of r say how the digits below k compare.
+-- `counters::at_least` meets its contract. The invariant: the bits of r say how the digits below k compare.
 -- Assumes nothing.
 use mathlib.Core.Bool.{_&&_, _||_}
 use mathlib.Core.Path.{_≡_, sym, ap, _∙_}
@@ -8,13 +8,13 @@ use lib.Bits.{and-mask}
 use lib.ListN.{getD}
 use Rattle.meaning.specs.Limits.{counterPlanes}
 use Rattle.meaning.specs.Segment.{isSet}
-use Rattle.words.specs.Counters.{countAt}
+use Rattle.counters.specs.Counters.{countAt}
 use Rattle.words.proofs.BitLaws.{and-set, or-set}
-use Rattle.words.proofs.CounterLaws.{Compared, compared-none, compared-more, compared-all, reaches, reaches-one, reaches-zero, reaches-flag, reaches-is}
+use Rattle.counters.proofs.CounterLaws.{Compared, compared-none, compared-more, compared-all, reaches, reaches-one, reaches-zero, reaches-flag, reaches-is}
 use borrow.Author.Needs.{needs}
 use native.Mathlib.Omega.{arith}
-use Rattle.words.proofs.counters.at_least.Statement.{statement}
-use Rattle.words.proofs.counters.at_least.Tie as tie
+use Rattle.counters.proofs.at_least.Statement.{statement}
+use Rattle.counters.proofs.at_least.Tie as tie
 
 abbrev Inv-loop : tie.InvT-loop
 Inv-loop t planes r₀ k₀ r k = (k ≤ counterPlanes) × Compared reaches 32 planes t r k

@@ -8,10 +8,10 @@ ghost use lib.ListN.{length, getD};
 ghost use Rattle.meaning.specs.Limits.{mostNamed, histogramCounts, counterPlanes, mostCounted, mostRows, mostSegments};
 ghost use Rattle.meaning.specs.Rows.{countBelow};
 ghost use Rattle.meaning.specs.Segment.{bitAt, isSet};
-ghost use Rattle.words.specs.Counters.{countAt};
-use crate::bits;
+ghost use Rattle.counters.specs.Counters.{countAt};
 use meaning::HISTOGRAM_COUNTS;
 use meaning::PLANES;
+use words::bits;
 
 // One more for each row of a word: a carry goes up the planes until it is empty.
 pub fn add(planes: [u32; PLANES], x: u32) -> [u32; PLANES]

@@ -1,4 +1,4 @@
--- `words::counters::by_table` meets its contract. The invariant: the rows so far are those of which the entries below k tell.
+-- `counters::by_table` meets its contract. The invariant: the rows so far are those of which the entries below k tell.
 -- Assumes nothing.
 use mathlib.Core.Bool.{_||_}
 use mathlib.Core.Logic.{⊎-elim}
@@ -8,14 +8,14 @@ use denote.Ref.{now}
 use lib.ListN.{length}
 use Rattle.meaning.specs.Segment.{isSet}
 use Rattle.meaning.proofs.Counting.{zero-clear}
-use Rattle.words.specs.Counters.{countAt}
+use Rattle.counters.specs.Counters.{countAt}
 use Rattle.words.proofs.BitLaws.{or-set}
 use Rattle.words.proofs.Tests.{eqb-more}
 use Rattle.words.proofs.Entries.{told, told-before, told-one, told-else, told-all}
 use borrow.Author.Needs.{needs}
 use native.Mathlib.Omega.{arith}
-use Rattle.words.proofs.counters.by_table.Statement.{statement}
-use Rattle.words.proofs.counters.by_table.Tie as tie
+use Rattle.counters.proofs.by_table.Statement.{statement}
+use Rattle.counters.proofs.by_table.Tie as tie
 
 abbrev Inv-loop : tie.InvT-loop
 Inv-loop planes base table r₀ from k₀ r k =
