@@ -64,17 +64,19 @@ fn joined(body: &Body, piece: usize, together: impl Fn(usize, usize) -> bool) ->
     body.segments(from).start..body.segments(to).end
 }
 
-/// What mistakes tell for a dirty word: something else of its marker.
+/// What mistakes tell for a dirty word: something else of its marker, or of the next.
 fn of_marker(body: &Body, segment: usize) -> Option<Range<usize>> {
-    let parts = if mistaken(Mistake::DirtyWordsJoined) {
-        &body.dirties
+    let (parts, on) = if mistaken(Mistake::DirtyWordsJoined) {
+        (&body.dirties, 0)
     } else if mistaken(Mistake::DirtyTellsRun) {
-        &body.runs
+        (&body.runs, 0)
+    } else if mistaken(Mistake::DirtyTellsNextRun) {
+        (&body.runs, 1)
     } else {
         return None;
     };
     let marker = body.dirties.iter().position(|dirty| dirty.contains(&segment))?;
-    Some(parts[marker].clone()).filter(|part| !part.is_empty())
+    parts.get(marker + on).filter(|part| !part.is_empty()).cloned()
 }
 
 /// First and last row that are told for these segments.

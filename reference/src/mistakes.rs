@@ -273,6 +273,8 @@ pub enum Mistake {
     ExtentBy32,
     /// At a dirty word the rows of its marker's clean run are told, if it has one.
     DirtyTellsRun,
+    /// At a dirty word the rows of the next marker's clean run are told, if there is one.
+    DirtyTellsNextRun,
     /// In EWAH, the row asked is told for the first row of its piece.
     FirstIsAsked,
     /// The same in WAH.
@@ -430,6 +432,7 @@ impl Mistake {
         Mistake::WahExtentInSegments,
         Mistake::ExtentBy32,
         Mistake::DirtyTellsRun,
+        Mistake::DirtyTellsNextRun,
         Mistake::FirstIsAsked,
         Mistake::WahFirstIsAsked,
         Mistake::DirtyWordsJoined,

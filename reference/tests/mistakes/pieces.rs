@@ -62,6 +62,7 @@ fn parts() -> Vec<Case> {
         case(Mistake::WahExtentInSegments, || wah(&[7, 0x8000_0002], 93, 31), "(31, 92)", "(1, 2)"),
         case(Mistake::ExtentBy32, || wah(&[7, 0x8000_0002, 9], 124, 31), "(31, 92)", "(32, 95)"),
         case(Mistake::DirtyTellsRun, || ewah(&[0x0004_0004, 7, 9], 128, 96), "(96, 127)", "(0, 63)"),
+        case(Mistake::DirtyTellsNextRun, || ewah(&[0x0002_0000, 7, 4], 96, 9), "(0, 31)", "(32, 95)"),
         case(Mistake::RunIsOneSegment, || ewah(&[6], 96, 40), "(0, 95)", "(32, 63)"),
         case(Mistake::FillIsOneSegment, || wah(&[0xC000_0003], 93, 62), "(0, 92)", "(62, 92)"),
     ]
@@ -74,6 +75,9 @@ fn right_elsewhere() {
     // The run is another marker's; the marker has none.
     same(Mistake::DirtyTellsRun, "(64, 95)", &|| ewah(&[4, 0x0002_0000, 7], 96, 64));
     same(Mistake::DirtyTellsRun, "(0, 63)", &|| ewah(&[0x0004_0004, 7, 9], 128, 9));
+    // There is no next marker; it has no run.
+    same(Mistake::DirtyTellsNextRun, "(96, 127)", &|| ewah(&[0x0004_0004, 7, 9], 128, 96));
+    same(Mistake::DirtyTellsNextRun, "(0, 31)", &|| ewah(&[0x0002_0000, 7, 0x0002_0000, 9], 64, 9));
     same(Mistake::DirtyWordsJoined, "(0, 63)", &|| ewah(&[0x0004_0004, 7, 9], 128, 9));
     // Cut at the last row.
     same(Mistake::LastRowOneMore, "(32, 39)", &|| ewah(&[3, 3], 40, 32));
