@@ -2,7 +2,7 @@
 ghost use mathlib.Core.Path.{_≡_};
 ghost use Prim.Native.Nat.{_≤_, _<_};
 ghost use Rattle.meaning.specs.Limits.{mostRows};
-ghost use Rattle.meaning.specs.Extent.{rowIn};
+ghost use Rattle.meaning.specs.Extent.{rowAnswer};
 ghost use Rattle.meaning.specs.Laws.{SoundFacts};
 use meaning::Format;
 use meaning::Row;
@@ -10,7 +10,7 @@ use meaning::Row;
 // The answer on row r, in a sound body of more than r rows.
 pub fn row(format: Format, body: &[u32], rows: u32, r: u32) -> Row
     requires { ⌜ (rows ≤ mostRows) × SoundFacts format rows (now body) × (r < rows) ⌝ }
-    ensures { λ x. ⌜ x ≡ rowIn format rows (now (body .entry)) r ⌝ }
+    ensures { λ x. ⌜ x ≡ rowAnswer format rows (now (body .entry)) r ⌝ }
 {
     match format {
         Format::Ewah => ewah_read::row::row(body, rows, r),

@@ -1,13 +1,13 @@
 -- A walk from marker to marker up to segment s: its piece is among those from the walk's marker on, and lies there or further on.
 -- Assumes nothing.
 use Prim.Native.Nat.{ℕ, _+_, _-_, _≤_, _<_}
-use mathlib.Core.Path.{_≡_, refl, sym, ap, _∙_, subst}
+use mathlib.Core.Path.{_≡_, refl, sym, ap, _∙_}
 use mathlib.Core.List.{List}
 use lib.ListN.{length, drop, getD}
 use native.Mathlib.Omega.{arith}
 use Rattle.meaning.specs.Segment.{fill}
 use Rattle.meaning.specs.Ewah.{segments, pieces, dueAfter}
-use Rattle.meaning.specs.Extent.{Span, spanAt}
+use Rattle.meaning.specs.Extent.{spanAt}
 use Rattle.meaning.proofs.Walk.{At, Step, at-start}
 use Rattle.meaning.proofs.Spans.{AtMarker, at-marker}
 use Rattle.ewah.specs.Markers.{FieldsOf}
@@ -41,9 +41,6 @@ module _ {b : List ℕ} {s at ahead : ℕ} (g : Seeks b s at ahead) (h : at < le
       record {
         word-is = e ∙ sym (over .run-at ahead l) ∙ ap (λ (i : ℕ). getD (segments b) i 0) k;
         span-is = sym (g .same ∙ spans .in-run (omega arith) (omega (arith, g .near)));
-        low = omega arith;
-        high = omega (arith, g .near);
-        ends = omega (arith, over .counts);
       }
 
   pub found-word : m .clean ≤ ahead → ahead - m .clean < m .dirty
@@ -53,9 +50,6 @@ module _ {b : List ℕ} {s at ahead : ℕ} (g : Seeks b s at ahead) (h : at < le
       record {
         word-is = sym (over .dirty-at (ahead - m .clean) k) ∙ ap (λ (i : ℕ). getD (segments b) i 0) e;
         span-is = sym (g .same ∙ spans .in-words (omega (arith, g .near)) (omega (arith, g .near)));
-        low = omega arith;
-        high = omega arith;
-        ends = omega (arith, over .counts, g .near);
       }
 
   pub seeks-next : m .clean ≤ ahead → m .dirty ≤ ahead - m .clean → Seeks b s (at + 1 + m .dirty) (ahead - m .clean - m .dirty)

@@ -4,7 +4,7 @@ ghost use Prim.Native.Nat.{_≤_, _<_};
 ghost use lib.ListN.{length};
 ghost use Rattle.meaning.specs.Limits.{mostRows};
 ghost use Rattle.meaning.specs.Ewah.{segments, pieces, dueAfter};
-ghost use Rattle.meaning.specs.Extent.{rowIn};
+ghost use Rattle.meaning.specs.Extent.{rowAnswer};
 ghost use Rattle.meaning.specs.Laws.{EwahFacts};
 ghost use Rattle.meaning.specs.declared.Format.the-variants.{Ewah};
 ghost use Rattle.extent.specs.Place.{PlaceOf};
@@ -55,7 +55,7 @@ fn locate(body: &[u32], s: u32) -> Place
 // The answer on row r.
 pub fn row(body: &[u32], rows: u32, r: u32) -> Row
     requires { ⌜ (rows ≤ mostRows) × EwahFacts rows (now body) × (r < rows) ⌝ }
-    ensures { λ x. ⌜ x ≡ rowIn Ewah rows (now (body .entry)) r ⌝ }
+    ensures { λ x. ⌜ x ≡ rowAnswer Ewah rows (now (body .entry)) r ⌝ }
 {
     let place = locate(body, r >> 5);
     let set = bits::has(place.word, r & 31);

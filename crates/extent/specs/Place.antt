@@ -1,9 +1,9 @@
 -- Where a segment is written, for the contracts of the walks that find it.
 -- Assumes nothing.
-use Prim.Native.Nat.{ℕ, _+_, _≤_, _<_}
+use Prim.Native.Nat.{ℕ}
 use mathlib.Core.Path.{_≡_}
 use mathlib.Core.List.{List}
-use lib.ListN.{length, getD}
+use lib.ListN.{getD}
 use Rattle.meaning.specs.Piece.{Piece}
 use Rattle.meaning.specs.Extent.{spanAt}
 use Rattle.extent.specs.declared.Place.{Place}
@@ -12,7 +12,3 @@ use Rattle.extent.specs.declared.Place.{Place}
 pub record PlaceOf (segs : List ℕ) (ps : List Piece) (s : ℕ) (p : Place) : Type 0 where
   pub word-is : p .word ≡ getD segs s 0
   pub span-is : record { from = p .from; size = p .size } ≡ spanAt 0 ps s
-  -- it is one of the piece's segments, and these are the body's
-  pub low : p .from ≤ s
-  pub high : s < p .from + p .size
-  pub ends : p .from + p .size ≤ length segs

@@ -1,8 +1,8 @@
 -- The nth row is the one row that is set with n set rows before it; the histogram adds up to R.
 -- Assumes nothing.
-use Prim.Native.Nat.{ℕ, zero, suc, _+_, _-_, _≤_, _<_}
+use Prim.Native.Nat.{ℕ, zero, suc, _+_, _≤_, _<_}
 use mathlib.Core.Bool.{Bool, true, false, cond, true≢false}
-use mathlib.Core.Path.{_≡_, refl, sym, ap, _∙_, subst}
+use mathlib.Core.Path.{_≡_, refl, sym, ap, _∙_}
 use mathlib.Core.List.{List, [], _∷_}
 use lib.Dec.{eqb, eqb·zero-suc, eqb·suc-zero, eqb·suc-suc}
 use lib.ListN.{length, getD}
@@ -24,19 +24,20 @@ count-none n p h = sum-zero n (λ r. bit (p r)) (λ r g. ap bit (h r g))
 
 -- ---- the nth row
 
-count-mono : (p : ℕ → Bool) (m d : ℕ) → countBelow m p ≤ countBelow (m + d) p
+pub count-upto : (p : ℕ → Bool) (m n : ℕ) → m ≤ n → countBelow m p ≤ countBelow n p
 unfolding countBelow sumBelow
-count-mono p m zero = let e : m + 0 ≡ m = omega arith in rw e (omega arith)
-count-mono p m (suc d) = let e : m + suc d ≡ suc (m + d) = omega arith in rw e (omega (arith, count-mono p m d))
+count-upto p m zero h = let e : m ≡ 0 = omega arith in rw e (omega arith)
+count-upto p m (suc n) h = elim (decLe m n) [
+  | yes k ↦ omega (arith, count-upto p m n k)
+  | no k ↦ let e : m ≡ suc n = omega arith in rw e (omega arith)
+]
 
 -- a later row has more set rows before it than a set row has
 count-later : (p : ℕ → Bool) (r s : ℕ) → p r ≡ true → r < s → countBelow r p < countBelow s p
 unfolding countBelow sumBelow
 count-later p r s h g =
-    let e : s ≡ suc r + (s - suc r) = omega arith in
     let one : bit (p r) ≡ 1 = ap bit h ∙ (unfold bit in refl) in
-    let m : countBelow (suc r) p ≤ countBelow s p = subst (λ (z : ℕ). countBelow (suc r) p ≤ countBelow z p) (sym e) (count-mono p (suc r) (s - suc r)) in
-    omega arith
+    omega (arith, count-upto p (suc r) s g)
 
 nth-only : (R : ℕ) (p : ℕ → Bool) (n r s : ℕ) → IsNth R p n r → IsNth R p n s → r ≡ s
 nth-only R p n r s a b = elim (decLe (suc r) s) [

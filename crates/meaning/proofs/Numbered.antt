@@ -18,7 +18,7 @@ use Rattle.meaning.specs.declared.Format.{Format}
 use Rattle.meaning.specs.declared.Format.the-variants.{Ewah, Wah}
 use Rattle.meaning.specs.Index.{isKind, formatOf, bitmapCount, entryPlace, startOf, lengthOf, rowCount, bodyAt, rowsAt, entriesFault, bodiesFault, headFault, indexFault}
 use Rattle.meaning.specs.Question.{intersection, union, symmetricDifference, difference, complement, byTable}
-use Rattle.meaning.specs.Extent.{rowIn}
+use Rattle.meaning.specs.Extent.{rowAnswer}
 use Rattle.meaning.specs.NewIndex.{indexOf, writeIndex}
 use Rattle.meaning.specs.Column.{sumValue}
 use Rattle.meaning.specs.Answer as meaning
@@ -110,7 +110,7 @@ module _ (index : List ℕ) where
 
 ask-row : (F : Format) (R : ℕ) (b : List ℕ) (r : ℕ) → Numbered (meaning.askRow F R b r)
 unfolding meaning.askRow
-ask-row F R b r = refuse (leb R r) 8 0 0 _ (omega arith) (answered (rowIn F R b r))
+ask-row F R b r = refuse (leb R r) 8 0 0 _ (omega arith) (answered (rowAnswer F R b r))
 
 ask-count : (R : ℕ) (p : ℕ → Bool) → Numbered (meaning.askCount R p)
 unfolding meaning.askCount

@@ -1,7 +1,7 @@
 -- Asked from piece to piece, a body gives each of them once, in order; their set rows add up, and the nth set row lies where the
 -- running sum passes n: `PiecesMet` holds.
 -- Assumes nothing.
-use Prim.Native.Nat.{ℕ, zero, suc, _+_, _-_, _*_, _/_, _%_, _≤_, _<_, min}
+use Prim.Native.Nat.{ℕ, suc, _+_, _-_, _*_, _/_, _%_, _≤_, _<_, min}
 use mathlib.Core.Bool.{Bool}
 use mathlib.Core.Path.{_≡_, refl, sym, ap, ap₂, _∙_, subst}
 use mathlib.Core.List.{List, [], _∷_, map}
@@ -16,7 +16,7 @@ use Rattle.meaning.specs.Segment.{isSet, hasRow, fill, segmentCount}
 use Rattle.meaning.specs.Refusal.{Outcome, answer, sound}
 use Rattle.meaning.specs.Piece.{Piece, pieceSize, NoneEmpty, flat}
 use Rattle.meaning.specs.Format.{width, mostRun, piecesOf, segmentsOf, rowsOf, bodyFault}
-use Rattle.meaning.specs.Extent.{Span, Extent, spansFrom, spanAt, extentOf, extentsOf, rowIn}
+use Rattle.meaning.specs.Extent.{Span, Extent, spansFrom, spanAt, extentOf, extentsOf, given, rowAnswer}
 use Rattle.meaning.specs.Index.{formatOf, rowCount, bodyAt, rowsAt}
 use Rattle.meaning.specs.Answer.{askRow, askCount, askNth, rowsFault, checkBody, bodyRow, bodyCount, bodyNth, bitmapRefusal, row, count, nth}
 use Rattle.meaning.specs.Laws.{SoundFacts}
@@ -30,14 +30,10 @@ use Rattle.meaning.proofs.Counting.{count-add}
 use Rattle.meaning.proofs.Formats.{width-pos, spells, sound-means, facts-some, facts-count}
 use Rattle.meaning.proofs.Outcomes.{refuse-no, refuse-answer, then-sound, then-answer}
 use Rattle.meaning.proofs.BitmapPart.{part-laws}
-use Rattle.meaning.proofs.Counted.{nth-holds}
+use Rattle.meaning.proofs.Counted.{count-upto, nth-holds}
 use Rattle.meaning.proofs.Even.{bit-fill}
 use Rattle.meaning.proofs.Ends.{pieces-fine}
-use Rattle.meaning.proofs.Spans.{spanOf, span-here, span-later, within, Alike, alike}
-
--- what an answer gives beside whether the row is set
-abbrev given : Row → Extent
-given t = record { first = t .first; last = t .last }
+use Rattle.meaning.proofs.Spans.{spanOf, span-here, span-later, segment-within, own-within, Alike, alike}
 
 -- ---- the extents of pieces of any width follow each other
 
@@ -135,11 +131,6 @@ met-same R ask (then-next q t es l a m) (then-next r u fs k b n) i =
 -- ---- their set rows
 
 module _ (R : ℕ) (p : ℕ → Bool) where
-  upto : (a b : ℕ) → a ≤ b → countBelow a p ≤ countBelow b p
-  upto a b h =
-      let e : a + (b - a) ≡ b = omega arith in
-      omega (arith, count-add a (b - a) p, ap (λ (k : ℕ). countBelow k p) e)
-
   -- up to the end of an extent
   set-in : (e : Extent) → e .first ≤ e .last → countBelow (e .first) p + setIn p e ≡ countBelow (suc (e .last)) p
   unfolding setIn
@@ -162,9 +153,9 @@ module _ (R : ℕ) (p : ℕ → Bool) where
       let to : countBelow r p + setIn p e ≡ countBelow (suc (e .last)) p = omega (arith, set-in e (omega arith)) in
       elim (decLe q (e .last)) [
         | yes k ↦
-            here (countBelow r p) e es (omega (arith, upto r q g, a .before)) (omega (arith, upto (suc q) (suc (e .last)) (omega arith), one)) (omega arith) k
+            here (countBelow r p) e es (omega (arith, count-upto p r q g, a .before)) (omega (arith, count-upto p (suc q) (suc (e .last)) (omega arith), one)) (omega arith) k
         | no k ↦
-            later (countBelow r p) e es (omega (arith, upto (suc (e .last)) q (omega arith), a .before))
+            later (countBelow r p) e es (omega (arith, count-upto p (suc (e .last)) q (omega arith), a .before))
             (subst (λ (z : ℕ). PassesAt p n q z es) (sym to) (passes-from n q a (suc (e .last)) es m (omega arith)))
       ]
     where
@@ -177,31 +168,24 @@ module _ (F : Format) (R : ℕ) (b : List ℕ) (facts : SoundFacts F R b) where
   segments : 0 + length (flat (width F) (piecesOf F b)) ≡ segmentCount (width F) R
   segments = omega (arith, ap length (spells F b), facts-count F R b facts)
 
-  -- the segment of a row is one of the body's
-  among : (r : ℕ) → r < R → r / width F < 0 + length (flat (width F) (piecesOf F b))
-  among r h =
-      let l : r < segmentCount (width F) R * width F = omega (arith, rows-fit (width F) (width-pos F) R) in
-      let i : r / width F < segmentCount (width F) R = div-lt-iff-lt-mul (width-pos F) .1 l in
-      omega (arith, segments)
-
   -- the segments of the piece that a row lies in, and that the row is one of theirs
   abbrev own : ℕ → Span
   own r = spanAt 0 (piecesOf F b) (r / width F)
 
   among-own : (r : ℕ) → r < R → (own r .from * width F ≤ r) × (r < (own r .from + own r .size) * width F)
   among-own r h =
-      let f = within (r / width F) (width F) 0 (piecesOf F b) (omega arith) (among r h) in
+      let f = own-within F R b facts r h in
       (le-div-iff-mul-le (width-pos F) .0 (f .low), div-lt-iff-lt-mul (width-pos F) .0 (f .high))
 
-  inside : (r : ℕ) → r < R → (rowIn F R b r .first ≤ r) × (r ≤ rowIn F R b r .last) × (rowIn F R b r .last < R)
-  unfolding rowIn
+  inside : (r : ℕ) → r < R → (rowAnswer F R b r .first ≤ r) × (r ≤ rowAnswer F R b r .last) × (rowAnswer F R b r .last < R)
+  unfolding rowAnswer
   inside r h = let i = among-own r h in (i .0, omega (arith, i .1), omega arith)
 
   -- a row of segments that are all the same clean one
-  row-value : (r : ℕ) (x : Span) (a : Alike r (width F) 0 (piecesOf F b) x) (q : ℕ)
+  row-value : (x : Span) (a : Alike (width F) 0 (piecesOf F b) x) (q : ℕ)
       → x .from * width F ≤ q → q < (x .from + x .size) * width F → rowsOf F b q ≡ eqb (a .v) 1
   unfolding rowsOf hasRow
-  row-value r x a q lo hi =
+  row-value x a q lo hi =
       let i = q / width F in
       let z : i - 0 ≡ i = omega arith in
       let its : getD (segmentsOf F b) i 0 ≡ fill (width F) (a .v) =
@@ -211,13 +195,13 @@ module _ (F : Format) (R : ℕ) (b : List ℕ) (facts : SoundFacts F R b) where
       ∙ sym (eqb-bit (isSet (fill (width F) (a .v)) (q % width F)))
       ∙ ap (λ (k : ℕ). eqb k 1) (bit-fill (width F) (a .v) (q % width F) (a .is-value) (mod-lt q (width-pos F)))
 
-  one-value : (r : ℕ) → r < R → rowIn F R b r .first + width F ≤ rowIn F R b r .last
-      → (q : ℕ) → rowIn F R b r .first ≤ q → q ≤ rowIn F R b r .last → rowsOf F b q ≡ rowIn F R b r .set
-  unfolding rowIn
+  one-value : (r : ℕ) → r < R → rowAnswer F R b r .first + width F ≤ rowAnswer F R b r .last
+      → (q : ℕ) → rowAnswer F R b r .first ≤ q → q ≤ rowAnswer F R b r .last → rowsOf F b q ≡ rowAnswer F R b r .set
+  unfolding rowAnswer
   one-value r h l q lo hi =
       let i = among-own r h in
-      let a = alike (r / width F) (width F) (mostRun F) 0 (piecesOf F b) (pieces-fine F b) (omega arith) (among r h) many in
-      row-value (r / width F) (own r) a q lo (omega (arith, i .1)) ∙ sym (row-value (r / width F) (own r) a r (i .0) (i .1))
+      let a = alike (r / width F) (width F) (mostRun F) 0 (piecesOf F b) (pieces-fine F b) (omega arith) (omega (arith, segment-within F R b facts r h, ap length (spells F b))) many in
+      row-value (own r) a q lo (omega (arith, i .1)) ∙ sym (row-value (own r) a r (i .0) (i .1))
     where
       many : 2 ≤ own r .size
       many = elim (decLe 2 (own r .size)) [
@@ -229,22 +213,22 @@ module _ (F : Format) (R : ℕ) (b : List ℕ) (facts : SoundFacts F R b) where
 
   module _ (ask : ℕ → Outcome Row) (counted : Outcome ℕ) (nthOf : ℕ → Outcome ℕ) (asks : (r : ℕ) → ask r ≡ askRow F R b r)
       (counts : counted ≡ askCount R (rowsOf F b)) (nths : (n : ℕ) → nthOf n ≡ askNth R (rowsOf F b) n) where
-    told : (r : ℕ) → r < R → ask r ≡ answer (rowIn F R b r)
+    told : (r : ℕ) → r < R → ask r ≡ answer (rowAnswer F R b r)
     unfolding askRow
-    told r h = asks r ∙ refuse-no (leb R r) 8 0 0 (answer (rowIn F R b r)) (lt-leb R r h)
+    told r h = asks r ∙ refuse-no (leb R r) 8 0 0 (answer (rowAnswer F R b r)) (lt-leb R r h)
 
     -- an answer is of a real row
-    real : (r : ℕ) (t : Row) → ask r ≡ answer t → (r < R) × (rowIn F R b r ≡ t)
+    real : (r : ℕ) (t : Row) → ask r ≡ answer t → (r < R) × (rowAnswer F R b r ≡ t)
     unfolding askRow
     real r t e =
-        let p = refuse-answer (leb R r) 8 0 0 (answer (rowIn F R b r)) t (sym (asks r) ∙ e) in
+        let p = refuse-answer (leb R r) 8 0 0 (answer (rowAnswer F R b r)) t (sym (asks r) ∙ e) in
         (leb-false R r (p .0), answer-same _ _ (p .1))
 
     all-met : Meets R ask 0 (extentsOf F R b)
-    unfolding rowIn
+    unfolding rowAnswer
     all-met =
         subst (λ (r : ℕ). Meets R ask r (extentsOf F R b)) (omega arith)
-        (meets-from (width F) (width-pos F) R ask (rowIn F R b) told 0 (piecesOf F b) (facts-some F R b facts) segments (λ r h. refl))
+        (meets-from (width F) (width-pos F) R ask (rowAnswer F R b) told 0 (piecesOf F b) (facts-some F R b facts) segments (λ r h. refl))
 
     tiles : Tiles R 0 (extentsOf F R b)
     tiles =
@@ -259,24 +243,26 @@ module _ (F : Format) (R : ℕ) (b : List ℕ) (facts : SoundFacts F R b) where
     unfolding askCount
     sum = ap answer (omega (arith, none, sum-from R (rowsOf F b) 0 (extentsOf F R b) tiles))
 
-    nth-is : (n r : ℕ) → nthOf n ≡ answer r → IsNth R (rowsOf F b) n r
+    nth-told : (n : ℕ) → n < countBelow R (rowsOf F b) → nthOf n ≡ answer (nthBelow R (rowsOf F b) n)
     unfolding askNth
-    nth-is n r e =
-        let p = refuse-answer (leb (countBelow R (rowsOf F b)) n) 8 0 0 (answer (nthBelow R (rowsOf F b) n)) r (sym (nths n) ∙ e) in
-        let q : nthBelow R (rowsOf F b) n ≡ r = answer-same _ _ (p .1) in
-        subst (IsNth R (rowsOf F b) n) q (nth-holds R (rowsOf F b) n (leb-false (countBelow R (rowsOf F b)) n (p .0)) .is)
+    nth-told n h =
+        let many = countBelow R (rowsOf F b) in
+        nths n ∙ refuse-no (leb many n) 8 0 0 (answer (nthBelow R (rowsOf F b) n)) (lt-leb many n h)
 
     laws : PieceLaws F R b ask counted nthOf
     laws = record {
-      inside = λ r t e.
-          let a = real r t e in
-          subst (λ (x : Row). (x .first ≤ r) × (r ≤ x .last) × (x .last < R)) (a .1) (inside r (a .0));
+      inside = λ r h. let i = inside r h in (rowAnswer F R b r, told r h, i .0, i .1, i .2);
       meets = all-met;
       only = λ es m. met-same R ask m all-met refl;
       adds = counts ∙ sum;
-      passes = λ n r e.
-          subst (λ (z : ℕ). PassesAt (rowsOf F b) n r z (extentsOf F R b)) none
-          (passes-from R (rowsOf F b) n r (nth-is n r e) 0 (extentsOf F R b) tiles (omega arith));
+      passes = λ n l.
+          let r = nthBelow R (rowsOf F b) n in
+          let h : n < countBelow R (rowsOf F b) = omega (arith, none, sum-from R (rowsOf F b) 0 (extentsOf F R b) tiles) in (
+            r,
+            nth-told n h,
+            subst (λ (z : ℕ). PassesAt (rowsOf F b) n r z (extentsOf F R b)) none
+                (passes-from R (rowsOf F b) n r (nth-holds R (rowsOf F b) n h .is) 0 (extentsOf F R b) tiles (omega arith)),
+          );
       alike = λ r t e.
           let a = real r t e in
           subst (λ (x : Row). x .first + width F ≤ x .last → (q : ℕ) → x .first ≤ q → q ≤ x .last → rowsOf F b q ≡ x .set) (a .1)

@@ -1,6 +1,6 @@
 -- The segments of the piece that has segment s: among pieces, and among those of a body from one of its words on.
 -- Assumes nothing.
-use Prim.Native.Nat.{ℕ, zero, suc, _+_, _-_, _≤_, _<_}
+use Prim.Native.Nat.{ℕ, zero, suc, _+_, _-_, _*_, _/_, _≤_, _<_}
 use mathlib.Core.Path.{_≡_, sym, ap, _∙_, subst}
 use mathlib.Core.List.{List, [], _∷_}
 use lib.ListN.{length, drop, getD, length-drop}
@@ -8,12 +8,18 @@ use lib.Seq.{drop-cons, drop-drop}
 use native.Mathlib.Omega.{arith}
 use native.Mathlib.Numerals.{add-one}
 use native.Mathlib.Decide.{decLe}
+use native.Mathlib.Nat.{div-lt-iff-lt-mul}
 use borrow.Author.Tests.{lt-ltb, le-ltb}
-use Rattle.meaning.specs.Segment.{fill}
+use Rattle.meaning.specs.Segment.{fill, segmentCount}
 use Rattle.meaning.specs.Piece.{Piece, cleanRun, dirtyWord, runThen, pieceSize, flat}
 use Rattle.meaning.specs.Ewah.{valueOf, cleanOf, dirtyOf, pieces}
 use Rattle.meaning.specs.Wah.{pieceOf, wahPieces}
 use Rattle.meaning.specs.Extent.{Span, spanAt}
+use Rattle.meaning.specs.Format.{width, piecesOf, segmentsOf}
+use Rattle.meaning.specs.Laws.{SoundFacts}
+use Rattle.meaning.specs.declared.Format.{Format}
+use Rattle.meaning.proofs.RowWords.{rows-fit}
+use Rattle.meaning.proofs.Formats.{width-pos, spells, facts-count}
 use Rattle.meaning.proofs.Pieces.{flat-length}
 use Rattle.meaning.proofs.Ends.{Fine, AllFine, run-at, run-past}
 
@@ -25,6 +31,29 @@ flat-past : (w : ℕ) (p : Piece) (ps : List Piece) (i : ℕ) → getD (flat w (
 unfolding flat pieceSize
 flat-past w (cleanRun v n) ps i = run-past n (fill w v) (flat w ps) i
 flat-past w (dirtyWord x) ps i = let e : 1 + i ≡ suc i = omega arith in rw e
+
+-- segments that are all the same clean one, in pieces behind o segments
+pub record Alike (w o : ℕ) (ps : List Piece) (x : Span) : Type 0 where
+  pub v : ℕ
+  pub is-value : v < 2
+  pub behind : o ≤ x .from
+  pub each : (i : ℕ) → x .from ≤ i → i < x .from + x .size → getD (flat w ps) (i - o) 0 ≡ fill w v
+
+alike-first : (w most o : ℕ) (p : Piece) (ps : List Piece) → Fine most p → 2 ≤ pieceSize p → Alike w o (p ∷ ps) (spanOf o (pieceSize p))
+unfolding flat pieceSize
+alike-first w most o (cleanRun v n) ps f l =
+    record { v = v; is-value = f .0; behind = omega arith; each = λ i h g. run-at n (fill w v) (flat w ps) (i - o) (omega arith) }
+alike-first w most o (dirtyWord x) ps f l = absurd (omega arith)
+
+alike-later : (w o : ℕ) (p : Piece) (ps : List Piece) (x : Span) → Alike w (o + pieceSize p) ps x → Alike w o (p ∷ ps) x
+alike-later w o p ps x a = record {
+  v = a .v;
+  is-value = a .is-value;
+  behind = omega (arith, a .behind);
+  each = λ i h g.
+      let e : i - o ≡ pieceSize p + (i - (o + pieceSize p)) = omega (arith, a .behind) in
+      ap (λ (k : ℕ). getD (flat w (p ∷ ps)) k 0) e ∙ flat-past w p ps (i - (o + pieceSize p)) ∙ a .each i h g;
+}
 
 module _ (s : ℕ) where
   -- ---- the first piece has it, or one behind it
@@ -140,28 +169,6 @@ module _ (s : ℕ) where
   ]
 
   -- where it is more than one segment, all of them are the same clean one
-  pub record Alike (w o : ℕ) (ps : List Piece) (x : Span) : Type 0 where
-    pub v : ℕ
-    pub is-value : v < 2
-    pub behind : o ≤ x .from
-    pub each : (i : ℕ) → x .from ≤ i → i < x .from + x .size → getD (flat w ps) (i - o) 0 ≡ fill w v
-
-  alike-first : (w most o : ℕ) (p : Piece) (ps : List Piece) → Fine most p → 2 ≤ pieceSize p → Alike w o (p ∷ ps) (spanOf o (pieceSize p))
-  unfolding flat pieceSize
-  alike-first w most o (cleanRun v n) ps f l =
-      record { v = v; is-value = f .0; behind = omega arith; each = λ i h g. run-at n (fill w v) (flat w ps) (i - o) (omega arith) }
-  alike-first w most o (dirtyWord x) ps f l = absurd (omega arith)
-
-  alike-later : (w o : ℕ) (p : Piece) (ps : List Piece) (x : Span) → Alike w (o + pieceSize p) ps x → Alike w o (p ∷ ps) x
-  alike-later w o p ps x a = record {
-    v = a .v;
-    is-value = a .is-value;
-    behind = omega (arith, a .behind);
-    each = λ i h g.
-        let e : i - o ≡ pieceSize p + (i - (o + pieceSize p)) = omega (arith, a .behind) in
-        ap (λ (k : ℕ). getD (flat w (p ∷ ps)) k 0) e ∙ flat-past w p ps (i - (o + pieceSize p)) ∙ a .each i h g;
-  }
-
   pub alike : (w most o : ℕ) (ps : List Piece) → AllFine most ps → o ≤ s → s < o + length (flat w ps)
       → 2 ≤ spanAt o ps s .size → Alike w o ps (spanAt o ps s)
   unfolding flat
@@ -177,3 +184,15 @@ module _ (s : ℕ) where
         let many : 2 ≤ pieceSize p = rw e at l in
         subst (λ (x : Span). Alike w o (p ∷ ps) x) (sym e) (alike-first w most o p ps (f .0) many)
   ]
+
+-- ---- of a sound body: a row's segment is one of its own, and lies in its piece
+
+module _ (F : Format) (R : ℕ) (b : List ℕ) (facts : SoundFacts F R b) (r : ℕ) (h : r < R) where
+  pub segment-within : r / width F < length (segmentsOf F b)
+  segment-within =
+      let l : r < segmentCount (width F) R * width F = omega (arith, rows-fit (width F) (width-pos F) R) in
+      let i : r / width F < segmentCount (width F) R = div-lt-iff-lt-mul (width-pos F) .1 l in
+      omega (arith, facts-count F R b facts)
+
+  pub own-within : Within (r / width F) (width F) 0 (piecesOf F b)
+  own-within = within (r / width F) (width F) 0 (piecesOf F b) (omega arith) (omega (arith, segment-within, ap length (spells F b)))

@@ -14,7 +14,7 @@ use Rattle.meaning.specs.Refusal.{Outcome, refused, answer, Verdict, sou
 use Rattle.meaning.specs.Format.{rowsOf, bodyFault, canonical}
 use Rattle.meaning.specs.declared.Format.{Format}
 use Rattle.meaning.specs.declared.Row.{Row}
-use Rattle.meaning.specs.Extent.{rowIn}
+use Rattle.meaning.specs.Extent.{rowAnswer}
 use Rattle.meaning.specs.Index.{formatOf, rowCount, bitmapCount, bodyAt, rowsAt, indexFault}
 use Rattle.meaning.specs.Question.{intersection, union, symmetricDifference, difference, complement, atLeast, byTable, histogramOf, stretches}
 
@@ -49,8 +49,8 @@ partOf (answer words) = words
 
 -- whether row r is set, and the first and last row of its piece; 8 if there is no such row
 unfoldable pub askRow : Format → (R : ℕ) → List ℕ → (r : ℕ) → Outcome Row
-unfolding refuseIf rowIn
-askRow F R body r = refuseIf (leb R r) 8 0 0 (answer (rowIn F R body r))
+unfolding refuseIf rowAnswer
+askRow F R body r = refuseIf (leb R r) 8 0 0 (answer (rowAnswer F R body r))
 
 -- ---- questions on a set of R rows
 

@@ -26,7 +26,7 @@ unfolding pieceSize
 spansFrom before [] = []
 spansFrom before (p ∷ ps) = record { from = before; size = pieceSize p } ∷ spansFrom (before + pieceSize p) ps
 
--- of the piece that has segment s: the first that ends behind it
+-- of the piece that has segment s: the first that ends behind it; no segments where there is none, which no sound body of rows meets
 unfoldable pub spanAt : (before : ℕ) → List Piece → (s : ℕ) → Span
 unfolding pieceSize
 spanAt before [] s = record { from = 0; size = 0 }
@@ -46,10 +46,14 @@ abbrev pub extentIn : Format → (R : ℕ) → List ℕ → (r : ℕ) → Extent
 extentIn F R b r = extentOf (width F) R (spanAt 0 (piecesOf F b) (r / width F))
 
 -- the answer on a row that is set or not, in a piece with these rows
-abbrev pub rowOf : Bool → Extent → Row
-rowOf set e = record { set = set; first = e .first; last = e .last }
+abbrev pub answerWith : Bool → Extent → Row
+answerWith set e = record { set = set; first = e .first; last = e .last }
+
+-- and back: what such an answer gives of the piece
+abbrev pub given : Row → Extent
+given t = record { first = t .first; last = t .last }
 
 -- the answer on row r: whether it is set, and the first and last row of its piece
-unfoldable pub rowIn : Format → (R : ℕ) → List ℕ → (r : ℕ) → Row
+unfoldable pub rowAnswer : Format → (R : ℕ) → List ℕ → (r : ℕ) → Row
 unfolding rowsOf spanAt
-rowIn F R b r = rowOf (rowsOf F b r) (extentIn F R b r)
+rowAnswer F R b r = answerWith (rowsOf F b r) (extentIn F R b r)

@@ -10,7 +10,7 @@ use Rattle.meaning.specs.Refusal.{refused, answer, refuseIf}
 use Rattle.meaning.specs.Format.{canonical}
 use Rattle.meaning.specs.declared.Format.{Format}
 use Rattle.meaning.specs.declared.Row.{Row}
-use Rattle.meaning.specs.Extent.{rowIn}
+use Rattle.meaning.specs.Extent.{rowAnswer}
 use Rattle.meaning.specs.Answer.{askRow, write}
 use Rattle.answers.specs.declared.refusal.Refusal.{Refusal}
 use Rattle.answers.specs.declared.answer.Written.{Written}
@@ -23,7 +23,7 @@ pub row-past : (F : Format) (R : ℕ) (b : List ℕ) (r : ℕ) → R ≤ r → r
 unfolding askRow refuseIf
 row-past F R b r h = rw (le-leb R r h)
 
-pub row-here : (F : Format) (R : ℕ) (b : List ℕ) (r : ℕ) (x : Row) → r < R → x ≡ rowIn F R b r → answer x ≡ askRow F R b r
+pub row-here : (F : Format) (R : ℕ) (b : List ℕ) (r : ℕ) (x : Row) → r < R → x ≡ rowAnswer F R b r → answer x ≡ askRow F R b r
 unfolding askRow refuseIf
 row-here F R b r x h e = rw (lt-leb R r h, e)
 

@@ -16,17 +16,15 @@ use Rattle.wah_read.proofs.Passing.{segments-on, segment-here, segment-
 
 -- the walk stands at a word, and the segment is so many ahead
 pub record Seeks (b : List ℕ) (s at ahead : ℕ) : Type 0 where
-  pub inside : at ≤ length b
   pub near : ahead ≤ s
   pub there : ahead < length (wahSegments (drop at b))
-  pub all : s - ahead + length (wahSegments (drop at b)) ≡ length (wahSegments b)
   pub word : getD (wahSegments (drop at b)) ahead 0 ≡ getD (wahSegments b) s 0
   pub same : spanAt 0 (wahPieces b) s ≡ spanAt (s - ahead) (wahPieces (drop at b)) s
 
 pub seeks-start : (b : List ℕ) (s : ℕ) → s < length (wahSegments b) → Seeks b s 0 s
 seeks-start b s h =
     let z : s - s ≡ 0 = omega arith in
-    record { inside = omega arith; near = omega arith; there = h; all = omega arith; word = refl; same = rw z refl }
+    record { near = omega arith; there = h; word = refl; same = rw z refl }
 
 -- behind the last word there is none
 pub seeks-end : {b : List ℕ} {s at ahead : ℕ} → Seeks b s at ahead → length b ≤ at → ⊥
@@ -43,19 +41,14 @@ module _ {b : List ℕ} {s at ahead : ℕ} (g : Seeks b s at ahead) (h : at < le
   found l x e = record {
     word-is = segment-here b at h n size ahead x l e ∙ g .word;
     span-is = sym (g .same ∙ spans .in-it (omega (arith, g .near)));
-    low = omega arith;
-    high = omega (arith, g .near);
-    ends = omega (arith, g .all, segments-on b at h n size);
   }
 
   pub seeks-next : n ≤ ahead → Seeks b s (at + 1) (ahead - n)
   seeks-next l =
       let e : s - ahead + n ≡ s - (ahead - n) = omega (arith, g .near) in
       record {
-        inside = omega arith;
         near = omega (arith, g .near);
         there = omega (arith, g .there, segments-on b at h n size);
-        all = omega (arith, g .all, g .near, segments-on b at h n size);
         word = sym (segment-later b at h n size ahead l) ∙ g .word;
         same = rw (← e) (g .same ∙ spans .behind (omega (arith, g .near)));
       }

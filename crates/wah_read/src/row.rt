@@ -4,7 +4,7 @@ ghost use Prim.Native.Nat.{_≤_, _<_};
 ghost use lib.ListN.{length};
 ghost use Rattle.meaning.specs.Limits.{mostRows};
 ghost use Rattle.meaning.specs.Wah.{wahSegments, wahPieces};
-ghost use Rattle.meaning.specs.Extent.{rowIn};
+ghost use Rattle.meaning.specs.Extent.{rowAnswer};
 ghost use Rattle.meaning.specs.Laws.{WahFacts};
 ghost use Rattle.meaning.specs.declared.Format.the-variants.{Wah};
 ghost use Rattle.extent.specs.Place.{PlaceOf};
@@ -22,13 +22,25 @@ fn locate(body: &[u32], s: u32) -> Place
     let mut ahead = s;
     while at < body.len() {
         let x = body[at];
-        let size = word::size(x);
-        if ahead < size {
-            let word = word::spelled(x);
-            let from = s - ahead;
-            return Place { word, from, size };
+        if word::is_fill(x) {
+            let fill = word::read(x);
+            if ahead < fill.count {
+                let word = word::segment(fill.value);
+                let from = s - ahead;
+                let size = fill.count;
+                return Place { word, from, size };
+            }
+            ahead -= fill.count;
+        } else {
+            if ahead == 0 {
+                return Place {
+                    word: x,
+                    from: s,
+                    size: 1,
+                };
+            }
+            ahead -= 1;
         }
-        ahead -= size;
         at += 1;
     }
     Place {
@@ -41,7 +53,7 @@ fn locate(body: &[u32], s: u32) -> Place
 // The answer on row r.
 pub fn row(body: &[u32], rows: u32, r: u32) -> Row
     requires { ⌜ (rows ≤ mostRows) × WahFacts rows (now body) × (r < rows) ⌝ }
-    ensures { λ x. ⌜ x ≡ rowIn Wah rows (now (body .entry)) r ⌝ }
+    ensures { λ x. ⌜ x ≡ rowAnswer Wah rows (now (body .entry)) r ⌝ }
 {
     let place = locate(body, r / 31);
     let set = bits::has(place.word, r % 31);

@@ -40,7 +40,7 @@ pub fn check_body(format: Format, body: &[u32], rows: u32) -> Checked
     bodies::check::check(format, body, rows, 0, 0)
 }
 
-// Whether a row is set, and the first and last row of the piece that it lies in, as the body is written.
+// Whether a row is set, and which rows its piece has in that body: the first of them and the last.
 pub fn body_row(format: Format, body: &[u32], rows: u32, row: u32) -> Flag
     ensures { λ r. ⌜ flagOf r ≡ meaning.bodyRow format rows (now (body .entry)) row ⌝ }
 {
@@ -145,7 +145,7 @@ pub fn bitmap(index: &[u32], k: u32) -> &[u32]
     }
 }
 
-// Whether a row of bitmap k is set, and the first and last row of its piece in that bitmap's body.
+// Whether a row of bitmap k is set, and the first and last row of its piece in the bitmap's body.
 pub fn row(index: &[u32], k: u32, row: u32) -> Flag
     ensures { λ r. ⌜ flagOf r ≡ meaning.row (now (index .entry)) k row ⌝ }
 {

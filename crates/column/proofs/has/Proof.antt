@@ -4,12 +4,11 @@ use mathlib.Core.Path.{ap, ap₂, _∙_}
 use mathlib.Core.List.{List}
 use Prim.Native.Nat.{ℕ}
 use borrow.Author.Needs.{needs}
-use denote.Ref.{now}
 use Rattle.meaning.specs.Index.{rowsAt}
 use Rattle.meaning.specs.Format.{rowsOf}
 use Rattle.meaning.specs.declared.Format.{Format}
 use Rattle.meaning.specs.declared.Row.{Row}
-use Rattle.meaning.specs.Extent.{rowIn}
+use Rattle.meaning.specs.Extent.{rowAnswer}
 use Rattle.column.proofs.has.Statement.{statement}
 use Rattle.column.proofs.has.Tie as tie
 
@@ -28,7 +27,7 @@ row-requires c κs =
     (s .pre .0 .head .few-rows, s .pre .0 .bodies (a .k) (p .1), p .2)
 
 returns : tie.Need-returns
-unfolding rowsAt rowIn
+unfolding rowsAt rowAnswer
 returns c =
     let s = c .before .before .before .before in
     ap (λ (t : Row). t .set) (c .row .ensures)

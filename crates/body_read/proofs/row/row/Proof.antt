@@ -4,7 +4,7 @@ use borrow.Author.Needs.{needs}
 use denote.Ref.{now}
 use Rattle.meaning.specs.declared.Format.{Format}
 use Rattle.meaning.specs.declared.Format.the-variants.{Ewah, Wah}
-use Rattle.meaning.specs.Extent.{rowIn}
+use Rattle.meaning.specs.Extent.{rowAnswer}
 use Rattle.body_read.proofs.Either.{facts-as}
 use Rattle.body_read.proofs.row.row.Statement.{statement}
 use Rattle.body_read.proofs.row.row.Tie as tie
@@ -30,12 +30,12 @@ row-requires-2 c κs =
 returns : tie.Need-returns
 returns c =
     let a = c .before .before .before .before .args in
-    c .row .ensures ∙ sym (ap (λ (F : Format). rowIn F (a .rows) (now (a .body)) (a .r)) (c .before .enum-told .given .1))
+    c .row .ensures ∙ sym (ap (λ (F : Format). rowAnswer F (a .rows) (now (a .body)) (a .r)) (c .before .enum-told .given .1))
 
 returns-2 : tie.Need-returns-2
 returns-2 c =
     let a = c .before .before .before .before .args in
-    c .row2 .ensures ∙ sym (ap (λ (F : Format). rowIn F (a .rows) (now (a .body)) (a .r)) (c .before .enum-told2 .given .1))
+    c .row2 .ensures ∙ sym (ap (λ (F : Format). rowAnswer F (a .rows) (now (a .body)) (a .r)) (c .before .enum-told2 .given .1))
 
 pub row-spec : {M : Type 1} → statement M
 row-spec = tie.close (tie.spec enum-told row-requires enum-told-2 row-requires-2 returns returns-2)

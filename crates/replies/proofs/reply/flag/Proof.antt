@@ -1,4 +1,5 @@
--- `replies::reply::flag` meets its contract: in each case of what was told, a refusal or the flag; by `as-number` the flag is 1 or 0. Assumes nothing.
+-- `replies::reply::flag` meets its contract: in each case of what was told, a refusal or the answer on a row; by `as-number` its flag is 1
+-- or 0. Assumes nothing.
 use Rattle.replies.specs.Exported.{numberIn, bitmapIn, wordIn, flagIn, firstIn, lastIn}
 use Rattle.answers.specs.Told.{flagOf}
 use Rattle.replies.proofs.Codes.{as-number}
