@@ -6,7 +6,7 @@ ghost use Rattle.meaning.specs.Limits.{mostFill};
 ghost use Rattle.meaning.specs.Segment.{fill};
 ghost use Rattle.meaning.specs.Piece.{pieceSize};
 ghost use Rattle.meaning.specs.Wah.{isFill, fillWord, pieceOf};
-ghost use Rattle.wah.specs.Words.{FieldsOf, Spells};
+ghost use Rattle.wah.specs.Words.{FieldsOf};
 
 pub struct Fill {
     pub value: u32,
@@ -46,16 +46,6 @@ pub fn size(x: u32) -> u32
         return read(x).count;
     }
     1
-}
-
-// The word of each of these segments.
-pub fn spelled(x: u32) -> u32
-    ensures { λ r. ⌜ Spells x r ⌝ }
-{
-    if is_fill(x) {
-        return segment(read(x).value);
-    }
-    x
 }
 
 // The fill of so many clean segments.
