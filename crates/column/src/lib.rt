@@ -45,8 +45,7 @@ fn has(format: Format, index: &[u32], k: u32, row: u32) -> bool
     requires { ⌜ (format ≡ formatOf (now index)) × (k < bitmapCount (now index)) × (row < rowCount (now index)) ⌝ }
     ensures { λ r. ⌜ r ≡ rowsAt (now (index .entry)) k row ⌝ }
 {
-    let rows = contents::rows(index);
-    row::row(format, contents::body(index, k), rows, row).set
+    row::is_set(format, contents::body(index, k), row)
 }
 
 // The same as a binary digit.

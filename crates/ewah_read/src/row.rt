@@ -1,9 +1,10 @@
 // A row: the walk goes from marker to marker up to its segment, and reads no dirty word but its own.
 ghost use mathlib.Core.Path.{_≡_};
-ghost use Prim.Native.Nat.{_≤_, _<_};
+ghost use Prim.Native.Nat.{ℕ, _≤_, _<_};
 ghost use lib.ListN.{length};
 ghost use Rattle.meaning.specs.Limits.{mostRows};
 ghost use Rattle.meaning.specs.Ewah.{segments, pieces, dueAfter};
+ghost use Rattle.meaning.specs.Format.{rowsOf};
 ghost use Rattle.meaning.specs.Extent.{rowAnswer};
 ghost use Rattle.meaning.specs.Laws.{EwahFacts};
 ghost use Rattle.meaning.specs.declared.Format.the-variants.{Ewah};
@@ -60,4 +61,12 @@ pub fn row(body: &[u32], rows: u32, r: u32) -> Row
     let place = locate(body, r >> 5);
     let set = bits::has(place.word, r & 31);
     extent::row(set, place.from, place.size, 32, rows)
+}
+
+// Whether row r is set, and no more: for a column, which asks it of each slice.
+pub fn is_set(body: &[u32], r: u32) -> bool
+    requires { ⌜ ((R : ℕ) × EwahFacts R (now body) × (r < R)) ⌝ }
+    ensures { λ x. ⌜ x ≡ rowsOf Ewah (now (body .entry)) r ⌝ }
+{
+    bits::has(locate(body, r >> 5).word, r & 31)
 }

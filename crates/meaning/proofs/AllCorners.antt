@@ -245,7 +245,7 @@ rows =
     ∷ isRow (bodyRow Ewah 96 ninetySix 64) 1 64 95
     ∷ isRow (bodyRow Ewah 96 wasteful 40) 0 32 63
     ∷ isRow (bodyRow Ewah 96 wasteful 64) 1 64 95
-    -- cut at the last real row: a run of ones, a dirty word under one marker with a run, one row
+    -- no pad bit is a row: a run of ones, a dirty word under one marker with a run, one row
     ∷ isRow (bodyRow Ewah 40 (5 ∷ []) 0) 1 0 39
     ∷ isRow (bodyRow Ewah 40 (5 ∷ []) 39) 1 0 39
     ∷ isRefused (bodyRow Ewah 40 (5 ∷ []) 40) 8 0 0

@@ -26,7 +26,7 @@ unfolding pieceSize
 spansFrom before [] = []
 spansFrom before (p ∷ ps) = record { from = before; size = pieceSize p } ∷ spansFrom (before + pieceSize p) ps
 
--- of the piece that has segment s: the first that ends behind it; no segments where there is none, which no sound body of rows meets
+-- of the piece that has segment s: the first that does not end before it. Where there is none, as no row of a sound body meets, no segments
 unfoldable pub spanAt : (before : ℕ) → List Piece → (s : ℕ) → Span
 unfolding pieceSize
 spanAt before [] s = record { from = 0; size = 0 }

@@ -1,9 +1,10 @@
 // A row: the walk goes from word to word up to its segment.
 ghost use mathlib.Core.Path.{_≡_};
-ghost use Prim.Native.Nat.{_≤_, _<_};
+ghost use Prim.Native.Nat.{ℕ, _≤_, _<_};
 ghost use lib.ListN.{length};
 ghost use Rattle.meaning.specs.Limits.{mostRows};
 ghost use Rattle.meaning.specs.Wah.{wahSegments, wahPieces};
+ghost use Rattle.meaning.specs.Format.{rowsOf};
 ghost use Rattle.meaning.specs.Extent.{rowAnswer};
 ghost use Rattle.meaning.specs.Laws.{WahFacts};
 ghost use Rattle.meaning.specs.declared.Format.the-variants.{Wah};
@@ -58,4 +59,12 @@ pub fn row(body: &[u32], rows: u32, r: u32) -> Row
     let place = locate(body, r / 31);
     let set = bits::has(place.word, r % 31);
     extent::row(set, place.from, place.size, 31, rows)
+}
+
+// Whether row r is set, and no more: for a column, which asks it of each slice.
+pub fn is_set(body: &[u32], r: u32) -> bool
+    requires { ⌜ ((R : ℕ) × WahFacts R (now body) × (r < R)) ⌝ }
+    ensures { λ x. ⌜ x ≡ rowsOf Wah (now (body .entry)) r ⌝ }
+{
+    bits::has(locate(body, r / 31).word, r % 31)
 }
