@@ -45,8 +45,9 @@
  * body is written. Pad bits are no rows, so the last piece ends with row R - 1. In clean segments every row from the
  * first to the last has the value of the row asked for. Rows just outside may have it too, whatever form the body has:
  * clean segments are whole ones, which a marker counts up to ZV_MOST_CLEAN, and a mixed segment may begin or end with
- * such rows. A dirty word or a literal says no more than its bits: the rows in it may differ. A piece of more than
- * ZV_WORD_BITS rows in EWAH, or ZV_WAH_SEGMENT_ROWS in WAH, is surely clean segments; one of no more may be either.
+ * such rows. A dirty word or a literal says no more than its bits: the rows in it may differ. So `first` and `last` do
+ * not tell from where to where rows are alike; the expanded rows do. A piece of more than ZV_WORD_BITS rows in EWAH, or
+ * ZV_WAH_SEGMENT_ROWS in WAH, is surely clean segments; one of no more may be either.
  *
  * AN INDEX has a head of ZV_HEAD_WORDS words: in word 0 ZV_INDEX_KIND for EWAH or ZV_WAH_INDEX_KIND for WAH, the rows
  * in word 1, the number N of bitmaps in word 2. Then ZV_ENTRY_WORDS words for each bitmap: where its body starts and
@@ -79,8 +80,9 @@
  * LISTING. zv_nth, zv_body_nth and zv_wah_body_nth check and walk from the front each time, and so do zv_row,
  * zv_body_row and zv_wah_body_row. To list all set rows, expand the body once and scan the bits, as example/listing.c
  * does: for 20,000 scattered set rows that is some thousand times as fast as zv_nth for each. A body's pieces can be
- * gone through by zv_body_row, from row 0 on and always to the row behind `last`. These calls can take, together, a
- * time that grows with the square of the number of pieces; where it is the rows that matter, expand the body instead.
+ * gone through by zv_body_row, in WAH by zv_wah_body_row, from row 0 on and always to the row behind `last`. These
+ * calls can take, together, a time that grows with the square of the number of pieces; where it is the rows that
+ * matter, expand the body instead.
  *
  * STACK. A call needs less than ZV_MOST_STACK bytes of stack, whatever it is given: none recurses, and none has an
  * array whose length depends on the input. tests/c/stack.c measures some 16 KiB for zv_sum, and 4 KiB for any other. A
@@ -250,8 +252,8 @@ typedef struct zv_checked {
     uint64_t word;
 } zv_checked;
 
-/* Of a row: `value` is 1 if it is set and 0 if not, `first` and `last` are the first and the last row of the piece
- * that it lies in. All three are 0 on a refusal. */
+/* Of a row: `value` is 1 if it is set and 0 if not, `first` and `last` are the first and the last row of its piece. All
+ * three are 0 on a refusal. */
 typedef struct zv_flag {
     uint32_t number;
     uint32_t bitmap;

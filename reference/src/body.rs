@@ -108,7 +108,7 @@ fn read_alone(body: &[u32], rows: u32, format: Format) -> Result<Body, Refusal> 
 #[derive(Clone, Copy, Debug, PartialEq, Eq)]
 pub struct Row {
     pub set: bool,
-    /// The first row of the piece that it lies in.
+    /// The first row of its piece.
     pub first: u32,
     /// The last one; it is below R.
     pub last: u32,

@@ -16,7 +16,7 @@ fn made(body: &Body, ewah: Mistake, wah: Mistake) -> bool {
     }
 }
 
-/// First and last row of the piece that this row lies in.
+/// The rows of this row's piece: the first and the last.
 pub(crate) fn told(body: &Body, row: usize) -> (u32, u32) {
     let (first, last) = rows_told(body, segments_told(body, row / body.format.width()));
     if made(body, Mistake::FirstIsAsked, Mistake::WahFirstIsAsked) {

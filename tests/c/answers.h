@@ -116,7 +116,7 @@ typedef struct {
 /* zv_body_row or zv_wah_body_row of a body, with its rows, or zv_row of an index, with a bitmap's number */
 typedef zv_flag row_call(const uint32_t *words, size_t length, uint32_t rows_or_k, uint32_t row);
 
-/* these are all pieces of a sound body, in order: asked at their first rows, at their last and at rows between */
+/* a sound body has just these pieces, one behind the other: asked at their first rows, their last and rows between */
 static inline void every_piece(source at, row_call *call, const uint32_t *words, size_t length, uint32_t rows_or_k,
                                const piece *pieces, size_t count)
 {

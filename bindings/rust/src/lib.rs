@@ -130,18 +130,19 @@ pub struct Answer {
     pub stretches: u32,
 }
 
-/// Whether a row is set, and the first and the last row of the piece that it lies in, as the body is written. A
-/// **piece** in EWAH is the clean segments that one marker counts, or one dirty word; in WAH it is one fill or one
-/// literal. Pad bits are no rows, so the last piece ends with the last row.
+/// Whether a row is set, and the first and the last row of its piece, as the body is written. A **piece** in EWAH is
+/// the clean segments that one marker counts, or one dirty word; in WAH it is one fill or one literal. Pad bits are no
+/// rows, so the last piece ends with the last row.
 ///
 /// In clean segments every row from `first` to `last` is set or clear as the row asked for. Rows just outside may be
 /// so too, in canonical form as in any other: clean segments are whole ones, a marker counts at most [`MOST_CLEAN`] of
 /// them, and a mixed segment may begin or end with such rows. In a dirty word or a literal, which has at most
-/// [`Format::segment_rows`] rows, the others may be different. So this does not tell how far set rows go on:
-/// [`spells`] does.
+/// [`Format::segment_rows`] rows, the others may be different. So this does not tell how far such rows go on: of set
+/// rows [`spells`] does, and [`wah::spells`] in WAH.
 ///
 /// A body's pieces can be gone through from row 0 on, always to the row behind `last`. Each of these calls walks the
-/// body anew, so together they can take a time that grows with the square of the number of pieces.
+/// body anew, so together they can take a time that grows with the square of the number of pieces. To list rows use
+/// [`set_rows`] or [`spells`], or those of [`wah`].
 ///
 /// ```
 /// use zvonurel::{body_row, Row};
@@ -157,7 +158,7 @@ pub struct Answer {
 pub struct Row {
     /// Whether the row is set.
     pub set: bool,
-    /// The first row of the piece that it lies in.
+    /// The first row of its piece.
     pub first: u32,
     /// The last row of that piece.
     pub last: u32,
