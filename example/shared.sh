@@ -50,7 +50,7 @@ tanks_of() {
     [ ! -f "$1" ] || LC_ALL=C awk '
         NR == 1 { sub(/^\xEF\xBB\xBF/, "") }
         { sub(/\r$/, "") }
-        /^[ \t]*tanks[ \t]+([1-9]|1[0-9]|2[01])[ \t]*$/ { said = $2 + 0; heads++; next }
+        /^[ \t]*tanks[ \t]+([1-9]|[1-7][0-9]|8[0-5])[ \t]*$/ { said = $2 + 0; heads++; next }
         /^[ \t]*(#|$|tanks|from)/ { next }
         { there++ }
         END { if (heads == 1 && there == said) print said }' <"$1"

@@ -9,6 +9,8 @@ const MONTHS: [&str; 12] = ["Jan", "Feb", "Mar", "Apr", "May", "Jun", "Jul", "Au
 
 /// Half hours in a day.
 pub const DAY: usize = 48;
+/// The most half hours in a year.
+pub const YEAR: usize = 366 * DAY;
 
 /// A day that there is.
 #[derive(Clone, Copy, Debug, PartialEq, Eq)]

@@ -1,7 +1,8 @@
 //! The colour classes: their letters in a log, and their names in a question.
 
-use zvonurel::{MOST_BITMAPS, MOST_ROWS};
+use zvonurel::MOST_BITMAPS;
 
+use crate::calendar::YEAR;
 use crate::log::Entry;
 use crate::number::grouped;
 use crate::text::{joined, printable};
@@ -65,7 +66,8 @@ impl Entry for Colour {
     const TANKS: usize = 12;
     /// An index has room for a bitmap of each colour of so many tanks.
     const MOST_TANKS: usize = MOST_BITMAPS as usize / Colour::ALL.len();
-    const MOST_ROWS: usize = MOST_ROWS as usize;
+    /// Those of three centuries: an index of the most tanks has room for them, however they change.
+    const MOST_ROWS: usize = 300 * YEAR;
     const MOST_BYTES: usize = 1;
     const GOES_ON: bool = false;
 
@@ -89,6 +91,8 @@ impl Entry for Colour {
 
 #[cfg(test)]
 mod tests {
+    use zvonurel::{Format, ENTRY_WORDS, HEAD_WORDS, MOST_INDEX_WORDS, MOST_ROWS};
+
     use super::Colour::{Amber, Green, Red};
     use super::*;
 
@@ -124,6 +128,17 @@ mod tests {
     fn a_sentence_has_any_of_them() {
         assert_eq!(any_of(&[Red]), "red");
         assert_eq!(any_of(&[Green, Amber, Red]), "green, amber or red");
+    }
+
+    #[test]
+    fn an_index_has_room_for_the_most_letters() {
+        let rows = u32::try_from(Colour::MOST_ROWS).expect("a number of rows");
+        assert!((1..=MOST_ROWS).contains(&rows));
+        for format in [Format::Ewah, Format::Wah] {
+            let bitmap_words = ENTRY_WORDS + format.most_body_words(rows);
+            let words = HEAD_WORDS + Colour::MOST_TANKS * Colour::ALL.len() * bitmap_words;
+            assert!(words <= MOST_INDEX_WORDS, "{words}");
+        }
     }
 
     #[test]

@@ -88,10 +88,11 @@ impl Asked {
 #[cfg(test)]
 mod tests {
     use super::*;
+    use crate::log::Entry;
 
     #[test]
     fn every_tank_and_colour_has_its_bitmap() {
-        for bitmap in 0..63 {
+        for bitmap in 0..(Colour::MOST_TANKS * Colour::ALL.len()) as u32 {
             let (tank, colour) = tank_and_colour(bitmap);
             assert_eq!(bitmap_of(tank, colour), bitmap);
         }

@@ -289,8 +289,8 @@ mod tests {
 
     #[test]
     fn head_lines_say_what_there_is() {
-        for text in ["0", "22", "-1", "+1", "01", "1.5", "x", "1 1", "4294967297"] {
-            let begins = format!("`{text}` is no number of tanks from 1 to 21");
+        for text in ["0", "86", "-1", "+1", "01", "1.5", "x", "1 1", "4294967297"] {
+            let begins = format!("`{text}` is no number of tanks from 1 to 85");
             refused(&format!("tanks {text}"), Some(1), &begins);
         }
         refused("tanks", Some(1), "`` is no number of tanks");
@@ -339,11 +339,11 @@ mod tests {
     }
 
     #[test]
-    fn letters_are_no_more_than_a_bitmap_has_rows() {
+    fn letters_are_no_more_than_those_of_three_centuries() {
         let most = "g".repeat(Colour::MOST_ROWS);
         let log = Letters::read(&format!("tanks 1\nfrom 2026-03-02 23:30\nt1: {most}")).expect("a log");
         assert_eq!(log.span().rows, most.len());
-        refused(&format!("{HEAD}t1: {most}g"), Some(3), "`t1` has 16,777,217 letters, and 16,777,216 are the most");
+        refused(&format!("{HEAD}t1: {most}g"), Some(3), "`t1` has 5,270,401 letters, and 5,270,400 are the most");
     }
 
     /// A line without a colon is no part of a tank's letters, and what is wrong above it is told first.

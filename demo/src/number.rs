@@ -5,7 +5,7 @@ pub fn from_one_to(most: usize, text: &str) -> Option<usize> {
     (1..=most).find(|n| n.to_string() == text)
 }
 
-/// The digits in groups of three: `16,777,216`.
+/// The digits in groups of three: `5,270,400`.
 pub fn grouped(n: usize) -> String {
     let digits = n.to_string();
     let mut text = String::new();
@@ -38,8 +38,8 @@ mod tests {
 
     #[test]
     fn digits_stand_in_groups_of_three() {
-        let shown = [0, 7, 21, 336, 1_000, 65_536, 100_000, 16_777_216].map(grouped);
-        assert_eq!(shown, ["0", "7", "21", "336", "1,000", "65,536", "100,000", "16,777,216"]);
+        let shown = [0, 7, 21, 336, 1_000, 65_536, 100_000, 5_270_400].map(grouped);
+        assert_eq!(shown, ["0", "7", "21", "336", "1,000", "65,536", "100,000", "5,270,400"]);
     }
 
     #[test]

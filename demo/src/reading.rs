@@ -2,7 +2,7 @@
 
 use zvonurel::MOST_BITMAPS;
 
-use crate::calendar::DAY;
+use crate::calendar::YEAR;
 use crate::log::Entry;
 use crate::number::grouped;
 use crate::text::printable;
@@ -23,11 +23,11 @@ impl Entry for Reading {
     const NAME: &'static str = "reading";
     const EXAMPLE: &'static str = "0.21 0.20 -";
     const EACH: &'static str = "a reading or -";
-    const TANKS: usize = 3;
+    const TANKS: usize = 12;
     /// An index has room for the existence bitmap and the slices of so many tanks.
     const MOST_TANKS: usize = MOST_BITMAPS as usize / (1 + SLICES);
     /// Those of a year: each value that is asked goes through the whole column.
-    const MOST_ROWS: usize = 366 * DAY;
+    const MOST_ROWS: usize = YEAR;
     const MOST_BYTES: usize = "655.35\r\n".len();
     const GOES_ON: bool = true;
 

@@ -111,7 +111,7 @@ fn a_tank_twice() {
 
 #[test]
 fn a_head_line_that_is_missing_or_there_twice() {
-    let tanks = "no line says how many tanks there are: add one at the top, as `tanks 3`.";
+    let tanks = "no line says how many tanks there are: add one at the top, as `tanks 12`.";
     let from = "no line says when the first half hour begins: add one at the top, as `from 2026-03-02 00:00`.";
     log_refused("", &format!(": {tanks}"));
     log_refused("tanks 2\n", &format!(": {from}"));
@@ -124,9 +124,9 @@ fn a_head_line_that_is_missing_or_there_twice() {
 
 #[test]
 fn a_head_line_that_can_not_be() {
-    let mend = "write it as `tanks 3`, and share more tanks among several logs.";
-    for text in ["0", "4", "12", "03", "three"] {
-        let words = format!(", line 1: `{text}` is no number of tanks from 1 to 3: {mend}");
+    let mend = "write it as `tanks 12`, and share more tanks among several logs.";
+    for text in ["0", "16", "85", "012", "twelve"] {
+        let words = format!(", line 1: `{text}` is no number of tanks from 1 to 15: {mend}");
         log_refused(format!("tanks {text}\n"), &words);
     }
     let mend = "write it as `from 2026-03-02 00:00`.";

@@ -95,7 +95,7 @@ const COLOURS: [&str; 8] =
 fn random_logs() {
     let mut numbers = Numbers(10);
     for i in 0..160 {
-        let (tank_count, rows) = (1 + numbers.below(21), 1 + numbers.below(400));
+        let (tank_count, rows) = (1 + numbers.below(85), 1 + numbers.below(400));
         let letters = tanks_of(&mut numbers, tank_count, rows);
         let colours = COLOURS[numbers.below(COLOURS.len())];
         Case::new(BEGINNINGS[i % BEGINNINGS.len()], letters, colours, 1 + numbers.below(tank_count)).verify();
@@ -134,9 +134,9 @@ fn one_tank_and_one_half_hour() {
 #[test]
 fn as_many_tanks_as_there_can_be() {
     let mut numbers = Numbers(12);
-    let letters = tanks_of(&mut numbers, 21, 336);
+    let letters = tanks_of(&mut numbers, 85, 336);
     for colours in COLOURS {
-        for t in [1, 2, 7, 20, 21] {
+        for t in [1, 2, 28, 43, 84, 85] {
             Case::new("2026-03-02 00:00", letters.clone(), colours, t).verify();
         }
     }

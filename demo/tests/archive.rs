@@ -173,7 +173,11 @@ fn a_damaged_archive_is_refused_in_plain_words() {
     damaged_refused(|words| words.clear(), "number 1, bitmap 0, word 0: the file ends here, before its contents do");
     damaged_refused(|words| words[0] = 0x0200_0000, "number 2, bitmap 0, word 0: here an archive in WAH has a 2");
     let large = "it has more words, half hours or bitmaps than can be asked";
-    damaged_refused(|words| words[1] = 16_777_217, &format!("number 3, bitmap 0, word 1: {large}"));
+    damaged_refused(|words| words[1] = 1_073_741_825, &format!("number 3, bitmap 0, word 1: {large}"));
+    damaged_refused(|words| words[2] = 257, &format!("number 3, bitmap 0, word 2: {large}"));
+    // the most that can be asked, and more than are there
+    damaged_refused(|words| words[1] = 1_073_741_824, &format!("number 6, bitmap 0 (tank 1, green), word 18: {many}"));
+    damaged_refused(|words| words[2] = 256, "number 1, bitmap 0, word 25: the file ends here, before its contents do");
     // a bitmap that the log has no tank for
     let more = [2, 1, 7, 17, 1, 18, 1, 19, 1, 20, 1, 21, 1, 22, 1, 23, 1, 0, 0, 0, 0, 0, 0, 0x8000_0000];
     damaged_refused(|words| *words = more.to_vec(), &format!("number 10, bitmap 6, word 23: {zero}"));

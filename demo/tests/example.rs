@@ -163,6 +163,11 @@ fn wrong_arguments_beside_those_of_the_week() {
         folder.write("other.txt", text.replace("tanks 12", said));
         assert!(unbuilt(&folder, &["other.txt", "amber+red", "13"]).err.contains("WAS RUN"), "{said}");
     }
+    // as many tanks as there can be, and one more
+    folder.write("most.txt", log_text("2026-03-02 00:00", &["gar"; 85]));
+    unbuilt(&folder, &["most.txt", "red", "86"]).refused("There are 85 tanks, so ask for 1 to 85.");
+    folder.write("more.txt", log_text("2026-03-02 00:00", &["gar"; 86]));
+    assert!(unbuilt(&folder, &["more.txt", "red", "87"]).err.contains("WAS RUN"));
     // five is what is asked where no number is named
     folder.write("one.txt", log_text("2026-03-02 00:00", &["gar"]));
     unbuilt(&folder, &["one.txt"]).refused("There is 1 tank, so ask for 1.");

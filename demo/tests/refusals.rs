@@ -42,9 +42,9 @@ fn a_head_line_that_is_there_twice() {
 
 #[test]
 fn a_number_of_tanks_that_can_not_be() {
-    for text in ["0", "22", "64", "-12", "+12", "012", "12.0", "twelve", "12 tanks", "99999999999999999999"] {
+    for text in ["0", "86", "256", "-12", "+12", "012", "12.0", "twelve", "12 tanks", "99999999999999999999"] {
         let words = format!(
-            ", line 1: `{text}` is no number of tanks from 1 to 21: write it as `tanks 12`, and share more tanks among \
+            ", line 1: `{text}` is no number of tanks from 1 to 85: write it as `tanks 12`, and share more tanks among \
              several logs."
         );
         log_refused(format!("tanks {text}\nfrom 2026-03-02 00:00\ntank 1: g\n"), &words);
@@ -158,11 +158,10 @@ fn lines_of_unequal_length() {
 }
 
 #[test]
-fn more_half_hours_than_the_library_takes() {
+fn more_half_hours_than_three_centuries() {
     log_refused(
-        log_text("2026-03-02 00:00", &["a".repeat(16_777_217)]),
-        ", line 3: `tank 1` has 16,777,217 letters, and 16,777,216 are the most that can be asked: split the log by \
-         time.",
+        log_text("2026-03-02 00:00", &["a".repeat(5_270_401)]),
+        ", line 3: `tank 1` has 5,270,401 letters, and 5,270,400 are the most that can be asked: split the log by time.",
     );
 }
 
