@@ -50,11 +50,19 @@ impl Columns {
         let existence = zvonurel::bitmap(&self.index, self.lists[column][0])?;
         Ok(zvonurel::spells(existence, self.rows)?.collect())
     }
+
+    /// For each number of columns, from none to all, how many rows exist in just so many of them.
+    pub fn histogram(&self) -> Result<Vec<usize>, Refusal> {
+        let existence: Vec<u32> = self.lists.iter().map(|list| list[0]).collect();
+        let counts = zvonurel::histogram(&self.index, &existence)?;
+        Ok(counts[..=existence.len()].iter().map(|rows| *rows as usize).collect())
+    }
 }
 
 #[cfg(test)]
 mod tests {
     use super::*;
+    use crate::log::Entry;
 
     fn columns(tanks: &[&str]) -> Columns {
         let lines: String = tanks.iter().zip(1..).map(|(readings, n)| format!("tank {n}: {readings}\n")).collect();
@@ -63,17 +71,29 @@ mod tests {
         Columns::new(&log).expect("columns")
     }
 
-    /// Three columns of 16 slices with existence are 51 bitmaps.
+    /// Fifteen columns of 16 slices with existence are 255 bitmaps.
     #[test]
     fn every_tank_has_a_column() {
-        let columns = columns(&["0.00 0.01 655.35", "- - -", "- 1.00 -"]);
-        assert_eq!(columns.index[2], 51);
+        let tanks = [vec!["0.00 0.01 655.35", "- - -"], vec!["0.21 - 0.20"; 12], vec!["- 1.00 -"]].concat();
+        let columns = columns(&tanks);
+        assert_eq!((tanks.len(), columns.index[2]), (Reading::MOST_TANKS, 255));
         assert_eq!(columns.lists[1], (17..34).collect::<Vec<_>>());
+        assert_eq!(columns.lists[14], (238..255).collect::<Vec<_>>());
         assert_eq!(columns.values(0), Ok(vec![Some(0), Some(1), Some(65_535)]));
         assert_eq!(columns.values(1), Ok(vec![None; 3]));
-        assert_eq!(columns.values(2), Ok(vec![None, Some(100), None]));
-        assert_eq!(columns.spells(2), Ok(vec![Spell { first: 1, length: 1 }]));
+        assert_eq!(columns.values(14), Ok(vec![None, Some(100), None]));
+        assert_eq!(columns.spells(14), Ok(vec![Spell { first: 1, length: 1 }]));
         assert_eq!(columns.spells(1), Ok(Vec::new()));
+    }
+
+    /// A row counts once, with the number of columns that it exists in.
+    #[test]
+    fn a_histogram_has_every_row() {
+        let histogram = |tanks: &[&str]| columns(tanks).histogram();
+        assert_eq!(histogram(&["0.00 0.01 - - 0.21", "- - - 1.00 0.20", "- 1.00 - - 0.00"]), Ok(vec![1, 2, 1, 1]));
+        assert_eq!(histogram(&["- -"]), Ok(vec![2, 0]));
+        let all = [vec![0; 15], vec![2]].concat();
+        assert_eq!(histogram(&["0.00 655.35"; 15]), Ok(all));
     }
 
     #[test]

@@ -96,6 +96,20 @@ pub fn length(half_hours: usize) -> String {
     }
 }
 
+/// How long so many tanks had a reading, and how long so many or more had one, from the most on: `counts` has the half
+/// hours of each number of tanks, from none on. A number of no half hour is left out.
+pub fn histogram(counts: &[usize]) -> String {
+    let mut lines = vec![["", "just so many", "so many or more"].map(str::to_string)];
+    let mut or_more = 0;
+    for (tanks, half_hours) in counts.iter().enumerate().rev().filter(|(_, half_hours)| **half_hours > 0) {
+        or_more += half_hours;
+        lines.push([tanks.to_string(), length(*half_hours), length(or_more)]);
+    }
+    let widest = |column: usize| lines.iter().map(|line| line[column].len()).max().unwrap_or(0);
+    let (left, middle) = (widest(0), widest(1));
+    lines.iter().map(|[tanks, just, more]| format!("  {tanks:>left$}  {just:middle$}  {more}\n")).collect()
+}
+
 /// A spell from its first half hour to the end of its last. Its end has a date where that is another day.
 fn spell_line(span: Span, spell: &Spell) -> String {
     let (first, half_hours) = (spell.first as usize, spell.length as usize);
@@ -181,6 +195,18 @@ mod tests {
         let shown = [1, 2, 3, 8, 21, 48, 2_000, 2_001].map(length);
         let expected = ["30 min", "1 h", "1 h 30 min", "4 h", "10 h 30 min", "24 h", "1,000 h", "1,000 h 30 min"];
         assert_eq!(shown, expected);
+    }
+
+    /// The half hours of 12 tanks at once, of 9, of 1, and of none.
+    #[test]
+    fn a_histogram_goes_from_the_most_tanks_to_the_fewest() {
+        let mut counts = [0; 13];
+        (counts[12], counts[9], counts[1], counts[0]) = (201, 3, 2_000, 1);
+        let expected = "      just so many  so many or more\n  12  100 h 30 min  100 h 30 min\n\
+                        \x20  9  1 h 30 min    102 h\n   1  1,000 h       1,102 h\n\
+                        \x20  0  30 min        1,102 h 30 min\n";
+        assert_eq!(histogram(&counts), expected);
+        assert_eq!(histogram(&[1, 0]), "     just so many  so many or more\n  0  30 min        30 min\n");
     }
 
     #[test]

@@ -1,5 +1,5 @@
-//! The readings at a time, and the load of a biofilter that two tanks share, which is the sum of their readings: from
-//! the arguments to the whole answer, or to the sentence that refuses it.
+//! The readings at a time, the load of a biofilter that two tanks share, which is the sum of their readings, and how
+//! many tanks had a reading at once: from the arguments to the whole answer, or to the sentence that refuses it.
 
 use std::ffi::{OsStr, OsString};
 use std::path::Path;
@@ -26,7 +26,8 @@ pub fn report(log: &OsStr, time: Option<[&OsString; 2]>, names: Option<[&OsStrin
     let readings = readings(&log, &columns, pair, sums[row], row)?;
     let (picture, spells) = (draw::sums(log.span(), &sums), sum.spells(0).map_err(told)?);
     let spells = draw::spells(log.span(), &spells);
-    Ok(format!("{read}\n{added}\n\n{readings}\n{picture}Both had a reading:\n\n{spells}{compared}"))
+    let histogram = histogram(&log, &columns.histogram().map_err(told)?)?;
+    Ok(format!("{read}\n{added}\n\n{readings}\n{picture}Both had a reading:\n\n{spells}{compared}\n{histogram}"))
 }
 
 /// The places of the two tanks.
@@ -90,6 +91,27 @@ fn compared(log: &Log<Reading>, pair: [usize; 2], sums: &[Option<u64>]) -> Resul
     })
 }
 
+/// How many tanks had a reading at once, and for how long, unless plain counting gives other half hours.
+fn histogram(log: &Log<Reading>, counts: &[usize]) -> Result<String, String> {
+    let (all, half_hours) = (log.tanks.len(), log.span().rows);
+    let mut plain = vec![0; all + 1];
+    for row in 0..half_hours {
+        plain[log.tanks.iter().filter(|tank| tank.entries[row].is_some()).count()] += 1;
+    }
+    if let Some(tanks) = (0..=all).find(|tanks| counts[*tanks] != plain[*tanks]) {
+        let [counted, plain] = [counts[tanks], plain[tanks]].map(|n| count(n, "half hour"));
+        return Err(format!(
+            "The library counts {counted} in which {tanks} of the {all} tanks had a reading, and plain counting \
+             {plain}. Build it anew, with `build`."
+        ));
+    }
+    let (lines, half_hours) = (draw::histogram(counts), count(half_hours, "half hour"));
+    Ok(format!(
+        "How many of the {all} tanks had a reading at once, and how long:\n\n{lines}\nPlain counting of the log's \
+         readings gives the same {half_hours}.\n"
+    ))
+}
+
 #[cfg(test)]
 mod tests {
     use super::*;
@@ -112,6 +134,23 @@ mod tests {
         assert_eq!(compared(&log("0.00", "0.00"), [1, 0], &[Some(0)]), Ok(same.to_string()));
         let none = "Plain addition of the log's readings gives no sum either.\n";
         assert_eq!(compared(&log("0.21 -", "- 0.21"), [0, 1], &[None, None]), Ok(none.to_string()));
+    }
+
+    #[test]
+    fn the_same_half_hours_are_counted() {
+        let log = log("0.21 - 655.35 -", "0.20 0.30 655.35 -");
+        let same = "How many of the 2 tanks had a reading at once, and how long:\n\n\
+                    \x20    just so many  so many or more\n  2  1 h           1 h\n  1  30 min        1 h 30 min\n\
+                    \x20 0  30 min        2 h\n\nPlain counting of the log's readings gives the same 4 half hours.\n";
+        assert_eq!(histogram(&log, &[1, 1, 2]), Ok(same.to_string()));
+        for (counts, what) in [
+            ([0, 2, 2], "0 half hours in which 0 of the 2 tanks had a reading, and plain counting 1 half hour."),
+            ([1, 2, 1], "2 half hours in which 1 of the 2 tanks had a reading, and plain counting 1 half hour."),
+            ([1, 1, 1], "1 half hour in which 2 of the 2 tanks had a reading, and plain counting 2 half hours."),
+        ] {
+            let what = format!("The library counts {what} Build it anew, with `build`.");
+            assert_eq!(histogram(&log, &counts), Err(what));
+        }
     }
 
     /// The first half hour at which they are not the same is told.

@@ -1,4 +1,4 @@
-//! Sound logs of readings: what is listed, drawn and summed is what adding reading by reading gives.
+//! Sound logs of readings: what is listed, drawn, summed and counted is what going through them one by one gives.
 
 mod common;
 #[path = "common/days.rs"]
@@ -70,9 +70,26 @@ impl Case<'_> {
             n if n < 1000 => format!("Plain addition of the log's readings gives the same {n} sums.\n"),
             n => format!("Plain addition of the log's readings gives the same {},{:03} sums.\n", n / 1000, n % 1000),
         };
+        let (out, histogram) = out.split_once("\nHow many of the ").unwrap_or_else(|| panic!("{out}"));
+        self.verify_histogram(histogram);
         let out = out.strip_suffix(&plain).unwrap_or_else(|| panic!("{out}\n{plain}"));
         assert_eq!(read::spells(out, &days::half_hours(self.from, self.rows(), with_year)), held, "{out}");
         assert_eq!(read::sum(out), read::counted(&held), "{out}");
+    }
+
+    /// The numbers of tanks that had a reading at once, the most first, as far as there is a half hour of so many.
+    fn verify_histogram(&self, text: &str) {
+        let (tanks, half_hours) = (self.tanks.len(), drawn::half_hours(self.rows()));
+        let heading = format!("{tanks} tanks had a reading at once, and how long:\n\n");
+        let closing = format!("\nPlain counting of the log's readings gives the same {half_hours}.\n");
+        let lines = text.strip_prefix(&heading).and_then(|rest| rest.strip_suffix(&closing));
+        let (columns, lines) = lines.and_then(|lines| lines.split_once('\n')).unwrap_or_else(|| panic!("{text}"));
+        assert_eq!(columns.split_whitespace().collect::<Vec<_>>().join(" "), "just so many so many or more");
+        let at_once = |row: usize| self.tanks.iter().filter(|readings| readings[row].is_some()).count();
+        let at_once: Vec<usize> = (0..self.rows()).map(at_once).collect();
+        let rows = |wanted: &dyn Fn(usize) -> bool| at_once.iter().filter(|there| wanted(**there)).count();
+        let counted = (0..=tanks).rev().map(|n| [n, rows(&|there| there == n), rows(&|there| there >= n)]);
+        assert_eq!(read::histogram(lines), counted.filter(|[_, just, _]| *just > 0).collect::<Vec<_>>(), "{text}");
     }
 
     /// What was read and added, and the readings at the time.
@@ -81,8 +98,9 @@ impl Case<'_> {
         let tanks = self.tanks.iter().zip(1..).map(|(readings, n)| (format!("tank {n}"), shown(readings[self.row])));
         let mut lines: Vec<(String, String)> = tanks.collect();
         lines.push((format!("{first} + {second}"), shown(self.sums()[self.row])));
-        let width = lines.iter().map(|(_, value)| value.len()).max().expect("a line");
-        let lines: String = lines.iter().map(|(name, value)| format!("  {name:15}  {value:>width$}\n")).collect();
+        let left = lines.iter().map(|(name, _)| name.len()).max().expect("a line");
+        let right = lines.iter().map(|(_, value)| value.len()).max().expect("a line");
+        let lines: String = lines.iter().map(|(name, value)| format!("  {name:left$}  {value:>right$}\n")).collect();
         let (read, (date, clock)) = (drawn::first_line(self.tanks.len(), whole), &whole[self.row]);
         format!(
             "{read}\nAdded: {first} and {second}, whose sum is the load of a biofilter that they share; in \
@@ -140,7 +158,7 @@ fn tanks_of(numbers: &mut Numbers, tanks: usize, rows: usize) -> Vec<Vec<Reading
 fn random_logs() {
     let mut numbers = Numbers(20);
     for i in 0..120 {
-        let (tanks, rows) = (2 + numbers.below(2), 1 + numbers.below(400));
+        let (tanks, rows) = (2 + numbers.below(14), 1 + numbers.below(400));
         let tanks = &tanks_of(&mut numbers, tanks, rows)[..];
         let (line, row, first) = (1 + numbers.below(60), numbers.below(rows), numbers.below(tanks.len()));
         let pair = [first, (first + 1 + numbers.below(tanks.len() - 1)) % tanks.len()];
@@ -169,17 +187,17 @@ fn all_and_none_of_the_half_hours() {
     }
 }
 
-/// As many half hours as a log can have.
+/// As many tanks and half hours as a log can have.
 #[test]
-fn a_year() {
+fn a_year_of_fifteen_tanks() {
     let mut numbers = Numbers(22);
-    let tanks = &tanks_of(&mut numbers, 3, 366 * 48)[..];
-    Case { from: "2027-09-01 12:30", tanks, line: 48, row: 10_000, pair: [2, 0] }.verify();
+    let tanks = &tanks_of(&mut numbers, 15, 366 * 48)[..];
+    Case { from: "2027-09-01 12:30", tanks, line: 48, row: 10_000, pair: [14, 0] }.verify();
 }
 
 /// The week of the example: its last half hour and its first two tanks are asked where none are named.
 #[test]
-fn the_week_of_three_tanks() {
+fn the_week_of_twelve_tanks() {
     let week = repository("example/ammonia.txt");
     let expected = fs::read_to_string(repository("example/ammonia-1-2.txt")).expect("the expected answer");
     assert_eq!(asked(&week, &[]), expected);
@@ -199,9 +217,9 @@ fn the_worst_half_hour_is_the_highest_sum() {
 #[test]
 fn tanks_are_named_however_they_are_written() {
     let week = repository("example/ammonia.txt");
-    let out = asked(&week, &["2026-03-12", "22:00", "tank 3", "tank 2"]);
-    assert!(out.contains("\nAdded: tank 3 and tank 2, "), "{out}");
-    assert_eq!(asked(&week, &["2026-03-12", "22:00", "Tank03", " TANK\t2"]), out);
+    let out = asked(&week, &["2026-03-12", "22:00", "tank 12", "tank 2"]);
+    assert!(out.contains("\nAdded: tank 12 and tank 2, "), "{out}");
+    assert_eq!(asked(&week, &["2026-03-12", "22:00", "Tank012", " TANK\t2"]), out);
 }
 
 #[test]
@@ -212,7 +230,10 @@ fn singular_and_none() {
                     Added: pond and big pond, whose sum is the load of a biofilter that they share; in milligrams.\n\n\
                     Mon 9 Mar 2026 23:30:\n\n  pond             12.00\n  big pond          none\n\
                     \x20 pond + big pond   none\n\nBoth had a reading:\n\nAt no time.\n\
-                    Plain addition of the log's readings gives no sum either.\n";
+                    Plain addition of the log's readings gives no sum either.\n\n\
+                    How many of the 2 tanks had a reading at once, and how long:\n\n\
+                    \x20    just so many  so many or more\n  1  30 min        30 min\n\n\
+                    Plain counting of the log's readings gives the same 1 half hour.\n";
     assert_eq!(asked(&log, &[]), expected);
 }
 

@@ -262,7 +262,7 @@ fn readings_stand_alone_on_standard_output() {
     assert!(calls.contains(&"rt staticlib zvonurel_c".to_string()), "{calls:?}");
     assert_eq!(calls.last().map(String::as_str), Some("ZVONUREL_LIB=target/staticlib"));
     let (folder, script) = (log.parent().expect("a folder"), mock.path("example/ammonia"));
-    for words in [&["2026-03-15", "23:30"][..], &["2026-03-12", "22:00", "tank 3", "tank 1"]] {
+    for words in [&["2026-03-15", "23:30"][..], &["2026-03-12", "22:00", "tank 12", "tank 7"]] {
         let told = run(mock.command(&script).arg("my log.txt").args(words).current_dir(folder));
         let demo = run(Command::new(AMMONIA).arg(&week).args(words));
         assert_eq!((told.status, told.out), (Some(0), demo.out), "{}", told.err);

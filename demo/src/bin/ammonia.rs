@@ -1,5 +1,5 @@
-//! What were the readings at a time, and how high was the sum of two tanks? Reads a station's log, asks the library,
-//! and draws the answer.
+//! What were the readings at a time, how high was the sum of two tanks, and how many had a reading at once? Reads a
+//! station's log, asks the library, and draws the answer.
 
 use std::process::ExitCode;
 
@@ -7,7 +7,8 @@ use tanks::load::report;
 
 const USAGE: &str = "Usage: ammonia LOG [DATE TIME [FIRST SECOND]].";
 const HELP: &str = "
-What ammonia did the tanks of a log have at a time, and how high was the load of a biofilter that two of them share?
+What ammonia did the tanks of a log have at a time, how high was the load of a biofilter that two of them share, and for
+how long had how many tanks a reading at once?
 
   LOG            a station's log: `tanks N` and `from YYYY-MM-DD HH:MM`, then for each tank its name, a colon and a
                  reading for each half hour, in milligrams with two decimals, or - where there is none; a line without

@@ -7,12 +7,17 @@ use crate::days::Day;
 
 /// What was read. `whole` has the half hours and the one behind the last, with their years.
 pub fn first_line(tanks: usize, whole: &[(String, String)]) -> String {
-    let s = |n: usize| if n == 1 { "" } else { "s" };
+    let s = if tanks == 1 { "" } else { "s" };
     let rows = whole.len() - 1;
-    let shown = if rows < 1000 { rows.to_string() } else { format!("{},{:03}", rows / 1000, rows % 1000) };
     let ((first, first_time), (last, last_time)) = (&whole[0], &whole[rows]);
-    let (tanks, rows) = (format!("{tanks} tank{}", s(tanks)), format!("{shown} half hour{}", s(rows)));
-    format!("Read: {tanks}, {rows} from {first} {first_time} to {last} {last_time}.")
+    format!("Read: {tanks} tank{s}, {} from {first} {first_time} to {last} {last_time}.", half_hours(rows))
+}
+
+/// `1 half hour`, `336 half hours`, `17,568 half hours`.
+pub fn half_hours(rows: usize) -> String {
+    let s = if rows == 1 { "" } else { "s" };
+    let shown = if rows < 1000 { rows.to_string() } else { format!("{},{:03}", rows / 1000, rows % 1000) };
+    format!("{shown} half hour{s}")
 }
 
 /// The lines of the days: of each two hours a sign, and of each day what stands beside it. Half hours that are not in

@@ -1,5 +1,8 @@
 //! What the demo drew, read back into half hours.
 
+// each file of tests uses a part of it
+#![allow(dead_code)]
+
 /// Whether each half hour lies in one of the spells that the demo listed. `half_hours` has their dates and times, and
 /// the one behind the last.
 pub fn spells(out: &str, half_hours: &[(String, String)]) -> Vec<bool> {
@@ -43,6 +46,16 @@ pub fn sum(out: &str) -> (usize, usize) {
     let (length, spells) = line.strip_prefix("In all ").and_then(|rest| rest.split_once(" in ")).expect(line);
     let spells = spells.strip_suffix(" spell.").or(spells.strip_suffix(" spells.")).expect(line);
     (half_hours_of(length), spells.replace(',', "").parse().expect(line))
+}
+
+/// The lines below a heading: a number of tanks, the half hours of just so many, and those of so many or more.
+pub fn histogram(lines: &str) -> Vec<[usize; 3]> {
+    let read = |line: &str| {
+        let cells: Vec<&str> = line.split("  ").map(str::trim).filter(|cell| !cell.is_empty()).collect();
+        let [tanks, just, or_more] = cells[..] else { panic!("{line}") };
+        [tanks.parse().expect("a number of tanks"), half_hours_of(just), half_hours_of(or_more)]
+    };
+    lines.lines().map(read).collect()
 }
 
 /// How many half hours are set, and in how many spells.
