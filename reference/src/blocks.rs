@@ -6,7 +6,6 @@ use std::ops::Range;
 use crate::body::Body;
 use crate::limits::WORD_BITS;
 use crate::mistakes::{mistaken, Mistake};
-use crate::segment::set_in;
 
 /// Rows of a block of dirty words that is counted at once, and the bit columns that its rows lie in.
 const COUNTED: usize = 64 * WORD_BITS;
@@ -16,8 +15,13 @@ const PASSED: usize = 512 * WORD_BITS;
 
 /// The rows under one marker's dirty words, the pads among them.
 fn under(body: &Body, dirty: &Range<usize>) -> Vec<bool> {
-    let rows = WORD_BITS * dirty.start..WORD_BITS * dirty.end;
-    rows.map(|row| body.rows.get(row) == Some(&true)).collect()
+    let mut rows = body.rows.part(WORD_BITS * dirty.start..WORD_BITS * dirty.end).to_vec();
+    rows.resize(WORD_BITS * dirty.len(), false);
+    rows
+}
+
+fn set_in(rows: &[bool]) -> usize {
+    rows.iter().filter(|&&set| set).count()
 }
 
 /// Set rows that a count leaves out.
@@ -47,7 +51,7 @@ pub(crate) fn kept_on(body: &Body, n: usize) -> usize {
     }
     let mut kept = 0;
     for dirty in &body.dirties {
-        let mut before = body.rows.iter().take(WORD_BITS * dirty.start).filter(|&&set| set).count();
+        let mut before = body.rows.part(0..WORD_BITS * dirty.start).count();
         for block in under(body, dirty).chunks_exact(PASSED) {
             before += set_in(block);
             if before <= n + kept {

@@ -1,12 +1,14 @@
 //! One body, in either format: checking, reading, writing.
 
+use std::borrow::Cow;
 use std::ops::Range;
 
 use crate::format::Format;
 use crate::limits::MOST_ROWS;
 use crate::mistakes::{mistaken, mistaken_in, Mistake};
 use crate::refusal::{bad_argument, must_fit, refusal, too_many_rows, Refusal};
-use crate::segment::{bits_of, pad_mask, segments_in, segments_of, set_in, word_of_rows, Segment};
+use crate::segment::{pad_mask, segments_in, segments_of, Segment};
+use crate::spans::Spans;
 use crate::{blocks, ewah, extents, wah, widths};
 
 // ---- checking ----
@@ -43,10 +45,10 @@ pub(crate) struct Piece {
 /// A sound body, taken apart.
 pub(crate) struct Body {
     pub format: Format,
-    /// One bool a row.
-    pub rows: Vec<bool>,
+    /// Which rows are set.
+    pub rows: Spans<bool>,
     /// What is spelt past the last row, for mistakes only.
-    pub pads: Vec<bool>,
+    pub pads: Spans<bool>,
     /// In order; together they have all segments.
     pub pieces: Vec<Piece>,
     /// The segments under each marker's dirty words, for mistakes only; none in WAH.
@@ -58,13 +60,20 @@ pub(crate) struct Body {
 impl Body {
     /// Which piece a segment lies in.
     pub fn piece_over(&self, segment: usize) -> usize {
-        self.pieces.iter().position(|piece| piece.last >= segment).expect("a piece over every segment")
+        self.pieces.partition_point(|piece| piece.last < segment)
     }
 
     /// The segments of a piece.
     pub fn segments(&self, piece: usize) -> Range<usize> {
         let start = if piece == 0 { 0 } else { self.pieces[piece - 1].last + 1 };
         start..self.pieces[piece].last + 1
+    }
+
+    /// The rows, and the pads behind them.
+    pub fn rows_and_pads(&self) -> Spans<bool> {
+        let mut all = self.rows.clone();
+        all.append(&self.pads);
+        all
     }
 
     /// First and last row of these segments. Pads are no rows.
@@ -91,7 +100,7 @@ pub(crate) fn read(body: &[u32], rows: u32, format: Format) -> Body {
 fn split_at_pads(body: &mut Body) {
     let before = body.pieces.iter().rev().nth(1).map_or(0, |piece| piece.last + 1);
     let Some(last) = body.pieces.last().map(|piece| piece.last) else { return };
-    if body.pads.contains(&true) && last > before {
+    if body.pads.any() && last > before {
         body.pieces.insert(body.pieces.len() - 1, Piece { last: last - 1, dirty: false });
     }
 }
@@ -120,8 +129,8 @@ pub(crate) fn row_in(body: &Body, row: u32) -> Result<Row, Refusal> {
         return Ok(Row { set: false, first: row, last: row });
     }
     let pads_too = mistaken_in(body.format, Mistake::RowInPads, Mistake::WahRowInPads);
-    let in_pads = at >= rows && pads_too && body.pads.get(at - rows) == Some(&true);
-    let set = in_pads || *body.rows.get(widths::looked_up(body, at)).ok_or(bad_argument())?;
+    let in_pads = at >= rows && pads_too && body.pads.get(at - rows) == Some(true);
+    let set = in_pads || body.rows.get(widths::looked_up(body, at)).ok_or(bad_argument())?;
     let (first, last) = extents::told(body, at);
     Ok(Row { set, first, last })
 }
@@ -133,32 +142,33 @@ pub(crate) fn pieces_in(body: &Body) -> Vec<(u32, u32)> {
 
 pub(crate) fn count_in(body: &Body) -> u32 {
     let pads_too = mistaken_in(body.format, Mistake::RunCountsPads, Mistake::WahCountsPads);
-    let more = if pads_too { set_in(&body.pads) } else { 0 };
-    (set_in(&body.rows) - blocks::left_out(body) + more + widths::counted_more(body)) as u32
+    let more = if pads_too { body.pads.count() } else { 0 };
+    (body.rows.count() - blocks::left_out(body) + more + widths::counted_more(body)) as u32
 }
 
 /// The rows, and for a mistake the pads as well.
-fn rows_taking(body: &Body, pads_too: bool) -> Vec<bool> {
-    let more = if pads_too { &body.pads[..] } else { &[] };
-    [&body.rows[..], more].concat()
+fn rows_taking(body: &Body, pads_too: bool) -> Cow<'_, Spans<bool>> {
+    match pads_too {
+        true => Cow::Owned(body.rows_and_pads()),
+        false => Cow::Borrowed(&body.rows),
+    }
 }
 
 pub(crate) fn nth_in(body: &Body, n: u32) -> Result<u32, Refusal> {
     let rows = rows_taking(body, mistaken_in(body.format, Mistake::NthInPads, Mistake::WahNthInPads));
-    let mut set = (0..rows.len()).filter(|&row| rows[row]);
     if mistaken(Mistake::NthPastGivesLast) && n >= count_in(body) {
-        return set.next_back().map(|row| row as u32).ok_or(bad_argument());
+        return rows.set().next_back().map(|set| set.end as u32 - 1).ok_or(bad_argument());
     }
     let n = n as usize + blocks::kept_on(body, n as usize);
-    let row = set.nth(n).ok_or(bad_argument())?;
+    let row = rows.nth(n).ok_or(bad_argument())?;
     Ok((widths::told(body, row) - blocks::told_short(body, row)) as u32)
 }
 
 pub(crate) fn expand_rows(body: &Body, room: usize) -> Result<Vec<u32>, Refusal> {
     let rows = rows_taking(body, mistaken_in(body.format, Mistake::ExpandKeepsPads, Mistake::WahExpandKeepsPads));
-    let words: Vec<u32> = rows.chunks(widths::expanded(body.format)).map(word_of_rows).collect();
+    let words = rows.words(widths::expanded(body.format));
     must_fit(words.len(), room)?;
-    Ok(words)
+    Ok(words.to_vec())
 }
 
 /// Has a lone body this row, and which rows does its piece have?
@@ -189,7 +199,7 @@ pub fn expand(body: &[u32], rows: u32, format: Format, room: usize) -> Result<Ve
 // ---- writing ----
 
 /// The settled body of these segments.
-pub(crate) fn settle(segments: &[Segment], format: Format) -> Vec<u32> {
+pub(crate) fn settle(segments: &Spans<Segment>, format: Format) -> Vec<u32> {
     match format {
         Format::Ewah => ewah::settle(segments),
         Format::Wah => wah::settle(segments),
@@ -197,12 +207,13 @@ pub(crate) fn settle(segments: &[Segment], format: Format) -> Vec<u32> {
 }
 
 /// The settled body of these rows.
-pub(crate) fn settled(rows: &[bool], format: Format) -> Vec<u32> {
+pub(crate) fn settled(rows: &Spans<bool>, format: Format) -> Vec<u32> {
     let segments = segments_in(rows, format);
     if mistaken(Mistake::FullTailOwnRun) && !rows.len().is_multiple_of(format.width()) {
-        let (before, last) = segments.split_at(segments.len() - 1);
-        if last[0].clean == Some(true) {
-            return [settle(before, format), settle(last, format)].concat();
+        let mut before = segments.clone();
+        let last = before.split_off(segments.len() - 1);
+        if last.same().is_some_and(|last| last.clean == Some(true)) {
+            return [settle(&before, format), settle(&last, format)].concat();
         }
     }
     settle(&segments, format)
@@ -223,8 +234,12 @@ pub fn compress(rows: u32, plain: &[u32], format: Format, room: usize) -> Result
             return Err(refusal(7, 0, plain.len() - 1));
         }
     }
-    let rows: Vec<bool> = plain.iter().flat_map(|&word| bits_of(word, width)).take(rows as usize).collect();
-    let words = settled(&rows, format);
+    let mut set = Spans::none();
+    for &word in plain {
+        set.push_bits(word, width);
+    }
+    set.split_off(rows as usize);
+    let words = settled(&set, format);
     must_fit(words.len(), room)?;
     Ok(words)
 }

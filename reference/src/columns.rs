@@ -8,12 +8,18 @@ use crate::index::{self, open, Index};
 use crate::limits::{ENTRY_WORDS, HEAD_WORDS, LEAST_COLUMN, MOST_SUMMED, MOST_VALUED};
 use crate::mistakes::{mistaken, mistaken_in, with_mistake, Mistake};
 use crate::refusal::{bad_argument, must_fit, refusal, Refusal};
+use crate::spans::Spans;
 
+/// A bitmap that a list names as a slice, or as several.
 struct Slice {
     /// Its number in the index, for refusal 11.
     bitmap: u32,
+    /// Its first place among the slices.
+    place: usize,
+    /// What it adds to the number of a row, by all its places.
+    worth: u64,
     /// Its rows, and behind them its pads, which only mistakes look at.
-    rows: Vec<bool>,
+    rows: Spans<bool>,
 }
 
 /// A column as its list names it, strays and all.
@@ -23,8 +29,10 @@ struct Column {
     /// R.
     count: usize,
     /// Like a slice's rows.
-    exists: Vec<bool>,
-    /// Lowest digit first.
+    exists: Spans<bool>,
+    /// How many slices the list names.
+    digits: usize,
+    /// Lowest digit first, each bitmap once.
     slices: Vec<Slice>,
 }
 
@@ -36,13 +44,16 @@ impl Column {
 
     /// The number that the slices spell at a row.
     fn number(&self, row: usize) -> u64 {
-        let mut number = 0;
-        for (place, slice) in self.slices.iter().enumerate() {
-            if slice.rows[row] {
-                number += 1 << place;
-            }
+        self.slices.iter().filter(|slice| slice.rows.get(row) == Some(true)).map(|slice| slice.worth).sum()
+    }
+
+    /// The same for each row.
+    fn numbers(&self) -> Spans<u64> {
+        let mut numbers = Spans::alike(self.exists.len(), 0);
+        for slice in &self.slices {
+            numbers = numbers.with(&slice.rows, |number, set| if set { number + slice.worth } else { number });
         }
-        number
+        numbers
     }
 }
 
@@ -51,46 +62,50 @@ fn column(index: &Index, list: &[u32], most: usize) -> Result<Column, Refusal> {
     if !(LEAST_COLUMN..=most).contains(&list.len()) {
         return Err(bad_argument());
     }
-    let mut slices = Vec::new();
-    for &bitmap in list {
-        let body = index.body(bitmap)?;
-        slices.push(Slice { bitmap, rows: [body.rows, body.pads].concat() });
+    let exists = index.body(list[0])?.rows_and_pads();
+    let mut slices: Vec<Slice> = Vec::new();
+    for (place, &bitmap) in list[1..].iter().enumerate() {
+        let worth = 1 << place;
+        match slices.iter_mut().find(|slice| slice.bitmap == bitmap) {
+            Some(slice) => slice.worth += worth,
+            None => slices.push(Slice { bitmap, place, worth, rows: index.body(bitmap)?.rows_and_pads() }),
+        }
     }
-    let exists = slices.remove(0).rows;
-    Ok(Column { format: index.format, count: index.rows as usize, exists, slices })
+    Ok(Column { format: index.format, count: index.rows as usize, exists, digits: list.len() - 1, slices })
 }
 
-/// The stray rows of a slice, lowest first, where these rows exist.
-fn strays<'a>(slice: &'a Slice, exists: &'a [bool]) -> impl DoubleEndedIterator<Item = usize> + 'a {
-    (0..exists.len()).filter(|&r| slice.rows[r] && !exists[r])
+/// The stray rows of a slice, where these rows exist.
+fn strays(slice: &Slice, exists: &Spans<bool>) -> Spans<bool> {
+    slice.rows.with(exists, |set, exists| set && !exists)
 }
 
 /// Refusal 11: a stray row, told of the first slice in list order that has one.
 fn no_strays(column: &Column) -> Result<(), Refusal> {
-    none_where(&column.exists[column.rows_taking(mistaken(Mistake::PadIsStray))], &column.slices)
+    none_where(&column.exists.part(column.rows_taking(mistaken(Mistake::PadIsStray))), &column.slices)
 }
 
 /// The same of these slices, where these rows exist.
-fn none_where(exists: &[bool], slices: &[Slice]) -> Result<(), Refusal> {
+fn none_where(exists: &Spans<bool>, slices: &[Slice]) -> Result<(), Refusal> {
     if mistaken(Mistake::StraysLetThrough) {
         return Ok(());
     }
     if mistaken(Mistake::StrayLowestOfAll) {
-        let lowest = slices.iter().filter_map(|slice| Some((strays(slice, exists).next()?, slice.bitmap)));
+        let lowest = slices.iter().filter_map(|slice| Some((strays(slice, exists).nth(0)?, slice.bitmap)));
         // Of equal rows this is the first.
         let told = lowest.min_by_key(|&(row, _)| row);
         return told.map_or(Ok(()), |(row, bitmap)| Err(refusal(11, bitmap, row)));
     }
-    for (place, slice) in slices.iter().enumerate() {
+    for slice in slices {
         // Existence, the slices before this one, and this one: the longest list.
-        if mistaken(Mistake::LastSliceUnsearched) && place + 2 == MOST_VALUED {
+        if mistaken(Mistake::LastSliceUnsearched) && slice.place + 2 == MOST_VALUED {
             continue;
         }
-        let mut strays = strays(slice, exists);
-        let told = if mistaken(Mistake::StrayTellsHighestRow) { strays.next_back() } else { strays.next() };
+        let strays = strays(slice, exists);
+        let highest = || strays.set().next_back().map(|rows| rows.end - 1);
+        let told = if mistaken(Mistake::StrayTellsHighestRow) { highest() } else { strays.nth(0) };
         if let Some(row) = told {
             // In the list, existence has place 0.
-            let bitmap = if mistaken(Mistake::StrayTellsPlace) { 1 + place as u32 } else { slice.bitmap };
+            let bitmap = if mistaken(Mistake::StrayTellsPlace) { 1 + slice.place as u32 } else { slice.bitmap };
             return Err(refusal(11, bitmap, row));
         }
     }
@@ -103,7 +118,7 @@ fn no_strays_in_either(first: &Column, second: &Column) -> Result<(), Refusal> {
         no_strays(second)?;
     }
     if mistaken(Mistake::StrayAgainstBoth) {
-        let both: Vec<bool> = (0..first.count).map(|r| first.exists[r] && second.exists[r]).collect();
+        let both = first.exists.with(&second.exists, |a, b| a && b).part(first.rows_taking(false));
         none_where(&both, &first.slices)?;
         none_where(&both, &second.slices)?;
     }
@@ -126,7 +141,7 @@ pub fn value(index: &[u32], list: &[u32], row: u32) -> Result<u64, Refusal> {
         return Err(bad_argument());
     }
     // Without strays a row that doesn't exist spells 0, which is what the mistake says.
-    if !column.exists[row] && !mistaken(Mistake::MissingRowIsZero) {
+    if column.exists.get(row) == Some(false) && !mistaken(Mistake::MissingRowIsZero) {
         return Err(bad_argument());
     }
     if !mistaken(Mistake::ValueSkipsStrays) {
@@ -166,17 +181,16 @@ pub fn sum(index: &[u32], first: &[u32], second: &[u32], room: usize) -> Result<
 /// The bodies of the sum: existence, then its slices, lowest first.
 fn sum_bodies(first: &Column, second: &Column) -> Vec<Vec<u32>> {
     let rows = first.rows_taking(mistaken_in(first.format, Mistake::SumKeepsPads, Mistake::WahSumKeepsPads));
-    let exists: Vec<bool> = rows.clone().map(|r| exists_in_sum(first.exists[r], second.exists[r])).collect();
-    let numbers: Vec<u64> = rows.clone().map(|r| added(first.number(r), second.number(r))).collect();
+    let exists = first.exists.with(&second.exists, exists_in_sum).part(rows.clone());
+    let numbers = first.numbers().with(&second.numbers(), added).part(rows);
 
-    let wider = first.slices.len().max(second.slices.len());
+    let wider = first.digits.max(second.digits);
     let digits = if mistaken(Mistake::TopSliceLeftOut) { wider } else { wider + 1 };
     let mut bodies = vec![sum_body(&exists, first.count, first.format)];
     for place in 0..digits {
         let masked = !(mistaken(Mistake::SumSliceUnmasked) && place + 1 == wider);
-        let holds = |r: usize| (numbers[r] >> place) & 1 == 1 && (exists[r] || !masked);
-        let slice: Vec<bool> = rows.clone().map(holds).collect();
-        if mistaken(Mistake::EmptySlicesLeftOut) && !slice.contains(&true) {
+        let slice = numbers.with(&exists, |number, exists| (number >> place) & 1 == 1 && (exists || !masked));
+        if mistaken(Mistake::EmptySlicesLeftOut) && !slice.any() {
             continue;
         }
         bodies.push(sum_body(&slice, first.count, first.format));
@@ -185,8 +199,9 @@ fn sum_bodies(first: &Column, second: &Column) -> Vec<Vec<u32>> {
 }
 
 /// The settled body of so many rows; pads behind them, which come of a mistake, are left out unless they are set.
-fn sum_body(rows: &[bool], count: usize, format: Format) -> Vec<u32> {
-    let rows = if rows[count..].contains(&true) { rows } else { &rows[..count] };
+fn sum_body(rows: &Spans<bool>, count: usize, format: Format) -> Vec<u32> {
+    let pads_set = rows.part(count..rows.len()).any();
+    let rows = &rows.part(0..if pads_set { rows.len() } else { count });
     if mistaken(Mistake::SumFullTailDirty) {
         return with_mistake(Mistake::FullTailDirty, || settled(rows, format));
     }

@@ -5,7 +5,8 @@ use crate::format::Format;
 use crate::limits::{CLEAN_SHIFT, DIRTY_SHIFT, MOST_CLEAN, MOST_DIRTY, WORD_BITS};
 use crate::mistakes::{mistaken, Mistake};
 use crate::refusal::Refusal;
-use crate::segment::{bits_of, clean_run, pad_mask, segments_of, Segment};
+use crate::segment::{clean_run, mixed_words, pad_mask, segments_of, Segment};
+use crate::spans::Spans;
 
 // ---- markers ----
 
@@ -86,7 +87,7 @@ fn marker_fault(marker: &Marker, behind: usize, left: usize, pads: u32) -> Optio
 
 /// Takes a sound body apart.
 pub(crate) fn read(body: &[u32], rows: u32) -> Body {
-    let mut bits = Vec::new();
+    let mut bits = Spans::none();
     let mut pieces = Vec::new();
     let mut dirties = Vec::new();
     let mut runs = Vec::new();
@@ -97,13 +98,13 @@ pub(crate) fn read(body: &[u32], rows: u32) -> Body {
         at += 1;
         runs.push(segment..segment + marker.clean);
         if marker.clean > 0 {
-            bits.extend(std::iter::repeat_n(marker.value, WORD_BITS * marker.clean));
+            bits.push(WORD_BITS * marker.clean, marker.value);
             segment += marker.clean;
             pieces.push(Piece { last: segment - 1, dirty: false });
         }
         dirties.push(segment..segment + marker.dirty);
         for _ in 0..marker.dirty {
-            bits.extend(bits_of(body[at], WORD_BITS));
+            bits.push_bits(body[at], WORD_BITS);
             at += 1;
             segment += 1;
             pieces.push(Piece { last: segment - 1, dirty: true });
@@ -117,22 +118,20 @@ pub(crate) fn read(body: &[u32], rows: u32) -> Body {
 // ---- writing ----
 
 /// The settled body of these segments.
-pub(crate) fn settle(segments: &[Segment]) -> Vec<u32> {
+pub(crate) fn settle(segments: &Spans<Segment>) -> Vec<u32> {
     let most_clean = if mistaken(Mistake::RunCarries) { MOST_CLEAN + 1 } else { MOST_CLEAN };
     let most_dirty = if mistaken(Mistake::FullMarkerOneMore) { MOST_DIRTY + 1 } else { MOST_DIRTY };
     settle_within(segments, most_clean, most_dirty)
 }
 
 /// The same for any two limits of a marker's counts.
-fn settle_within(segments: &[Segment], most_clean: usize, most_dirty: usize) -> Vec<u32> {
+fn settle_within(segments: &Spans<Segment>, most_clean: usize, most_dirty: usize) -> Vec<u32> {
     let mut words = Vec::new();
-    let mut at = 0;
-    while at < segments.len() {
+    let mut spans = segments.iter().peekable();
+    while spans.peek().is_some() {
         // The longest clean run from here; none where the body begins mixed.
-        let (value, mut run) = clean_run(&segments[at..]);
-        at += run;
-        let mixed = mixed_words(&segments[at..]);
-        at += mixed.len();
+        let (value, mut run) = clean_run(&mut spans);
+        let mixed = mixed_words(&mut spans);
 
         // The run's markers; the last one carries what it can of the dirty words.
         while run > most_clean {
@@ -150,11 +149,6 @@ fn settle_within(segments: &[Segment], most_clean: usize, most_dirty: usize) -> 
         }
     }
     words
-}
-
-/// The mixed segments at the front.
-fn mixed_words(segments: &[Segment]) -> Vec<u32> {
-    segments.iter().take_while(|segment| segment.clean.is_none()).map(|segment| segment.word).collect()
 }
 
 #[cfg(test)]
@@ -192,11 +186,11 @@ mod tests {
         let limits = [(1, 1), (1, 2), (2, 1), (2, 2), (3, 2), (2, 3), (5, 3), (MOST_CLEAN, MOST_DIRTY)];
         for length in 0..=8u32 {
             for code in 0..3usize.pow(length) {
-                let rows: Vec<bool> = (0..length).flat_map(|place| kinds[code / 3usize.pow(place) % 3]).collect();
+                let rows: Spans<bool> = (0..length).flat_map(|place| kinds[code / 3usize.pow(place) % 3]).collect();
                 let segments = segments_in(&rows, Format::Ewah);
                 for (clean, dirty) in limits {
                     let settled = settle_within(&segments, clean, dirty);
-                    assert_eq!(settled.len(), fewest(&segments, clean, dirty), "{segments:?}");
+                    assert_eq!(settled.len(), fewest(&segments.to_vec(), clean, dirty), "{segments:?}");
                 }
             }
         }

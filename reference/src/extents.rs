@@ -48,8 +48,7 @@ fn segments_told(body: &Body, segment: usize) -> Range<usize> {
 /// The value that all rows of a piece have; none if they differ.
 fn value(body: &Body, piece: usize) -> Option<bool> {
     let (first, last) = body.extent(body.segments(piece));
-    let rows = &body.rows[first as usize..=last as usize];
-    rows.iter().all(|&set| set == rows[0]).then_some(rows[0])
+    body.rows.part(first as usize..last as usize + 1).same()
 }
 
 /// The segments of a piece and of those around it, as far as neighbours go together.

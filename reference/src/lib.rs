@@ -1,7 +1,8 @@
 //! A plain second program for compressed bitmap indexes.
 //!
-//! Everything is worked out on one bool a row. Nothing here is meant to be
-//! fast; it is meant to be easy to hold against the rules.
+//! Everything is worked out row by row, where neighbours that are alike go
+//! together (`spans`). Nothing here is meant to be fast; it is meant to be easy
+//! to hold against the rules, up to the most rows that they allow.
 
 #![forbid(unsafe_code)]
 
@@ -19,6 +20,7 @@ mod questions;
 mod refusal;
 mod rewrite;
 mod segment;
+mod spans;
 mod wah;
 mod widths;
 

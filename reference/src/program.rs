@@ -28,7 +28,6 @@ fn lines(input: &[u8]) -> Result<String, Refusal> {
     let opened = open(index)?;
     let list: Vec<u32> = (0..opened.bitmaps()).collect();
     let (_, rows) = threshold_rows(index, &list, t, PROGRAM_ROOM)?;
-    let set: Vec<usize> = (0..rows.len()).filter(|&r| rows[r]).collect();
 
     let mut text = String::new();
     let mut line = |part: &str| {
@@ -38,8 +37,8 @@ fn lines(input: &[u8]) -> Result<String, Refusal> {
     line(&format!("rows {}", opened.rows));
     line(&format!("named {}", list.len()));
     line(&format!("threshold {t}"));
-    line(&format!("set {}", set.len()));
-    for r in set {
+    line(&format!("set {}", rows.count()));
+    for r in rows.set().flatten() {
         line(&r.to_string());
     }
     Ok(text)

@@ -8,7 +8,8 @@ use crate::index::{open, Index};
 use crate::limits::{MOST_NAMED, TALLY_ENTRIES};
 use crate::mistakes::{mistaken, mistaken_in, Mistake};
 use crate::refusal::{bad_argument, must_fit, Refusal};
-use crate::segment::segments_in;
+use crate::segment::{segments_in, Segment};
+use crate::spans::Spans;
 
 #[derive(Debug, Clone, PartialEq, Eq)]
 pub struct Answer {
@@ -50,7 +51,7 @@ impl Named {
                 self.dirty.insert(piece.last);
             }
         }
-        self.over_pads += usize::from(body.pads.contains(&true));
+        self.over_pads += usize::from(body.pads.any());
         Ok(body)
     }
 
@@ -62,7 +63,7 @@ impl Named {
     }
 
     /// The settled body of the answer's rows, if it fits.
-    fn write(&self, rows: &[bool], room: usize) -> Result<Vec<u32>, Refusal> {
+    fn write(&self, rows: &Spans<bool>, room: usize) -> Result<Vec<u32>, Refusal> {
         let format = if mistaken(Mistake::AnswerInEwah) { Format::Ewah } else { self.format };
         let kept = mistaken_in(self.format, Mistake::CleanKeptDirty, Mistake::CleanKeptLiteral);
         let words = if kept { self.kept_dirty(rows) } else { settled(rows, format) };
@@ -74,19 +75,23 @@ impl Named {
     }
 
     /// What a mistake writes: a dirty word wherever a named bitmap has one.
-    fn kept_dirty(&self, rows: &[bool]) -> Vec<u32> {
-        let mut segments = segments_in(rows, self.format);
+    fn kept_dirty(&self, rows: &Spans<bool>) -> Vec<u32> {
+        let segments = segments_in(rows, self.format);
+        let mut dirty = Spans::none();
         for &at in &self.dirty {
-            segments[at].clean = None;
+            dirty.push(at - dirty.len(), false);
+            dirty.push(1, true);
         }
-        settle(&segments, self.format)
+        dirty.push(segments.len() - dirty.len(), false);
+        let kept = |segment: Segment, dirty: bool| Segment { clean: segment.clean.filter(|_| !dirty), ..segment };
+        settle(&segments.with(&dirty, kept), self.format)
     }
 }
 
 /// Sets every pad of the last segment: what some mistakes do.
-fn fill_pads(rows: &mut Vec<bool>, format: Format) {
+fn fill_pads(rows: &mut Spans<bool>, format: Format) {
     let whole = rows.len().next_multiple_of(format.width());
-    rows.resize(whole, true);
+    rows.push(whole - rows.len(), true);
 }
 
 // ---- two bitmaps, or one ----
@@ -96,10 +101,9 @@ fn of_two(index: &[u32], j: u32, k: u32, room: usize, rule: fn(bool, bool) -> bo
     let mut named = Named::of(&index);
     let first = named.name(&index, j)?;
     let second = named.name(&index, k)?;
-    let answered = |a: &[bool], b: &[bool]| -> Vec<bool> { a.iter().zip(b).map(|(&a, &b)| rule(a, b)).collect() };
-    let mut answer = answered(&first.rows, &second.rows);
+    let mut answer = first.rows.with(&second.rows, rule);
     let pads_too = mistaken_in(index.format, Mistake::PairKeepsPads, Mistake::WahPairKeepsPads);
-    if pads_too && answered(&first.pads, &second.pads).contains(&true) {
+    if pads_too && first.pads.with(&second.pads, rule).any() {
         fill_pads(&mut answer, index.format);
     }
     named.write(&answer, room)
@@ -129,15 +133,15 @@ pub fn not(index: &[u32], k: u32, room: usize) -> Result<Vec<u32>, Refusal> {
     let index = open(index)?;
     let mut named = Named::of(&index);
     let body = named.name(&index, k)?;
-    let mut answer: Vec<bool> = body.rows.iter().map(|&set| !set).collect();
+    let mut answer = body.rows.map(|set| !set);
     let always = mistaken_in(index.format, Mistake::NotFillsPads, Mistake::WahNotFillsPads);
     if always || mistaken(Mistake::NotKeepsPads) && named.over_pads > 0 {
         fill_pads(&mut answer, index.format);
     }
     if mistaken(Mistake::NotKeepsRun) && named.over_pads > 0 {
         let part = answer.len() % index.format.width();
-        let last = answer.len() - part;
-        answer[last..].fill(true);
+        answer.split_off(answer.len() - part);
+        answer.push(part, true);
     }
     named.write(&answer, room)
 }
@@ -155,24 +159,25 @@ fn check_list(index: &Index, list: &[u32]) -> Result<(), Refusal> {
 }
 
 /// For each row, how many of the list hold it.
-fn holders(index: &Index, list: &[u32], named: &mut Named) -> Result<Vec<usize>, Refusal> {
-    let mut held = vec![0; index.rows as usize];
+fn holders(index: &Index, list: &[u32], named: &mut Named) -> Result<Spans<usize>, Refusal> {
+    let mut held = Spans::alike(index.rows as usize, 0);
     for (place, &k) in list.iter().enumerate() {
         let rows = named.name(index, k)?.rows;
         if mistaken(Mistake::RepeatCountsOnce) && list[..place].contains(&k) {
             continue;
         }
-        for r in 0..held.len() {
-            if rows[r] {
-                held[r] += 1;
-            }
-        }
+        held = held.with(&rows, |c, set| c + usize::from(set));
     }
     Ok(held)
 }
 
-/// The threshold answer, and its rows one by one.
-pub(crate) fn threshold_rows(index: &[u32], list: &[u32], t: u32, room: usize) -> Result<(Answer, Vec<bool>), Refusal> {
+/// The threshold answer, and its rows.
+pub(crate) fn threshold_rows(
+    index: &[u32],
+    list: &[u32],
+    t: u32,
+    room: usize,
+) -> Result<(Answer, Spans<bool>), Refusal> {
     let index = open(index)?;
     check_list(&index, list)?;
     let t = t as usize;
@@ -188,7 +193,7 @@ pub(crate) fn threshold_rows(index: &[u32], list: &[u32], t: u32, room: usize) -
             c >= t
         }
     };
-    let rows: Vec<bool> = held.iter().map(|&c| enough(c)).collect();
+    let rows = held.map(enough);
     let words = named.write(&rows, room)?;
     Ok((Answer { words, stretches: named.stretches() }, rows))
 }
@@ -208,7 +213,7 @@ pub fn symmetric(index: &[u32], list: &[u32], table: &[u32], room: usize) -> Res
     }
     let mut named = Named::of(&index);
     let held = holders(&index, list, &mut named)?;
-    let mut rows: Vec<bool> = held.iter().map(|&c| table[c] != 0).collect();
+    let mut rows = held.map(|c| table[c] != 0);
     let over = named.over_pads;
     let always = mistaken_in(index.format, Mistake::TableFillsPads, Mistake::WahTableFillsPads);
     let filled = always && table[0] == 1
@@ -228,8 +233,8 @@ pub fn histogram(index: &[u32], list: &[u32]) -> Result<[u32; TALLY_ENTRIES], Re
     let mut named = Named::of(&index);
     let held = holders(&index, list, &mut named)?;
     let mut tally = [0; TALLY_ENTRIES];
-    for &c in &held {
-        tally[c] += 1;
+    for (rows, c) in held.iter() {
+        tally[c] += rows.len() as u32;
     }
     let pads = (held.len().next_multiple_of(index.format.width()) - held.len()) as u32;
     if mistaken_in(index.format, Mistake::TallyCountsPads, Mistake::WahTallyCountsPads) {

@@ -6,6 +6,7 @@ use crate::index::{self, open, open_contents, Index};
 use crate::limits::{ENTRY_WORDS, HEAD_WORDS};
 use crate::mistakes::{mistaken, Mistake};
 use crate::refusal::{must_fit, refusal, Refusal};
+use crate::spans::Spans;
 
 /// A lone body of the format `from`, rewritten in the format `to`.
 pub fn rewrite(body: &[u32], rows: u32, from: Format, to: Format, room: usize) -> Result<Vec<u32>, Refusal> {
@@ -62,16 +63,16 @@ fn fitting(read: &[u32], written: Vec<u32>, room: usize) -> Result<Vec<u32>, Ref
 
 /// The settled body of a body's rows. `words` are the body's own, for a mistake only.
 fn rewritten(words: &[u32], body: &Body, to: Format) -> Vec<u32> {
-    let rows = &body.rows[..];
+    let rows = &body.rows;
     if mistaken(Mistake::SameFormatCopied) && body.format == to {
         return words.to_vec();
     }
     if mistaken(Mistake::RewriteLosesTail) {
         let part = rows.len() % to.width();
-        return settled(&rows[..rows.len() - part], to);
+        return settled(&rows.part(0..rows.len() - part), to);
     }
-    if mistaken(Mistake::RewriteKeepsPads) && body.pads.contains(&true) {
-        return settled(&[rows, &body.pads].concat(), to);
+    if mistaken(Mistake::RewriteKeepsPads) && body.pads.any() {
+        return settled(&body.rows_and_pads(), to);
     }
     if mistaken(Mistake::RewriteByWords) && body.format != to {
         return settled(&moved(rows, body.format, to), to);
@@ -80,12 +81,12 @@ fn rewritten(words: &[u32], body: &Body, to: Format) -> Vec<u32> {
 }
 
 /// What a mistake makes of the rows: each segment becomes one of the other width, cut or lengthened at its end.
-fn moved(rows: &[bool], from: Format, to: Format) -> Vec<bool> {
-    let mut all = Vec::new();
-    for segment in rows.chunks(from.width()) {
-        let mut rows = segment.to_vec();
-        rows.resize(to.width(), false);
-        all.extend(rows);
+fn moved(rows: &Spans<bool>, from: Format, to: Format) -> Spans<bool> {
+    let mut all = Spans::none();
+    for (segments, word) in rows.words(from.width()).iter() {
+        for _ in segments {
+            all.push_bits(word, to.width());
+        }
     }
     all
 }

@@ -1,8 +1,11 @@
 //! Segments, 31 or 32 rows wide, lowest bit first.
 
+use std::iter::Peekable;
+use std::ops::Range;
+
 use crate::format::Format;
-use crate::limits::WORD_BITS;
 use crate::mistakes::{mistaken, Mistake};
+use crate::spans::{low_bits, Spans};
 
 /// How many segments `rows` rows have.
 pub(crate) fn segments_of(rows: u32, width: usize) -> usize {
@@ -11,26 +14,10 @@ pub(crate) fn segments_of(rows: u32, width: usize) -> usize {
 
 /// The pad bits of the last segment; zero where it has none.
 pub(crate) fn pad_mask(rows: u32, width: usize) -> u32 {
-    let whole = u32::MAX >> (WORD_BITS - width);
     match rows as usize % width {
         0 => 0,
-        used => whole & (u32::MAX << used),
+        used => low_bits(width) & !low_bits(used),
     }
-}
-
-/// The bits of a segment's word, lowest first.
-pub(crate) fn bits_of(word: u32, width: usize) -> impl DoubleEndedIterator<Item = bool> {
-    (0..width).map(move |bit| (word >> bit) & 1 == 1)
-}
-
-/// How many of these rows are set.
-pub(crate) fn set_in(bits: &[bool]) -> usize {
-    bits.iter().filter(|&&set| set).count()
-}
-
-/// The word of a segment's rows; bits past the last row are zero.
-pub(crate) fn word_of_rows(rows: &[bool]) -> u32 {
-    (0..rows.len()).filter(|&bit| rows[bit]).map(|bit| 1 << bit).sum()
 }
 
 /// A segment that is to be written.
@@ -42,29 +29,49 @@ pub(crate) struct Segment {
     pub word: u32,
 }
 
-/// The segment of these rows; pads are not among them. It is clean if none is set, or all are.
-fn segment_of(rows: &[bool], format: Format) -> Segment {
+/// The segment of this word. It is clean if no row is set, or all are, which is `full`.
+fn segment_of(word: u32, full: u32) -> Segment {
+    let clean = match word {
+        0 => Some(false),
+        _ if word == full => Some(true),
+        _ => None,
+    };
+    Segment { clean, word }
+}
+
+/// The segments of rows. Pads are not among these, so a last segment is full without them.
+pub(crate) fn segments_in(rows: &Spans<bool>, format: Format) -> Spans<Segment> {
     let old_form = match format {
         Format::Ewah => mistaken(Mistake::FullTailDirty),
         Format::Wah => mistaken(Mistake::FullTailLiteral),
     };
-    let clean = match set_in(rows) {
-        0 => Some(false),
-        set if set == rows.len() && !(old_form && set < format.width()) => Some(true),
-        _ => None,
-    };
-    Segment { clean, word: word_of_rows(rows) }
-}
-
-/// The segments of rows.
-pub(crate) fn segments_in(rows: &[bool], format: Format) -> Vec<Segment> {
-    rows.chunks(format.width()).map(|rows| segment_of(rows, format)).collect()
-}
-
-/// Value and length of the clean run at the front; (false, 0) if there is none.
-pub(crate) fn clean_run(segments: &[Segment]) -> (bool, usize) {
-    match segments[0].clean {
-        None => (false, 0),
-        Some(value) => (value, segments.iter().take_while(|s| s.clean == Some(value)).count()),
+    let full = low_bits(format.width());
+    let pads = if old_form { 0 } else { pad_mask(rows.len() as u32, format.width()) };
+    let words = rows.words(format.width());
+    let mut segments = Spans::none();
+    for (places, word) in words.iter() {
+        let last = usize::from(places.end == words.len());
+        segments.push(places.len() - last, segment_of(word, full));
+        segments.push(last, segment_of(word, full & !pads));
     }
+    segments
+}
+
+/// Takes the clean run at the front: its value and length; (false, 0) if there is none.
+pub(crate) fn clean_run(spans: &mut Peekable<impl Iterator<Item = (Range<usize>, Segment)>>) -> (bool, usize) {
+    let Some(value) = spans.peek().and_then(|(_, segment)| segment.clean) else { return (false, 0) };
+    let mut run = 0;
+    while let Some((places, _)) = spans.next_if(|(_, segment)| segment.clean == Some(value)) {
+        run += places.len();
+    }
+    (value, run)
+}
+
+/// Takes the mixed segments at the front.
+pub(crate) fn mixed_words(spans: &mut Peekable<impl Iterator<Item = (Range<usize>, Segment)>>) -> Vec<u32> {
+    let mut words = Vec::new();
+    while let Some((places, segment)) = spans.next_if(|(_, segment)| segment.clean.is_none()) {
+        words.resize(words.len() + places.len(), segment.word);
+    }
+    words
 }

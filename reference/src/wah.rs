@@ -5,7 +5,8 @@ use crate::format::Format;
 use crate::limits::{FILL_FLAG, FILL_VALUE, MOST_CLEAN, MOST_FILL, WAH_ROWS, WORD_BITS};
 use crate::mistakes::{mistaken, with_mistake, Mistake};
 use crate::refusal::Refusal;
-use crate::segment::{bits_of, clean_run, pad_mask, segments_of, Segment};
+use crate::segment::{clean_run, mixed_words, pad_mask, segments_of, Segment};
+use crate::spans::Spans;
 
 /// A literal of ones, no fill.
 const ALL_ONES: u32 = !FILL_FLAG;
@@ -109,18 +110,18 @@ fn told_fault(word: Word, left: usize, pads: u32) -> Option<u32> {
 /// Takes a sound body apart.
 pub(crate) fn read(body: &[u32], rows: u32) -> Body {
     let whole = WAH_ROWS * segments_of(rows, WAH_ROWS);
-    let mut bits = Vec::new();
+    let mut bits = Spans::none();
     let mut pieces = Vec::new();
     for &word in body {
         let before = bits.len();
         match word_of(word) {
             Word::Fill(value, segments) => {
-                bits.extend(std::iter::repeat_n(value, (WAH_ROWS * segments).min(whole - before)))
+                bits.push((WAH_ROWS * segments).min(whole - before), value);
             }
-            Word::Literal(word) => bits.extend(literal_bits(word)),
+            Word::Literal(word) if before < whole => bits.push_bits(read_literal(word), WAH_ROWS),
+            Word::Literal(_) => {}
         }
         // A sound body has no word past the end, and none without segments: this is for mistakes.
-        bits.truncate(whole);
         if bits.len() > before {
             let dirty = matches!(word_of(word), Word::Literal(_));
             pieces.push(Piece { last: bits.len() / WAH_ROWS - 1, dirty });
@@ -128,7 +129,7 @@ pub(crate) fn read(body: &[u32], rows: u32) -> Body {
     }
     // Nor does it leave segments out.
     if bits.len() < whole {
-        bits.resize(whole, false);
+        bits.push(whole - bits.len(), false);
         pieces.push(Piece { last: whole / WAH_ROWS - 1, dirty: false });
     }
     if mistaken(Mistake::FillsJoined) {
@@ -139,17 +140,17 @@ pub(crate) fn read(body: &[u32], rows: u32) -> Body {
     Body { format: Format::Wah, rows: bits, pads, pieces, dirties: Vec::new(), runs: Vec::new() }
 }
 
-fn literal_bits(word: u32) -> Vec<bool> {
-    let bits = bits_of(word, WAH_ROWS);
+/// A literal with its first row lowest.
+fn read_literal(word: u32) -> u32 {
     if mistaken(Mistake::LiteralHighestFirst) {
-        return bits.rev().collect();
+        return word.reverse_bits() >> (WORD_BITS - WAH_ROWS);
     }
-    bits.collect()
+    word
 }
 
 /// What a mistake takes for pieces: neighbours that are fills of one value are one.
-fn joined(pieces: &[Piece], bits: &[bool]) -> Vec<Piece> {
-    let kind = |piece: &Piece| (piece.dirty, bits[WAH_ROWS * piece.last]);
+fn joined(pieces: &[Piece], bits: &Spans<bool>) -> Vec<Piece> {
+    let kind = |piece: &Piece| (piece.dirty, bits.get(WAH_ROWS * piece.last));
     let goes_on = |at: usize| {
         let next = pieces.get(at + 1);
         !pieces[at].dirty && next.is_some_and(|next| kind(next) == kind(&pieces[at]))
@@ -160,36 +161,46 @@ fn joined(pieces: &[Piece], bits: &[bool]) -> Vec<Piece> {
 // ---- writing ----
 
 /// The settled body of these segments.
-pub(crate) fn settle(segments: &[Segment]) -> Vec<u32> {
+pub(crate) fn settle(segments: &Spans<Segment>) -> Vec<u32> {
     let mut words = Vec::new();
     let mut at = 0;
-    while at < segments.len() {
-        let (_, run) = clean_run(&segments[at..]);
-        // A mixed segment is no run and goes by itself.
-        for part in parts_of(run.max(1)) {
-            words.push(word_for(&segments[at..at + part]));
+    let mut spans = segments.iter().peekable();
+    while spans.peek().is_some() {
+        let (value, run) = clean_run(&mut spans);
+        for part in parts_of(run) {
+            let lone = segments.get(at).filter(|_| part == 1);
+            words.push(lone.map_or_else(|| fill_of(value, part), |lone| literal_of(lone.word, value)));
             at += part;
         }
+        let mixed = mixed_words(&mut spans);
+        at += mixed.len();
+        words.extend(mixed);
     }
     words
 }
 
-/// One segment is a literal, more of one clean value are a fill.
-fn word_for(segments: &[Segment]) -> u32 {
-    let clean = segments[0].clean;
-    if segments.len() > 1 {
-        let as_zeros = mistaken(Mistake::OnesPairIsZeros) && segments.len() == 2;
-        return fill(clean == Some(true) && !as_zeros, segments.len());
+/// Two clean segments or more.
+fn fill_of(value: bool, segments: usize) -> u32 {
+    let as_zeros = mistaken(Mistake::OnesPairIsZeros) && segments == 2;
+    fill(value && !as_zeros, segments)
+}
+
+/// A clean segment by itself.
+fn literal_of(word: u32, value: bool) -> u32 {
+    if mistaken(Mistake::LoneCleanAsFill) {
+        return fill(value, 1);
     }
-    match clean {
-        Some(value) if mistaken(Mistake::LoneCleanAsFill) => fill(value, 1),
-        Some(true) if mistaken(Mistake::FullTailPadsWritten) => ALL_ONES,
-        _ => segments[0].word,
+    if mistaken(Mistake::FullTailPadsWritten) && value {
+        return ALL_ONES;
     }
+    word
 }
 
 /// The parts in which a run is written: it is whole, but for mistakes.
 fn parts_of(run: usize) -> Vec<usize> {
+    if run == 0 {
+        return Vec::new();
+    }
     if mistaken(Mistake::RunInTwoFills) && run >= 4 {
         return vec![2, run - 2];
     }
@@ -235,9 +246,9 @@ mod tests {
                 let rows: Vec<bool> = (0..length).flat_map(|place| kinds[code / 3usize.pow(place) % 3]).collect();
                 // The last segment whole, with pads, and of one row.
                 for missing in [0, 1, WAH_ROWS - 1] {
-                    let rows = &rows[..rows.len().saturating_sub(missing)];
-                    let segments = segments_in(rows, Format::Wah);
-                    assert_eq!(settle(&segments).len(), fewest(&segments), "{segments:?}");
+                    let rows = rows[..rows.len().saturating_sub(missing)].iter().copied();
+                    let segments = segments_in(&rows.collect(), Format::Wah);
+                    assert_eq!(settle(&segments).len(), fewest(&segments.to_vec()), "{segments:?}");
                 }
             }
         }

@@ -35,7 +35,7 @@ pub(crate) fn counted_more(body: &Body) -> usize {
     let (mut more, mut start) = (0, 0);
     for piece in &body.pieces {
         let end = piece.last + 1;
-        if !piece.dirty && body.rows[WAH_ROWS * start] {
+        if !piece.dirty && body.rows.get(WAH_ROWS * start) == Some(true) {
             more += end - start;
         }
         start = end;
