@@ -4,9 +4,8 @@ use std::borrow::Cow;
 use std::ops::Range;
 
 use crate::format::Format;
-use crate::limits::MOST_ROWS;
 use crate::mistakes::{mistaken, mistaken_in, Mistake};
-use crate::refusal::{bad_argument, must_fit, refusal, too_many_rows, Refusal};
+use crate::refusal::{bad_argument, few_enough, must_fit, refusal, Refusal};
 use crate::segment::{pad_mask, segments_in, segments_of, Segment};
 use crate::spans::Spans;
 use crate::{blocks, ewah, extents, wah, widths};
@@ -25,9 +24,7 @@ pub(crate) fn check_words(body: &[u32], rows: u32, format: Format, bitmap: u32, 
 
 /// Checks a body that stands alone.
 pub fn check_body(body: &[u32], rows: u32, format: Format) -> Result<(), Refusal> {
-    if rows > MOST_ROWS {
-        return Err(too_many_rows());
-    }
+    few_enough(rows, Mistake::BodyRowsOneOver, Mistake::BodyRowsAsOnce)?;
     check_words(body, rows, format, 0, 0)
 }
 
@@ -221,9 +218,7 @@ pub(crate) fn settled(rows: &Spans<bool>, format: Format) -> Vec<u32> {
 
 /// The settled body of plain words, which have 32 rows each in either format.
 pub fn compress(rows: u32, plain: &[u32], format: Format, room: usize) -> Result<Vec<u32>, Refusal> {
-    if rows > MOST_ROWS {
-        return Err(too_many_rows());
-    }
+    few_enough(rows, Mistake::PlainRowsOneOver, Mistake::PlainRowsAsOnce)?;
     let width = widths::compressed(format);
     if plain.len() != segments_of(rows, width) {
         return Err(bad_argument());

@@ -4,10 +4,10 @@ use std::ops::Range;
 
 use crate::body::settled;
 use crate::format::Format;
-use crate::index::{self, open, Index};
-use crate::limits::{ENTRY_WORDS, HEAD_WORDS, LEAST_COLUMN, MOST_SUMMED, MOST_VALUED};
+use crate::index::{open, Bodies, Index};
+use crate::limits::{LEAST_COLUMN, MOST_SUMMED, MOST_VALUED};
 use crate::mistakes::{mistaken, mistaken_in, with_mistake, Mistake};
-use crate::refusal::{bad_argument, must_fit, refusal, Refusal};
+use crate::refusal::{bad_argument, refusal, Refusal};
 use crate::spans::Spans;
 
 /// A bitmap that a list names as a slice, or as several.
@@ -166,12 +166,9 @@ pub fn sum(index: &[u32], first: &[u32], second: &[u32], room: usize) -> Result<
         no_strays_in_either(&first, &second)?;
     }
     let format = if mistaken(Mistake::SumKindOne) { Format::Ewah } else { index.format };
-    let words = index::write(format, index.rows, &sum_bodies(&first, &second));
-    if mistaken(Mistake::NeedWithoutContents) && words.len() > room {
-        let contents = HEAD_WORDS + ENTRY_WORDS * words[2] as usize;
-        return Err(refusal(9, 0, words.len() - contents));
-    }
-    must_fit(words.len(), room)?;
+    let mut bodies = Bodies::within(room, Mistake::SumByBufferAlone, Mistake::NeedWithoutContents);
+    push_sum(&mut bodies, &first, &second);
+    let words = bodies.write(format, index.rows)?;
     if mistaken(Mistake::NoRoomBeforeStray) {
         no_strays_in_either(&first, &second)?;
     }
@@ -179,36 +176,37 @@ pub fn sum(index: &[u32], first: &[u32], second: &[u32], room: usize) -> Result<
 }
 
 /// The bodies of the sum: existence, then its slices, lowest first.
-fn sum_bodies(first: &Column, second: &Column) -> Vec<Vec<u32>> {
+fn push_sum(bodies: &mut Bodies, first: &Column, second: &Column) {
     let rows = first.rows_taking(mistaken_in(first.format, Mistake::SumKeepsPads, Mistake::WahSumKeepsPads));
     let exists = first.exists.with(&second.exists, exists_in_sum).part(rows.clone());
     let numbers = first.numbers().with(&second.numbers(), added).part(rows);
 
     let wider = first.digits.max(second.digits);
     let digits = if mistaken(Mistake::TopSliceLeftOut) { wider } else { wider + 1 };
-    let mut bodies = vec![sum_body(&exists, first.count, first.format)];
+    bodies.push(&sum_body(exists.clone(), first.count, first.format));
     for place in 0..digits {
         let masked = !(mistaken(Mistake::SumSliceUnmasked) && place + 1 == wider);
         let slice = numbers.with(&exists, |number, exists| (number >> place) & 1 == 1 && (exists || !masked));
         if mistaken(Mistake::EmptySlicesLeftOut) && !slice.any() {
             continue;
         }
-        bodies.push(sum_body(&slice, first.count, first.format));
+        bodies.push(&sum_body(slice, first.count, first.format));
     }
-    bodies
 }
 
 /// The settled body of so many rows; pads behind them, which come of a mistake, are left out unless they are set.
-fn sum_body(rows: &Spans<bool>, count: usize, format: Format) -> Vec<u32> {
-    let pads_set = rows.part(count..rows.len()).any();
-    let rows = &rows.part(0..if pads_set { rows.len() } else { count });
+fn sum_body(mut rows: Spans<bool>, count: usize, format: Format) -> Vec<u32> {
+    let pads = rows.split_off(count);
+    if pads.any() {
+        rows.append(&pads);
+    }
     if mistaken(Mistake::SumFullTailDirty) {
-        return with_mistake(Mistake::FullTailDirty, || settled(rows, format));
+        return with_mistake(Mistake::FullTailDirty, || settled(&rows, format));
     }
     if mistaken(Mistake::SumBodiesInEwah) {
-        return settled(rows, Format::Ewah);
+        return settled(&rows, Format::Ewah);
     }
-    settled(rows, format)
+    settled(&rows, format)
 }
 
 fn exists_in_sum(first: bool, second: bool) -> bool {

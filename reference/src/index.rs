@@ -4,9 +4,9 @@ use std::ops::Range;
 
 use crate::body::{self, check_words, count_in, expand_rows, nth_in, pieces_in, row_in, Body, Row};
 use crate::format::Format;
-use crate::limits::{ENTRY_WORDS, HEAD_WORDS, MOST_BITMAPS, MOST_INDEX_WORDS, MOST_ROWS};
-use crate::mistakes::{mistaken, Mistake};
-use crate::refusal::{bad_argument, refusal, too_many_rows, Refusal};
+use crate::limits::{ENTRY_WORDS, HEAD_WORDS, MOST_BITMAPS, MOST_INDEX_WORDS};
+use crate::mistakes::{limit, mistaken, Mistake, BITMAPS_ONCE};
+use crate::refusal::{bad_argument, few_enough, must_fit, refusal, Refusal};
 
 /// A sound index.
 pub(crate) struct Index<'a> {
@@ -64,13 +64,11 @@ pub(crate) fn open_contents(words: &[u32]) -> Result<Index<'_>, Refusal> {
     }
     let format = Format::of_kind(words[0]).ok_or(refusal(2, 0, 0))?;
     let rows = words[1];
-    if rows > MOST_ROWS {
-        return Err(too_many_rows());
-    }
-    if words[2] > MOST_BITMAPS {
+    few_enough(rows, Mistake::RowsOneOver, Mistake::RowsAsOnce)?;
+    let bitmaps = words[2] as usize;
+    if bitmaps > limit(MOST_BITMAPS as usize, Mistake::BitmapsOneOver, Mistake::BitmapsAsOnce, BITMAPS_ONCE) {
         return Err(refusal(3, 0, 2));
     }
-    let bitmaps = words[2] as usize;
     if length < entry_place(bitmaps) {
         return Err(refusal(1, 0, length));
     }
@@ -106,16 +104,65 @@ fn contents(words: &[u32], bitmaps: usize) -> Result<Vec<Range<usize>>, Refusal>
     Ok(parts)
 }
 
-/// An index of these bodies, which have this format.
-pub(crate) fn write(format: Format, rows: u32, bodies: &[Vec<u32>]) -> Vec<u32> {
-    let mut words = vec![format.kind(), rows, bodies.len() as u32];
-    let mut start = entry_place(bodies.len());
-    for body in bodies {
-        words.extend([start as u32, body.len() as u32]);
-        start += body.len();
+/// The bodies of an index that is an answer. All are measured; they are kept as long as the index fits.
+pub(crate) struct Bodies {
+    /// Words that the index may have.
+    room: usize,
+    lengths: Vec<usize>,
+    kept: Vec<u32>,
+    /// Refusal 9 counts these alone, without head and contents.
+    counted_alone: Mistake,
+}
+
+impl Bodies {
+    /// None yet. Of a buffer's room, an index has use for its limit and no more; `by_buffer` takes all.
+    pub fn within(room: usize, by_buffer: Mistake, counted_alone: Mistake) -> Bodies {
+        let most = MOST_INDEX_WORDS - usize::from(mistaken(Mistake::LongestIndexRefused));
+        let room = if mistaken(by_buffer) { room } else { room.min(most) };
+        Bodies { room, lengths: Vec::new(), kept: Vec::new(), counted_alone }
     }
-    words.extend(bodies.concat());
-    words
+
+    pub fn push(&mut self, body: &[u32]) {
+        self.lengths.push(body.len());
+        if self.need() <= self.room {
+            self.kept.extend(body);
+        } else {
+            self.kept = Vec::new();
+        }
+    }
+
+    /// Words of head and contents.
+    pub fn front(&self) -> usize {
+        entry_place(self.lengths.len())
+    }
+
+    /// Words of the whole index.
+    fn need(&self) -> usize {
+        self.front() + self.lengths.iter().sum::<usize>()
+    }
+
+    /// The whole index, its bodies being of this format; refusal 9 if it doesn't fit.
+    pub fn write(self, format: Format, rows: u32) -> Result<Vec<u32>, Refusal> {
+        must_fit(self.need(), self.room).map_err(|refusal| self.told(refusal))?;
+        let mut words = vec![format.kind(), rows, self.lengths.len() as u32];
+        let mut start = self.front();
+        for &length in &self.lengths {
+            words.extend([start as u32, length as u32]);
+            start += length;
+        }
+        words.extend(self.kept);
+        Ok(words)
+    }
+
+    /// Refusal 9 as a mistake has it.
+    fn told(&self, refusal: Refusal) -> Refusal {
+        let most = MOST_INDEX_WORDS as u64;
+        match refusal.word {
+            need if mistaken(self.counted_alone) => Refusal { word: need - self.front() as u64, ..refusal },
+            need if mistaken(Mistake::LongNeedCut) => Refusal { word: need.min(most), ..refusal },
+            _ => refusal,
+        }
+    }
 }
 
 /// Checks a whole index.
@@ -151,4 +198,54 @@ pub fn nth(index: &[u32], k: u32, n: u32) -> Result<u32, Refusal> {
 /// Bitmap `k` as plain words.
 pub fn expand_bitmap(index: &[u32], k: u32, room: usize) -> Result<Vec<u32>, Refusal> {
     expand_rows(&open(index)?.body(k)?, room)
+}
+
+#[cfg(test)]
+mod tests {
+    use super::*;
+    use crate::limits::{MOST_SUMMED, WAH_KIND};
+    use crate::mistakes::with_mistake;
+
+    /// An answer of two bodies, one of three words and the other so that the whole has so many; its length.
+    fn answered(words: usize, room: usize) -> Result<usize, Refusal> {
+        let mut bodies = Bodies::within(room, Mistake::SumByBufferAlone, Mistake::NeedWithoutContents);
+        bodies.push(&[7, 8, 9]);
+        bodies.push(&vec![0; words - 10]);
+        let index = bodies.write(Format::Wah, 40)?;
+        assert_eq!(index[..10], [WAH_KIND, 40, 2, 7, 3, 10, words as u32 - 10, 7, 8, 9]);
+        Ok(index.len())
+    }
+
+    fn nine(words: usize) -> Result<usize, Refusal> {
+        Err(refusal(9, 0, words))
+    }
+
+    #[test]
+    fn at_most_the_limit_whatever_the_buffer() {
+        const MOST: usize = MOST_INDEX_WORDS;
+        assert_eq!((answered(12, 12), answered(12, 11), answered(12, 0)), (Ok(12), nine(12), nine(12)));
+        assert_eq!((answered(MOST, MOST), answered(MOST, MOST - 1)), (Ok(MOST), nine(MOST)));
+        for room in [0, MOST, MOST + 1, usize::MAX] {
+            assert_eq!(answered(MOST + 1, room), nine(MOST + 1));
+        }
+        let with = |mistake, words| with_mistake(mistake, || answered(words, usize::MAX));
+        assert_eq!(with(Mistake::SumByBufferAlone, MOST + 1), Ok(MOST + 1));
+        assert_eq!(with(Mistake::RewriteByBufferAlone, MOST + 1), nine(MOST + 1));
+        assert_eq!(with(Mistake::LongestIndexRefused, MOST), nine(MOST));
+        assert_eq!(with(Mistake::LongNeedCut, MOST + 1), nine(MOST));
+        assert_eq!(with(Mistake::NeedWithoutContents, MOST + 1), nine(MOST + 1 - 7));
+    }
+
+    /// What doesn't fit is counted and not kept: more words than any index has.
+    #[test]
+    fn all_bodies_are_measured() {
+        let mut bodies = Bodies::within(usize::MAX, Mistake::SumByBufferAlone, Mistake::NeedWithoutContents);
+        let body = vec![0; 33_555_457];
+        for _ in 0..MOST_SUMMED {
+            bodies.push(&body);
+        }
+        assert_eq!(bodies.kept.capacity(), 0);
+        // 33 bodies of 33,555,457 words behind 3 + 2 * 33.
+        assert_eq!(bodies.write(Format::Ewah, 40), Err(refusal(9, 0, 1_107_330_150)));
+    }
 }

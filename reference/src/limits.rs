@@ -1,13 +1,13 @@
 //! Every limit and size of the rules, once.
 
 /// Rows of a bitmap, at most.
-pub const MOST_ROWS: u32 = 16_777_216;
+pub const MOST_ROWS: u32 = 1_073_741_824;
 /// Bitmaps of an index, at most.
-pub const MOST_BITMAPS: u32 = 64;
+pub const MOST_BITMAPS: u32 = 256;
 /// Words of an index, at most.
 pub const MOST_INDEX_WORDS: usize = 67_108_864;
 /// Numbers in a list, at most.
-pub const MOST_NAMED: usize = 64;
+pub const MOST_NAMED: usize = 256;
 /// Entries of a tally: 0 to `MOST_NAMED` holders.
 pub const TALLY_ENTRIES: usize = MOST_NAMED + 1;
 

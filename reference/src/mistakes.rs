@@ -295,7 +295,60 @@ pub enum Mistake {
     RunIsOneSegment,
     /// A fill is told as the one segment that the row lies in.
     FillIsOneSegment,
+    /// An index of one row over `MOST_ROWS` is let through.
+    RowsOneOver,
+    /// The same of a lone body.
+    BodyRowsOneOver,
+    /// The same where a body is written from plain words.
+    PlainRowsOneOver,
+    /// An index of one bitmap over `MOST_BITMAPS` is let through.
+    BitmapsOneOver,
+    /// A threshold takes a list of one number over `MOST_NAMED`.
+    ThresholdListOneOver,
+    /// A table does.
+    TableListOneOver,
+    /// The tally does; rows that all of them hold have no entry.
+    TallyListOneOver,
+    /// The tally's last entry is missing: rows with `MOST_NAMED` holders aren't counted.
+    TallyLastMissing,
+    /// A threshold counts holders in a byte: 256 of them are none.
+    ThresholdInByte,
+    /// A table does.
+    TableInByte,
+    /// The tally does.
+    TallyInByte,
+    /// A sum of over `MOST_INDEX_WORDS` words is written where the buffer has room.
+    SumByBufferAlone,
+    /// The same of a rewritten index.
+    RewriteByBufferAlone,
+    /// An answer that is an index of just `MOST_INDEX_WORDS` words is refused with 9.
+    LongestIndexRefused,
+    /// Refusal 9 of an answer that is an index never tells more than `MOST_INDEX_WORDS`.
+    LongNeedCut,
+    /// An index of over `ROWS_ONCE` rows is refused.
+    RowsAsOnce,
+    /// The same of a lone body.
+    BodyRowsAsOnce,
+    /// The same where a body is written from plain words.
+    PlainRowsAsOnce,
+    /// An index of over `BITMAPS_ONCE` bitmaps is refused.
+    BitmapsAsOnce,
+    /// A threshold refuses a list of over `NAMED_ONCE` numbers.
+    ThresholdListAsOnce,
+    /// A table does, and so has no more entries than that and one.
+    TableListAsOnce,
+    /// The tally does.
+    TallyListAsOnce,
+    /// The tally's entries over `NAMED_ONCE` stay 0.
+    TallyAsOnce,
 }
+
+/// The most rows of a bitmap as they once were, for mistakes only.
+pub const ROWS_ONCE: usize = 16_777_216;
+/// The most bitmaps of an index, likewise.
+pub const BITMAPS_ONCE: usize = 64;
+/// The most numbers in a list, likewise.
+pub const NAMED_ONCE: usize = 64;
 
 impl Mistake {
     pub const ALL: &'static [Mistake] = &[
@@ -443,6 +496,29 @@ impl Mistake {
         Mistake::CleanLiteralInFill,
         Mistake::RunIsOneSegment,
         Mistake::FillIsOneSegment,
+        Mistake::RowsOneOver,
+        Mistake::BodyRowsOneOver,
+        Mistake::PlainRowsOneOver,
+        Mistake::BitmapsOneOver,
+        Mistake::ThresholdListOneOver,
+        Mistake::TableListOneOver,
+        Mistake::TallyListOneOver,
+        Mistake::TallyLastMissing,
+        Mistake::ThresholdInByte,
+        Mistake::TableInByte,
+        Mistake::TallyInByte,
+        Mistake::SumByBufferAlone,
+        Mistake::RewriteByBufferAlone,
+        Mistake::LongestIndexRefused,
+        Mistake::LongNeedCut,
+        Mistake::RowsAsOnce,
+        Mistake::BodyRowsAsOnce,
+        Mistake::PlainRowsAsOnce,
+        Mistake::BitmapsAsOnce,
+        Mistake::ThresholdListAsOnce,
+        Mistake::TableListAsOnce,
+        Mistake::TallyListAsOnce,
+        Mistake::TallyAsOnce,
     ];
 }
 
@@ -473,4 +549,12 @@ pub(crate) fn mistaken(m: Mistake) -> bool {
 /// Is a mistake of both formats switched on, or its like in WAH alone, this format being WAH?
 pub(crate) fn mistaken_in(format: Format, both: Mistake, wah: Mistake) -> bool {
     mistaken(both) || format == Format::Wah && mistaken(wah)
+}
+
+/// A limit; one more with the mistake `one_over`, and what it once was with the mistake `as_once`.
+pub(crate) fn limit(now: usize, one_over: Mistake, as_once: Mistake, once: usize) -> usize {
+    if mistaken(as_once) {
+        return once;
+    }
+    now + usize::from(mistaken(one_over))
 }

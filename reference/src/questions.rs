@@ -1,12 +1,10 @@
 //! Answers over two bitmaps, one, or a list.
 
-use std::collections::BTreeSet;
-
 use crate::body::{settle, settled, Body};
 use crate::format::Format;
 use crate::index::{open, Index};
 use crate::limits::{MOST_NAMED, TALLY_ENTRIES};
-use crate::mistakes::{mistaken, mistaken_in, Mistake};
+use crate::mistakes::{limit, mistaken, mistaken_in, Mistake, NAMED_ONCE};
 use crate::refusal::{bad_argument, must_fit, Refusal};
 use crate::segment::{segments_in, Segment};
 use crate::spans::Spans;
@@ -23,12 +21,12 @@ struct Named {
     format: Format,
     /// Words of their bodies, repeats added again.
     words: usize,
-    /// Where pieces end, each segment once.
-    ends: BTreeSet<usize>,
+    /// The segments at which pieces end.
+    ends: Spans<bool>,
     /// All pieces, for a mistake only.
     pieces: usize,
     /// The segments under some dirty word, for a mistake only.
-    dirty: BTreeSet<usize>,
+    dirty: Spans<bool>,
     /// Runs of ones over the pads, for mistakes only.
     over_pads: usize,
 }
@@ -37,7 +35,7 @@ impl Named {
     /// None named yet.
     fn of(index: &Index) -> Named {
         let format = index.format;
-        Named { format, words: 0, ends: BTreeSet::new(), pieces: 0, dirty: BTreeSet::new(), over_pads: 0 }
+        Named { format, words: 0, ends: Spans::none(), pieces: 0, dirty: Spans::none(), over_pads: 0 }
     }
 
     /// Names bitmap `k` and gives it, taken apart.
@@ -45,12 +43,8 @@ impl Named {
         let body = index.body(k)?;
         self.words += index.part(k)?.len();
         self.pieces += body.pieces.len();
-        for piece in &body.pieces {
-            self.ends.insert(piece.last);
-            if piece.dirty {
-                self.dirty.insert(piece.last);
-            }
-        }
+        self.ends.unite(Spans::at(body.pieces.iter().map(|piece| piece.last)));
+        self.dirty.unite(Spans::at(body.pieces.iter().filter(|piece| piece.dirty).map(|piece| piece.last)));
         self.over_pads += usize::from(body.pads.any());
         Ok(body)
     }
@@ -59,7 +53,7 @@ impl Named {
         if mistaken(Mistake::StretchPerBitmap) {
             return self.pieces as u32;
         }
-        self.ends.len() as u32
+        self.ends.count() as u32
     }
 
     /// The settled body of the answer's rows, if it fits.
@@ -77,12 +71,8 @@ impl Named {
     /// What a mistake writes: a dirty word wherever a named bitmap has one.
     fn kept_dirty(&self, rows: &Spans<bool>) -> Vec<u32> {
         let segments = segments_in(rows, self.format);
-        let mut dirty = Spans::none();
-        for &at in &self.dirty {
-            dirty.push(at - dirty.len(), false);
-            dirty.push(1, true);
-        }
-        dirty.push(segments.len() - dirty.len(), false);
+        let mut dirty = Spans::alike(segments.len(), false);
+        dirty.unite(self.dirty.clone());
         let kept = |segment: Segment, dirty: bool| Segment { clean: segment.clean.filter(|_| !dirty), ..segment };
         settle(&segments.with(&dirty, kept), self.format)
     }
@@ -148,9 +138,10 @@ pub fn not(index: &[u32], k: u32, room: usize) -> Result<Vec<u32>, Refusal> {
 
 // ---- a list ----
 
-/// The list itself: 1 to `MOST_NAMED` numbers, each of a bitmap that is there.
-fn check_list(index: &Index, list: &[u32]) -> Result<(), Refusal> {
-    let good = (1..=MOST_NAMED).contains(&list.len()) && list.iter().all(|&k| k < index.bitmaps());
+/// The list itself: 1 to `MOST_NAMED` numbers, each of a bitmap that is there. The mistakes are about the limit.
+fn check_list(index: &Index, list: &[u32], one_over: Mistake, as_once: Mistake) -> Result<(), Refusal> {
+    let most = limit(MOST_NAMED, one_over, as_once, NAMED_ONCE);
+    let good = (1..=most).contains(&list.len()) && list.iter().all(|&k| k < index.bitmaps());
     if good {
         Ok(())
     } else {
@@ -158,8 +149,8 @@ fn check_list(index: &Index, list: &[u32]) -> Result<(), Refusal> {
     }
 }
 
-/// For each row, how many of the list hold it.
-fn holders(index: &Index, list: &[u32], named: &mut Named) -> Result<Spans<usize>, Refusal> {
+/// For each row, how many of the list hold it; with the mistake `in_byte`, what a byte keeps of that.
+fn holders(index: &Index, list: &[u32], named: &mut Named, in_byte: Mistake) -> Result<Spans<usize>, Refusal> {
     let mut held = Spans::alike(index.rows as usize, 0);
     for (place, &k) in list.iter().enumerate() {
         let rows = named.name(index, k)?.rows;
@@ -167,6 +158,9 @@ fn holders(index: &Index, list: &[u32], named: &mut Named) -> Result<Spans<usize
             continue;
         }
         held = held.with(&rows, |c, set| c + usize::from(set));
+    }
+    if mistaken(in_byte) {
+        held = held.map(|c| usize::from(c as u8));
     }
     Ok(held)
 }
@@ -179,13 +173,13 @@ pub(crate) fn threshold_rows(
     room: usize,
 ) -> Result<(Answer, Spans<bool>), Refusal> {
     let index = open(index)?;
-    check_list(&index, list)?;
+    check_list(&index, list, Mistake::ThresholdListOneOver, Mistake::ThresholdListAsOnce)?;
     let t = t as usize;
     if t == 0 || (t > list.len() && !mistaken(Mistake::HighThresholdEmpty)) {
         return Err(bad_argument());
     }
     let mut named = Named::of(&index);
-    let held = holders(&index, list, &mut named)?;
+    let held = holders(&index, list, &mut named, Mistake::ThresholdInByte)?;
     let enough = |c: usize| {
         if mistaken(Mistake::ThresholdAboveT) {
             c > t
@@ -206,13 +200,13 @@ pub fn threshold(index: &[u32], list: &[u32], t: u32, room: usize) -> Result<Ans
 /// The rows at whose number of holders the table says yes.
 pub fn symmetric(index: &[u32], list: &[u32], table: &[u32], room: usize) -> Result<Answer, Refusal> {
     let index = open(index)?;
-    check_list(&index, list)?;
+    check_list(&index, list, Mistake::TableListOneOver, Mistake::TableListAsOnce)?;
     let most = if mistaken(Mistake::TableTwoIsYes) { 2 } else { 1 };
     if table.len() != list.len() + 1 || table.iter().any(|&entry| entry > most) {
         return Err(bad_argument());
     }
     let mut named = Named::of(&index);
-    let held = holders(&index, list, &mut named)?;
+    let held = holders(&index, list, &mut named, Mistake::TableInByte)?;
     let mut rows = held.map(|c| table[c] != 0);
     let over = named.over_pads;
     let always = mistaken_in(index.format, Mistake::TableFillsPads, Mistake::WahTableFillsPads);
@@ -226,14 +220,25 @@ pub fn symmetric(index: &[u32], list: &[u32], table: &[u32], room: usize) -> Res
     Ok(Answer { words, stretches: named.stretches() })
 }
 
+/// Entries of a tally that are filled: all, but for mistakes.
+fn entries_filled() -> usize {
+    if mistaken(Mistake::TallyLastMissing) {
+        return MOST_NAMED;
+    }
+    if mistaken(Mistake::TallyAsOnce) {
+        return NAMED_ONCE + 1;
+    }
+    TALLY_ENTRIES
+}
+
 /// Entry c: how many rows have c holders.
 pub fn histogram(index: &[u32], list: &[u32]) -> Result<[u32; TALLY_ENTRIES], Refusal> {
     let index = open(index)?;
-    check_list(&index, list)?;
+    check_list(&index, list, Mistake::TallyListOneOver, Mistake::TallyListAsOnce)?;
     let mut named = Named::of(&index);
-    let held = holders(&index, list, &mut named)?;
+    let held = holders(&index, list, &mut named, Mistake::TallyInByte)?;
     let mut tally = [0; TALLY_ENTRIES];
-    for (rows, c) in held.iter() {
+    for (rows, c) in held.iter().filter(|&(_, c)| c < entries_filled()) {
         tally[c] += rows.len() as u32;
     }
     let pads = (held.len().next_multiple_of(index.format.width()) - held.len()) as u32;

@@ -1,6 +1,7 @@
 //! The three numbers of a refusal.
 
-use crate::mistakes::{mistaken, Mistake};
+use crate::limits::MOST_ROWS;
+use crate::mistakes::{limit, mistaken, Mistake, ROWS_ONCE};
 
 #[derive(Debug, Clone, Copy, PartialEq, Eq)]
 pub struct Refusal {
@@ -14,9 +15,12 @@ pub(crate) fn refusal(number: u32, bitmap: u32, word: usize) -> Refusal {
     Refusal { number, bitmap, word: word as u64 }
 }
 
-/// Refusal 3 for a row number limit passed.
-pub(crate) fn too_many_rows() -> Refusal {
-    refusal(3, 0, 1)
+/// Refusal 3 for too many rows. The mistakes have the limit one row over, or as it once was.
+pub(crate) fn few_enough(rows: u32, one_over: Mistake, as_once: Mistake) -> Result<(), Refusal> {
+    if rows as usize <= limit(MOST_ROWS as usize, one_over, as_once, ROWS_ONCE) {
+        return Ok(());
+    }
+    Err(refusal(3, 0, 1))
 }
 
 /// Refusal 8.

@@ -2,10 +2,9 @@
 
 use crate::body::{check_body, read, settled, Body};
 use crate::format::Format;
-use crate::index::{self, open, open_contents, Index};
-use crate::limits::{ENTRY_WORDS, HEAD_WORDS};
+use crate::index::{open, open_contents, Bodies, Index};
 use crate::mistakes::{mistaken, Mistake};
-use crate::refusal::{must_fit, refusal, Refusal};
+use crate::refusal::{must_fit, Refusal};
 use crate::spans::Spans;
 
 /// A lone body of the format `from`, rewritten in the format `to`.
@@ -24,21 +23,16 @@ pub fn rewrite_bitmap(index: &[u32], k: u32, to: Format, room: usize) -> Result<
 /// A whole index, rewritten.
 pub fn rewrite_index(index: &[u32], to: Format, room: usize) -> Result<Vec<u32>, Refusal> {
     let opened = open(index)?;
-    let mut bodies = Vec::new();
+    let mut bodies = Bodies::within(room, Mistake::RewriteByBufferAlone, Mistake::RewriteNeedsBodiesOnly);
     for k in 0..opened.bitmaps() {
-        bodies.push(rewritten(&index[opened.part(k)?], &opened.body(k)?, to));
+        bodies.push(&rewritten(&index[opened.part(k)?], &opened.body(k)?, to));
     }
     let told = if mistaken(Mistake::RewrittenKindKept) { opened.format } else { to };
-    let mut words = index::write(told, opened.rows, &bodies);
-    let contents = HEAD_WORDS + ENTRY_WORDS * bodies.len();
+    let front = bodies.front();
+    let mut words = bodies.write(told, opened.rows)?;
     if mistaken(Mistake::RewrittenContentsKept) {
-        words[..contents].copy_from_slice(&index[..contents]);
-        words[0] = to.kind();
+        words[1..front].copy_from_slice(&index[1..front]);
     }
-    if mistaken(Mistake::RewriteNeedsBodiesOnly) && words.len() > room {
-        return Err(refusal(9, 0, words.len() - contents));
-    }
-    must_fit(words.len(), room)?;
     Ok(words)
 }
 

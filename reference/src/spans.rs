@@ -88,7 +88,7 @@ impl<T: Copy + PartialEq> Spans<T> {
         U: Copy + PartialEq,
         V: Copy + PartialEq,
     {
-        let mut all = Spans::none();
+        let mut all = Spans { ends: Vec::with_capacity(self.ends.len().max(other.ends.len())) };
         let (mut a, mut b, mut start) = (0, 0, 0);
         while let (Some(&(end_a, first)), Some(&(end_b, second))) = (self.ends.get(a), other.ends.get(b)) {
             let end = end_a.min(end_b);
@@ -146,6 +146,24 @@ impl<T: Copy + PartialEq> FromIterator<T> for Spans<T> {
 }
 
 impl Spans<bool> {
+    /// Set at these places, which come in order, and nowhere else; it ends with the last.
+    pub fn at(places: impl Iterator<Item = usize>) -> Spans<bool> {
+        let mut all = Spans::none();
+        for place in places {
+            all.push(place - all.len(), false);
+            all.push(1, true);
+        }
+        all
+    }
+
+    /// Sets all places that the other has set.
+    pub fn unite(&mut self, mut other: Spans<bool>) {
+        let longer = self.len().max(other.len());
+        self.push(longer - self.len(), false);
+        other.push(longer - other.len(), false);
+        *self = self.with(&other, |a, b| a || b);
+    }
+
     /// The places of each span that is set.
     pub fn set(&self) -> impl DoubleEndedIterator<Item = Range<usize>> + '_ {
         self.iter().filter(|&(_, set)| set).map(|(places, _)| places)
@@ -188,28 +206,28 @@ impl Spans<bool> {
     /// The words that have so many places each, lowest bit first. Bits past the last place are zero.
     pub fn words(&self, width: usize) -> Spans<u32> {
         let mut words = Spans::none();
-        let mut begun = 0;
+        // The word that isn't whole yet, and how many places it has.
+        let (mut begun, mut bits) = (0, 0);
         for (places, set) in self.iter() {
-            let mut at = places.start;
-            while at < places.end {
-                let (bit, left) = (at % width, places.end - at);
-                if bit == 0 && left >= width {
-                    words.push(left / width, if set { low_bits(width) } else { 0 });
-                    at += left / width * width;
-                    continue;
-                }
-                let taken = left.min(width - bit);
+            let mut left = places.len();
+            while left > 0 {
+                let taken = left.min(width - bits);
                 if set {
-                    begun |= low_bits(taken) << bit;
+                    begun |= low_bits(taken) << bits;
                 }
-                at += taken;
-                if bit + taken == width {
+                bits += taken;
+                left -= taken;
+                if bits == width {
                     words.push(1, begun);
-                    begun = 0;
+                    (begun, bits) = (0, 0);
+                }
+                if bits == 0 && left >= width {
+                    words.push(left / width, if set { low_bits(width) } else { 0 });
+                    left %= width;
                 }
             }
         }
-        words.push(usize::from(self.len() % width > 0), begun);
+        words.push(usize::from(bits > 0), begun);
         words
     }
 }
@@ -278,6 +296,22 @@ mod tests {
                 let due: Vec<u8> = first.iter().zip(&second).map(|(&a, &b)| u8::from(a) + u8::from(b)).collect();
                 let both = spans(&first).with(&spans(&second), |a, b| u8::from(a) + u8::from(b));
                 assert_eq!(both, due.into_iter().collect());
+            }
+        }
+    }
+
+    #[test]
+    fn by_places() {
+        for first in patterns(4) {
+            let set = |places: &[bool]| Spans::at((0..places.len()).filter(|&place| places[place]));
+            let end = first.iter().rposition(|&set| set).map_or(0, |last| last + 1);
+            assert_eq!(set(&first), spans(&first[..end]));
+            for second in patterns(5) {
+                let due: Vec<bool> = (0..5).map(|at| second[at] || first.get(at) == Some(&true)).collect();
+                let (mut all, mut other) = (spans(&first), spans(&second));
+                all.unite(spans(&second));
+                other.unite(spans(&first));
+                assert_eq!((all, other), (spans(&due), spans(&due)));
             }
         }
     }

@@ -94,15 +94,16 @@ fn long_runs() {
     }
     assert_eq!(body_row(&body, 2_097_152, Ewah, 2_097_152), Err(BAD));
 
-    let most = [[0x0001_FFFE; 8].as_slice(), &[0x10]].concat();
+    // 33,554,432 segments: 512 full markers, and one with 512 segments.
+    let most = [[0x0001_FFFE; 512].as_slice(), &[0x400]].concat();
     let run = 32 * MOST_CLEAN as u32;
-    let due: Vec<(u32, u32)> = (0..9).map(|k| (k * run, ((k + 1) * run).min(MOST_ROWS) - 1)).collect();
+    let due: Vec<(u32, u32)> = (0..513).map(|k| (k * run, ((k + 1) * run).min(MOST_ROWS) - 1)).collect();
     assert_eq!(body_pieces(&most, MOST_ROWS, Ewah), Ok(due));
-    let last = Row { set: false, first: 16_776_960, last: 16_777_215 };
-    assert_eq!(body_row(&most, MOST_ROWS, Ewah, 16_777_000), Ok(last));
-    // One fill has them all: 541,201 segments.
-    let all = Row { set: true, first: 0, last: 16_777_215 };
-    assert_eq!(body_row(&[0xC008_4211], MOST_ROWS, Wah, 16_777_215), Ok(all));
+    let last = Row { set: false, first: 1_073_725_440, last: 1_073_741_823 };
+    assert_eq!(body_row(&most, MOST_ROWS, Ewah, 1_073_741_000), Ok(last));
+    // One fill has them all: 34,636,834 segments.
+    let all = Row { set: true, first: 0, last: 1_073_741_823 };
+    assert_eq!(body_row(&[0xC210_8422], MOST_ROWS, Wah, 1_073_741_823), Ok(all));
 }
 
 #[test]

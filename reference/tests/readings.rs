@@ -96,14 +96,17 @@ fn long_runs() {
 #[test]
 fn one_row_too_many() {
     let refused = no(3, 0, 1);
-    assert_eq!(check_body(&[], 16_777_217, Ewah), Err(refused));
-    assert_eq!(body_count(&[], 16_777_217, Ewah), Err(refused));
-    assert_eq!(body_row(&[], 16_777_217, Ewah, 0), Err(refused));
-    assert_eq!(body_nth(&[], 16_777_217, Ewah, 0), Err(refused));
-    assert_eq!(expand(&[], 16_777_217, Ewah, 0), Err(refused));
-    assert_eq!(compress(16_777_217, &[], Ewah, 0), Err(refused));
-    assert_eq!(check(&[1, 16_777_217, 0]), Err(refused));
-    assert_eq!(check(&[1, 16_777_216, 0]), Ok(()));
+    let over = 1_073_741_825;
+    for format in Format::ALL {
+        assert_eq!(check_body(&[], over, format), Err(refused));
+        assert_eq!(body_count(&[], over, format), Err(refused));
+        assert_eq!(body_row(&[], over, format, 0), Err(refused));
+        assert_eq!(body_nth(&[], over, format, 0), Err(refused));
+        assert_eq!(expand(&[], over, format, 0), Err(refused));
+        assert_eq!(compress(over, &[], format, 0), Err(refused));
+        assert_eq!(check(&[format.kind(), over, 0]), Err(refused));
+        assert_eq!(check(&[format.kind(), over - 1, 0]), Ok(()));
+    }
 }
 
 #[test]

@@ -39,9 +39,9 @@ fn by_hand() {
     assert_eq!(rewrite(&FIVE_64, 96, Ewah, Wah, 4), Ok(vec![0x20, 0, 4, 0]));
     assert_eq!(rewrite(&FIVE_64_WASTEFUL, 96, Ewah, Ewah, 4), Ok(FIVE_64.to_vec()));
     // The longest runs.
-    let long = [vec![0x0001_FFFE; 8], vec![0x0000_0010]].concat();
-    assert_eq!(rewrite(&long, MOST_ROWS, Ewah, Wah, 1), Ok(vec![0x8008_4211]));
-    assert_eq!(rewrite(&[0x8008_4211], MOST_ROWS, Wah, Ewah, 9), Ok(long));
+    let long = [vec![0x0001_FFFE; 512], vec![0x0000_0400]].concat();
+    assert_eq!(rewrite(&long, MOST_ROWS, Ewah, Wah, 1), Ok(vec![0x8210_8422]));
+    assert_eq!(rewrite(&[0x8210_8422], MOST_ROWS, Wah, Ewah, 513), Ok(long));
 }
 
 #[test]

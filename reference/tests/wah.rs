@@ -68,8 +68,6 @@ fn published_example() {
 
 #[test]
 fn long_runs() {
-    settles(&vec![false; MOST_ROWS as usize], &[0x8008_4211]);
-    settles(&vec![true; MOST_ROWS as usize], &[0xC008_4211]);
     settles(&vec![false; 31 * 65_536], &[0x8001_0000]);
     settles(&vec![true; 31 * 65_535], &[0xC000_FFFF]);
     for refused in [check_body(&[], MOST_ROWS + 1, Wah), body_count(&[], MOST_ROWS + 1, Wah).map(|_| ())] {

@@ -2,6 +2,7 @@
 
 #[path = "../common/mod.rs"]
 mod common;
+mod limits;
 mod pieces;
 mod wah;
 use common::*;
@@ -133,7 +134,7 @@ fn tail_case(m: Mistake) -> String {
 
 /// The mistakes that have tables of their own.
 fn tables() -> Vec<wah::Case> {
-    [wah::all(), pieces::all()].into_iter().flatten().collect()
+    [wah::all(), pieces::all(), limits::all()].into_iter().flatten().collect()
 }
 
 fn find(m: Mistake) -> Option<wah::Case> {
@@ -321,11 +322,18 @@ fn ewah_expected(m: Mistake) -> (String, String) {
     }
 }
 
+/// The mistakes that a small case shows.
+fn short() -> impl Iterator<Item = Mistake> {
+    Mistake::ALL.iter().copied().filter(|m| !limits::LONG.contains(m))
+}
+
 #[test]
 fn each_mistake_shows() {
-    assert_eq!(Mistake::ALL.len(), 68 + tables().len());
+    assert_eq!(Mistake::ALL.len(), 68 + tables().len() + limits::LONG.len());
     for (place, &m) in Mistake::ALL.iter().enumerate() {
         assert!(!Mistake::ALL[..place].contains(&m));
+    }
+    for m in short() {
         let before = case(m);
         let during = with_mistake(m, || case(m));
         let after = case(m);
@@ -338,9 +346,10 @@ fn each_mistake_shows() {
 /// A mistake touches its own case and few others; none shows in all of them.
 #[test]
 fn no_mistake_shows_everywhere() {
-    for &m in Mistake::ALL {
-        let shown = Mistake::ALL.iter().filter(|&&c| with_mistake(m, || case(c)) != case(c)).count();
-        assert!((1..Mistake::ALL.len() / 3).contains(&shown), "{m:?} {shown}");
+    let rights: Vec<(Mistake, String)> = short().map(|m| (m, case(m))).collect();
+    for m in short() {
+        let shown = rights.iter().filter(|(c, right)| with_mistake(m, || case(*c)) != *right).count();
+        assert!((1..rights.len() / 3).contains(&shown), "{m:?} {shown}");
     }
 }
 
