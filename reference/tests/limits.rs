@@ -185,25 +185,22 @@ fn most_rows_in_an_index() {
         let index = index_in(format, MOST_ROWS, &bodies.each_ref().map(|body| &body[..]));
         let [none, all, one, alternate] = &bodies;
         let set = set_by_alternate(format);
-        // One in the middle lies in a run of ones.
-        let middle = row(&index, 3, 536_870_912).unwrap().set;
-        let in_middle = |yes: bool| if yes { one } else { none };
-        assert_eq!(and(&index, 2, 3, ANY).as_ref(), Ok(in_middle(middle)));
-        assert_eq!(and_not(&index, 2, 3, ANY).as_ref(), Ok(in_middle(!middle)));
+        // The one in the middle lies in a run of ones: 128 or 17,044 segments behind its start.
+        assert_eq!(and(&index, 2, 3, ANY).as_ref(), Ok(one));
+        assert_eq!(and_not(&index, 2, 3, ANY).as_ref(), Ok(none));
         assert_eq!(or(&index, 0, 3, ANY).as_ref(), Ok(alternate));
         assert_eq!(xor(&index, 1, 1, ANY).as_ref(), Ok(none));
         assert_eq!(not(&index, 0, ANY).as_ref(), Ok(all));
 
         let list = [vec![1; 253], vec![0, 2, 3]].concat();
         let answer = threshold(&index, &list, 254, ANY).unwrap();
-        assert_eq!(Ok(answer.words), or(&index, 2, 3, ANY));
+        assert_eq!(&answer.words, alternate);
         let tally = histogram(&index, &list).unwrap();
-        let both = u32::from(middle);
-        assert_eq!(tally[253..], [MOST_ROWS - set - 1 + both, set + 1 - 2 * both, both, 0]);
+        assert_eq!((&tally[..253], &tally[253..]), (&[0; 253][..], &[MOST_ROWS - set, set - 1, 1, 0][..]));
         let table: Vec<u32> = (0..257).map(|c| u32::from(c >= 254)).collect();
-        assert_eq!(symmetric(&index, &list, &table, ANY), threshold(&index, &list, 254, ANY));
+        assert_eq!(symmetric(&index, &list, &table, ANY), Ok(answer));
 
-        assert_eq!(value(&index, &[1, 0, 1, 2, 3], 536_870_912), Ok(6 + 8 * u64::from(middle)));
+        assert_eq!(value(&index, &[1, 0, 1, 2, 3], 536_870_912), Ok(2 + 4 + 8));
         let twice = sum(&index, &[1, 1], &[1, 1], ANY).unwrap();
         assert_eq!(twice, index_in(format, MOST_ROWS, &[all, none, all]));
         for to in Format::ALL {
