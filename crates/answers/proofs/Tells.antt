@@ -25,14 +25,14 @@ module _ (out : List ℕ) where
   unfolding writtenOf wordsOf bufferAfter wordsReported
   wrote-refused r o e = rw (← e) (record { told = refl; words = refl; left = refl })
 
-  module _ (ws : List ℕ) (n : ℕ) (is : n ≡ length ws) where
-    pub wrote-none : length out < n → Wrote (fits (length out) ws) (written.Refused (refusal 9 n)) out out
-    wrote-none h = wrote-refused (refusal 9 n) (fits (length out) ws) (ap (λ (m : ℕ). refused 9 0 m) is ∙ sym (fits-no (length out) ws (omega arith)))
+  module _ (ws : List ℕ) (n : ℕ) (is : n ≡ length ws) {room : ℕ} where
+    pub wrote-none : room < n → Wrote (fits room ws) (written.Refused (refusal 9 n)) out out
+    wrote-none h = wrote-refused (refusal 9 n) (fits room ws) (ap (λ (m : ℕ). refused 9 0 m) is ∙ sym (fits-no room ws (omega arith)))
 
-    pub wrote-words : (out′ : List ℕ) → n ≤ length out → out′ ≡ ws ++ drop (length ws) out → Wrote (fits (length out) ws) (written.Words n) out out′
+    pub wrote-words : (out′ : List ℕ) → n ≤ room → out′ ≡ ws ++ drop (length ws) out → Wrote (fits room ws) (written.Words n) out out′
     unfolding writtenOf wordsOf bufferAfter wordsReported
     wrote-words out′ h e =
-        rw (fits-yes (length out) ws (omega arith), e)
+        rw (fits-yes room ws (omega arith), e)
         (record { told = ap answer (take-at ws (drop (length ws) out) n (sym is)); words = is; left = refl })
 
 -- a call behind a check that finds nothing tells what the question behind it tells

@@ -8,7 +8,7 @@ ghost use lib.ListN.{length, drop};
 ghost use Rattle.meaning.specs.Format.{canonical};
 ghost use Rattle.meaning.specs.Index.{rowCount, bitmapCount, bodyPlace, rowsAt};
 ghost use Rattle.meaning.specs.Laws.{IndexFacts};
-ghost use Rattle.meaning.specs.NewIndex.{writeIndex};
+ghost use Rattle.meaning.specs.NewIndex.{indexRoom, writeIndex};
 ghost use Rattle.meaning.specs.Rewriting.{setsFrom};
 ghost use Rattle.answers.specs.Told.{Wrote};
 ghost use Rattle.row_write.specs.Packing.{Rewritten};
@@ -56,7 +56,8 @@ fn measure(index: &[u32], to: Format, out: &mut [u32]) -> usize
 fn write_body(index: &[u32], k: u32, to: Format, out: &mut [u32], at: usize) -> usize
     requires { ⌜ IndexFacts (now index) ⌝ }
     requires { ⌜ k < bitmapCount (now index) ⌝ }
-    requires { ⌜ (at ≡ bodyPlace (anew (now index) to) k) × (length (anew (now index) to) ≤ length (now out)) ⌝ }
+    requires { ⌜ (at ≡ bodyPlace (anew (now index) to) k)
+        × (length (anew (now index) to) ≤ indexRoom (length (now out))) ⌝ }
     ensures { λ r. ⌜ (r ≡ bodyPlace (anew (now (index .entry)) to) (k + 1))
         × BodyAdded (anew (now (index .entry)) to) (now (out .entry)) (now (out .exit)) k ⌝ }
 {
@@ -70,7 +71,7 @@ fn write_body(index: &[u32], k: u32, to: Format, out: &mut [u32], at: usize) -> 
 // The new index, to the front of a buffer with room for it; the words behind stay.
 fn write(index: &[u32], to: Format, out: &mut [u32])
     requires { ⌜ IndexFacts (now index) ⌝ }
-    requires { ⌜ length (anew (now index) to) ≤ length (now out) ⌝ }
+    requires { ⌜ length (anew (now index) to) ≤ indexRoom (length (now out)) ⌝ }
     ensures { λ _. ⌜ now (out .exit)
         ≡ anew (now (index .entry)) to ++ drop (length (anew (now (index .entry)) to)) (now (out .entry)) ⌝ }
 {
@@ -87,7 +88,8 @@ fn write(index: &[u32], to: Format, out: &mut [u32])
     }
 }
 
-// All bitmaps, in their order, as a new index with bodies of the format `to`; 9 where it does not fit.
+// All bitmaps, in their order, as a new index with bodies of the format `to`; 9 where it does not fit, or would be longer than an
+// index may be.
 pub fn rewrite(index: &[u32], to: Format, out: &mut [u32]) -> Written
     requires { ⌜ IndexFacts (now index) ⌝ }
     ensures { λ r. ⌜ Wrote (writeIndex to (rowCount (now (index .entry)))
@@ -95,7 +97,7 @@ pub fn rewrite(index: &[u32], to: Format, out: &mut [u32]) -> Written
         r (now (out .entry)) (now (out .exit)) ⌝ }
 {
     let need = measure(index, to, out);
-    if out.len() < need {
+    if contents::room(out.len()) < need {
         return Written::Refused(answer::no_room(need as u64));
     }
     write(index, to, out);

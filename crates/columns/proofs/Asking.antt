@@ -12,7 +12,7 @@ use Rattle.meaning.specs.Limits.{leastColumn, mostColumn, mostValueColumn}
 use Rattle.meaning.specs.Refusal.{Outcome, answer, refuseIf, _then_}
 use Rattle.meaning.specs.Index.{formatOf, rowCount, bitmapCount}
 use Rattle.meaning.specs.Laws.{IndexFacts}
-use Rattle.meaning.specs.NewIndex.{indexOf, writeIndex}
+use Rattle.meaning.specs.NewIndex.{indexOf, indexRoom, writeIndex}
 use Rattle.meaning.specs.Column.{sumValue}
 use Rattle.meaning.specs.Answer.{anyBad}
 use Rattle.meaning.specs.Columns.{sliceCount, wider, existing, badColumn, badRow, strays, valueAt, askValue, pairColumn, askPair, askSum}
@@ -124,11 +124,11 @@ module _ (index first second : List ℕ) where
     w′ : SumWritten index first second n old out need
     w′ = subst (λ (k : ℕ). SumWritten index first second k old out need) same w
 
-    pub wrote-no-room : length old < need → (r : Refusal) → r ≡ refusal 9 need → Wrote (writing (length old)) (written.Refused r) old out
+    pub wrote-no-room : indexRoom (length old) < need → (r : Refusal) → r ≡ refusal 9 need → Wrote (writing (length old)) (written.Refused r) old out
     unfolding writeIndex
     wrote-no-room h r k = rw (k, w′ .lacks h) (wrote-none old (indexOf (formatOf index) (rowCount index) (pairColumn index sumValue n first second)) need (w′ .need-is) h)
 
-    pub wrote-sum : need ≤ length old → Wrote (writing (length old)) (written.Words need) old out
+    pub wrote-sum : need ≤ indexRoom (length old) → Wrote (writing (length old)) (written.Words need) old out
     unfolding writeIndex
     wrote-sum h = wrote-words old (indexOf (formatOf index) (rowCount index) (pairColumn index sumValue n first second)) need (w′ .need-is) out h (w′ .fits h ∙ ap (λ (k : ℕ). indexOf (formatOf index) (rowCount index) (pairColumn index sumValue n first second) ++ drop k old) (w′ .need-is))
 

@@ -76,7 +76,7 @@ fn wider(first: &[u32], second: &[u32]) -> usize
     first.len() - 1
 }
 
-// The sum of two columns with no stray row, as a new index; 9 where it does not fit.
+// The sum of two columns with no stray row, as a new index; 9 where it does not fit, or would be longer than an index may be.
 fn write_sum(index: &[u32], first: &[u32], second: &[u32], out: &mut [u32]) -> Written
     requires { ⌜ IndexFacts (now index) ⌝ }
     requires { ⌜ meaning.badColumn (now index) mostColumn (now first) ≡ false ⌝ }
@@ -88,7 +88,7 @@ fn write_sum(index: &[u32], first: &[u32], second: &[u32], out: &mut [u32]) -> W
 {
     let n = wider(first, second) + 1;
     let need = sum::sum(index, first, second, n, out);
-    if out.len() < need {
+    if contents::room(out.len()) < need {
         return Written::Refused(answer::no_room(need as u64));
     }
     Written::Words(need)

@@ -7,10 +7,12 @@ ghost use Rattle.meaning.specs.Limits.{mostBitmaps, headWords, mostContents, wo
 ghost use Rattle.meaning.specs.Format.{kindOf};
 ghost use Rattle.meaning.specs.Index.{formatOf, rowCount, bitmapCount, entryPlace, startOf, lengthOf, bodyAt};
 ghost use Rattle.meaning.specs.Laws.{HeadFacts, EntryFacts};
+ghost use Rattle.meaning.specs.NewIndex.{indexRoom};
 use meaning::ENTRY_WORDS;
 use meaning::EWAH_KIND;
 use meaning::Format;
 use meaning::HEAD_WORDS;
+use meaning::MOST_INDEX_WORDS;
 use meaning::WAH_KIND;
 
 // A word as a number of words.
@@ -39,6 +41,16 @@ pub fn kind(format: Format) -> u32
         Format::Ewah => EWAH_KIND,
         Format::Wah => WAH_KIND,
     }
+}
+
+// Of a buffer of so many words those that a new index can take.
+pub fn room(words: usize) -> usize
+    ensures { λ r. ⌜ r ≡ indexRoom words ⌝ }
+{
+    if words < MOST_INDEX_WORDS {
+        return words;
+    }
+    MOST_INDEX_WORDS
 }
 
 // How many rows each bitmap has.

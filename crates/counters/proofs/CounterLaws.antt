@@ -5,11 +5,11 @@ use mathlib.Core.Bool.{Bool, true, false, not, _&&_, _||_}
 use mathlib.Core.Path.{_≡_, refl, sym, ap, ap₂, _∙_}
 use mathlib.Core.List.{List, [], _∷_}
 use lib.Dec.{eqb, leb}
-use lib.ListN.{length, getD, set, drop, length-set, drop-of-length-le}
-use lib.Pow.{shr-shr}
+use lib.ListN.{length, getD, set, drop, length-set}
+use lib.Pow.{pow-pos, shr-shr}
 use lib.Seq.{drop-cons}
 use lib.Bits.{bitAnd, bitXor}
-use native.Mathlib.Nat.{pow-suc, div-one, div-eq-of-lt}
+use native.Mathlib.Nat.{pow-suc, div-one, div-eq-of-lt, div-add-mod', mod-lt}
 use native.Mathlib.Numerals.{add-one}
 use native.Mathlib.Omega.{arith}
 use borrow.Author.Tests.{ne-eqb}
@@ -70,6 +70,26 @@ count-from : (ps : List ℕ) (k j : ℕ) → k < length ps → countAt (drop k p
 unfolding countAt
 count-from ps k j h = rw (add-one, drop-cons ps k 0, bit-set)
 
+-- they stand for no more than the counter, so they are empty where it is below 2 ^ k
+part-le : (ps : List ℕ) (k j : ℕ) → countAt (drop k ps) j * 2 ^ k ≤ countAt ps j
+unfolding countAt
+part-le ps zero j = omega arith
+part-le [] (suc k) j = omega arith
+part-le (p ∷ ps) (suc k) j = rw (pow-suc 2 k) (omega (arith, part-le ps k j))
+
+none-from : (ps : List ℕ) (k j : ℕ) → countAt ps j < 2 ^ k → countAt (drop k ps) j ≡ 0
+none-from ps k j h = go (countAt (drop k ps) j) (part-le ps k j)
+  where
+    go : (n : ℕ) → n * 2 ^ k ≤ countAt ps j → n ≡ 0
+    go zero l = refl
+    go (suc n) l = absurd (omega arith)
+
+-- a number whose digits end before k is below 2 ^ k
+pub short-digits : (m k : ℕ) → m / 2 ^ k ≡ 0 → m < 2 ^ k
+short-digits m k e =
+    let all : 0 * 2 ^ k + m % 2 ^ k ≡ m = rw e at (div-add-mod' m (2 ^ k)) in
+    omega (arith, all, mod-lt m {m = 2 ^ k} (pow-pos k))
+
 -- the digits of t from k on
 digits-from : (t k : ℕ) → t / 2 ^ k ≡ t / 2 ^ k % 2 + 2 * (t / 2 ^ (k + 1))
 digits-from t k = omega (arith, shr-shr t k 1)
@@ -94,11 +114,11 @@ module _ (f : ℕ → ℕ → Bool → Bool) (w : ℕ) (ps : List ℕ) (t : ℕ)
       ap (f e c) (r-is j l) ∙ sym (step e c (isSet (getD ps k 0) j) (isSet r j))
       ∙ sym (ap₂ (λ (m n : ℕ). f m n (isSet r j)) digits (count-from ps k j h)) ∙ so-far j l
 
-  pub compared-all : (r k : ℕ) → length ps ≤ k → t < 2 ^ k → Compared f w ps t r k → (j : ℕ) → j < w → f 0 0 (isSet r j) ≡ f t (countAt ps j) true
-  unfolding countAt
-  compared-all r k h t-lt so-far j l =
-      let none : countAt (drop k ps) j ≡ 0 = ap (λ (l : List ℕ). countAt l j) (drop-of-length-le ps h) in
-      sym (ap₂ (λ (m n : ℕ). f m n (isSet r j)) (div-eq-of-lt t-lt) none) ∙ so-far j l
+  -- no digit is left where k digits hold every counter, and t
+  pub compared-all : (r k : ℕ) → ((j : ℕ) → j < w → countAt ps j < 2 ^ k) → t < 2 ^ k → Compared f w ps t r k
+      → (j : ℕ) → j < w → f 0 0 (isSet r j) ≡ f t (countAt ps j) true
+  compared-all r k low t-lt so-far j l =
+      sym (ap₂ (λ (m n : ℕ). f m n (isSet r j)) (div-eq-of-lt t-lt) (none-from ps k j (low j l))) ∙ so-far j l
 
 -- n is at least t
 abbrev pub reaches : ℕ → ℕ → Bool → Bool

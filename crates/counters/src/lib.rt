@@ -2,10 +2,10 @@
 // bit k of the counter of bit j is bit j of planes[k].
 ghost use mathlib.Core.Path.{_≡_};
 ghost use mathlib.Core.Bool.{_&&_};
-ghost use Prim.Native.Nat.{ℕ, _+_, _*_, _≤_, _<_};
+ghost use Prim.Native.Nat.{ℕ, _+_, _≤_, _<_};
 ghost use lib.Dec.{leb, eqb};
 ghost use lib.ListN.{length, getD};
-ghost use Rattle.meaning.specs.Limits.{mostNamed, histogramCounts, counterPlanes, mostCounted, mostRows, mostSegments};
+ghost use Rattle.meaning.specs.Limits.{mostNamed, histogramCounts, counterPlanes, mostCounted, mostRows};
 ghost use Rattle.meaning.specs.Rows.{countBelow};
 ghost use Rattle.meaning.specs.Segment.{bitAt, isSet};
 ghost use Rattle.counters.specs.Counters.{countAt};
@@ -31,13 +31,20 @@ pub fn add(planes: [u32; PLANES], x: u32) -> [u32; PLANES]
     r
 }
 
-// The rows whose counter is at least t.
-pub fn at_least(planes: [u32; PLANES], t: u32) -> u32
-    requires { ⌜ t ≤ mostCounted ⌝ }
+// The rows whose counter is at least t, where no counter passes `most`: the planes behind the digits of `most` are empty, and are
+// not read, so that few bitmaps are counted in few planes.
+pub fn at_least(planes: [u32; PLANES], most: u32, t: u32) -> u32
+    requires { ⌜ (most ≤ mostCounted) × ((j : ℕ) → j < 32 → countAt planes j ≤ most) ⌝ }
     ensures { λ r. ⌜ ((j : ℕ) → j < 32 → isSet r j ≡ leb t (countAt planes j)) ⌝ }
 {
+    if most < t {
+        return 0;
+    }
     let mut r: u32 = 0xFFFF_FFFF;
     for k in 0..PLANES {
+        if most >> k == 0 {
+            return r;
+        }
         if (t >> k) & 1 == 1 {
             r = r & planes[k];
         } else {
@@ -47,13 +54,19 @@ pub fn at_least(planes: [u32; PLANES], t: u32) -> u32
     r
 }
 
-// The rows whose counter is t.
-pub fn equals(planes: [u32; PLANES], t: u32) -> u32
-    requires { ⌜ t ≤ mostCounted ⌝ }
+// The rows whose counter is t, where no counter passes `most`.
+pub fn equals(planes: [u32; PLANES], most: u32, t: u32) -> u32
+    requires { ⌜ (most ≤ mostCounted) × ((j : ℕ) → j < 32 → countAt planes j ≤ most) ⌝ }
     ensures { λ r. ⌜ ((j : ℕ) → j < 32 → isSet r j ≡ eqb (countAt planes j) t) ⌝ }
 {
+    if most < t {
+        return 0;
+    }
     let mut r: u32 = 0xFFFF_FFFF;
     for k in 0..PLANES {
+        if most >> k == 0 {
+            return r;
+        }
         if (t >> k) & 1 == 1 {
             r = r & planes[k];
         } else {
@@ -63,9 +76,10 @@ pub fn equals(planes: [u32; PLANES], t: u32) -> u32
     r
 }
 
-// The rows at whose count the table says 1, where base more bitmaps have every row.
-pub fn by_table(planes: [u32; PLANES], base: u32, table: &[u32]) -> u32
-    requires { ⌜ (base ≤ mostNamed) × (length (now table) ≤ histogramCounts) ⌝ }
+// The rows at whose count the table says 1, where base more bitmaps have every row and no counter passes `most`.
+pub fn by_table(planes: [u32; PLANES], base: u32, most: u32, table: &[u32]) -> u32
+    requires { ⌜ (base + most ≤ mostNamed) × (length (now table) ≤ histogramCounts)
+        × ((j : ℕ) → j < 32 → countAt planes j ≤ most) ⌝ }
     ensures { λ r. ⌜ ((j : ℕ) → j < 32 → isSet r j ≡ eqb (getD (now (table .entry)) (base + countAt planes j) 0) 1) ⌝ }
 {
     let mut r: u32 = 0;
@@ -73,37 +87,35 @@ pub fn by_table(planes: [u32; PLANES], base: u32, table: &[u32]) -> u32
     let mut k = from;
     while k < table.len() {
         if table[k] == 1 {
-            r = r | equals(planes, (k - from) as u32);
+            r = r | equals(planes, most, (k - from) as u32);
         }
         k += 1;
     }
     r
 }
 
-// How many rows have each count, with each row of the mask counted so many times more, where base more bitmaps have
-// every row and no counter passes `most`: only the counts from base to base + most can grow.
+// Each row of the mask is counted in at its count, where base more bitmaps have every row and no counter passes `most`: only the
+// entries from base to base + most can grow.
 pub fn add_to_histogram(
-    counts: [u32; HISTOGRAM_COUNTS],
+    counts: &mut [u32; HISTOGRAM_COUNTS],
     planes: [u32; PLANES],
     base: u32,
     most: u32,
     mask: u32,
-    times: u32,
-) -> [u32; HISTOGRAM_COUNTS]
-    requires { ⌜ (base + most ≤ mostNamed) × (times ≤ mostSegments)
-        × ((c : ℕ) → c < histogramCounts → getD counts c 0 ≤ mostRows)
+)
+    requires { ⌜ (base + most ≤ mostNamed) × (length (now counts) ≡ histogramCounts)
+        × ((c : ℕ) → c < histogramCounts → getD (now counts) c 0 ≤ mostRows)
         × ((j : ℕ) → j < 32 → countAt planes j ≤ most) ⌝ }
-    ensures { λ r. ⌜ (length r ≡ histogramCounts) × ((c : ℕ) → c < histogramCounts → getD r c 0
-        ≡ getD counts c 0 + times * countBelow 32 (λ j. isSet mask j && eqb (base + countAt planes j) c)) ⌝ }
+    ensures { λ _. ⌜ (length (now (counts .exit)) ≡ histogramCounts)
+        × ((c : ℕ) → c < histogramCounts → getD (now (counts .exit)) c 0
+        ≡ getD (now (counts .entry)) c 0 + countBelow 32 (λ j. isSet mask j && eqb (base + countAt planes j) c)) ⌝ }
 {
-    let mut r = counts;
     let from = base as usize;
     let end = from + most as usize + 1;
     let mut c = from;
     while c < end {
-        let rows = mask & equals(planes, (c - from) as u32);
-        r[c] = r[c] + times * bits::count(rows);
+        let rows = mask & equals(planes, most, (c - from) as u32);
+        counts[c] = counts[c] + bits::count(rows);
         c += 1;
     }
-    r
 }

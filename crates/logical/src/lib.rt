@@ -11,7 +11,7 @@ ghost use Rattle.meaning.specs.Index.{formatOf, rowCount};
 ghost use Rattle.meaning.specs.Question.{held, intersection, union, symmetricDifference, difference};
 ghost use Rattle.meaning.specs.Laws.{IndexFacts};
 ghost use Rattle.meaning.specs.Answer as meaning;
-ghost use Rattle.merge.specs.Operations.{chosen, LowNumber};
+ghost use Rattle.merge.specs.Operations.{chosen};
 ghost use Rattle.answers.specs.Told.{Wrote, Reported};
 use answers::answer;
 use answers::answer::Answered;
@@ -34,7 +34,7 @@ fn words_alone(a: Answered) -> Written
 // bitmap that is not there, whichever test `bad` says so.
 fn ask_list(index: &[u32], list: &[u32], op: Operation, out: &mut [u32]) -> Written
     requires { ⌜ IndexFacts (now index) ⌝ }
-    requires { ⌜ (1 ≤ length (now list)) × (length (now list) ≤ mostNamed) × LowNumber op ⌝ }
+    requires { ⌜ (1 ≤ length (now list)) × (length (now list) ≤ mostNamed) ⌝ }
     ensures { λ r. ⌜ ((p : ℕ → Bool) (bad : Bool)
         → meaning.anyBad (now (index .entry)) (now (list .entry)) ≡ bad
         → ((i : ℕ) → chosen op [] (held (meaning.named (now (index .entry)) (now (list .entry))) i) ≡ p i)

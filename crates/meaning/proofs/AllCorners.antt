@@ -1,10 +1,10 @@
--- Corner cases of the definitions, read by hand off paper 01 and requests 3 to 5: zero rows, the last segment, empty bodies and indexes, the limits, faults that come together.
+-- Corner cases of the definitions, read by hand off paper 01 and requests 3 to 6: zero rows, the last segment, empty bodies and indexes, the limits, faults that come together.
 -- Files are proved in the order of their names, so a wrong definition is refused here or in `AllReadings` before a law's proof is.
 -- Assumes nothing.
 use Prim.Native.Nat.{ℕ}
 use mathlib.Core.Bool.{Bool, true, false, _&&_}
 use mathlib.Core.Path.{_≡_, refl}
-use mathlib.Core.List.{List, [], _∷_}
+use mathlib.Core.List.{List, [], _∷_, _++_}
 use lib.Dec.{eqb}
 use lib.ListN.{replicate}
 use Rattle.meaning.specs.Rows.{bit}
@@ -12,7 +12,7 @@ use Rattle.meaning.specs.Refusal.{Outcome, refused, answer}
 use Rattle.meaning.specs.Ewah.{pieces, ewahFault}
 use Rattle.meaning.specs.Wah.{wahFault}
 use Rattle.meaning.specs.Rewriting.{rewrite, rewriteBitmap, rewriteIndex}
-use Rattle.meaning.specs.Answer.{checkBody, bodyRow, bodyCount, bodyNth, expand, compress, check, bitmapRefusal, bitmap, partOf, row, notOf, threshold, symmetric}
+use Rattle.meaning.specs.Answer.{checkBody, bodyRow, bodyCount, bodyNth, expand, compress, check, bitmapRefusal, bitmap, partOf, row, notOf, threshold, symmetric, histogram, histogramReported}
 use Rattle.meaning.specs.declared.Format.the-variants.{Ewah, Wah}
 use Rattle.meaning.specs.declared.Row.{Row}
 use Rattle.meaning.specs.Readings.{isSound, isRefused, isAnswer, isNumber, same, looped, three, ninetySix, wasteful}
@@ -68,9 +68,9 @@ bodies =
     ∷ isRefused (checkBody Ewah 40 (7 ∷ [])) 6 0 0
     ∷ isRefused (checkBody Ewah 40 (0x00020005 ∷ 0xFFFFFFFF ∷ [])) 6 0 0
     -- the most rows, and one more, tested before the body
-    ∷ isSound (checkBody Ewah 16777216 (0x0001FFFE ∷ 0x0001FFFE ∷ 0x0001FFFE ∷ 0x0001FFFE ∷ 0x0001FFFE ∷ 0x0001FFFE ∷ 0x0001FFFE ∷ 0x0001FFFE ∷ 0x00000010 ∷ []))
-    ∷ isRefused (checkBody Ewah 16777217 []) 3 0 1
-    ∷ isRefused (compress Ewah 16777217 [] 0) 3 0 1
+    ∷ isSound (checkBody Ewah 1073741824 (replicate 512 0x0001FFFE ++ 0x00000400 ∷ []))
+    ∷ isRefused (checkBody Ewah 1073741825 []) 3 0 1
+    ∷ isRefused (compress Ewah 1073741825 [] 0) 3 0 1
     -- set rows past the last
     ∷ isRefused (bodyNth Ewah 64 (5 ∷ []) 64) 8 0 0
     ∷ isRefused (bodyNth Ewah 0 [] 0) 8 0 0
@@ -108,12 +108,12 @@ indexes =
     ∷ isSound (check (1 ∷ 4 ∷ 0 ∷ []))
     ∷ isRefused (check (1 ∷ 4 ∷ 0 ∷ 9 ∷ [])) 4 0 3
     -- kind, rows and N, each before the next
-    ∷ isRefused (check (3 ∷ 16777217 ∷ 65 ∷ [])) 2 0 0
+    ∷ isRefused (check (3 ∷ 1073741825 ∷ 257 ∷ [])) 2 0 0
     ∷ isRefused (check (0 ∷ 4 ∷ 0 ∷ [])) 2 0 0
-    ∷ isRefused (check (2 ∷ 16777217 ∷ 65 ∷ [])) 3 0 1
-    ∷ isRefused (check (1 ∷ 16777217 ∷ 65 ∷ [])) 3 0 1
-    ∷ isRefused (check (1 ∷ 16777216 ∷ 65 ∷ [])) 3 0 2
-    ∷ isRefused (check (1 ∷ 16777216 ∷ 64 ∷ [])) 1 0 3
+    ∷ isRefused (check (2 ∷ 1073741825 ∷ 257 ∷ [])) 3 0 1
+    ∷ isRefused (check (1 ∷ 1073741825 ∷ 257 ∷ [])) 3 0 1
+    ∷ isRefused (check (1 ∷ 1073741824 ∷ 257 ∷ [])) 3 0 2
+    ∷ isRefused (check (1 ∷ 1073741824 ∷ 256 ∷ [])) 1 0 3
     -- a start, before its length; a length that reaches past the end, also past 2^32; a final end before the index's
     ∷ isSound (check (1 ∷ 4 ∷ 1 ∷ 5 ∷ 2 ∷ 0x00020000 ∷ 3 ∷ []))
     ∷ isRefused (check (1 ∷ 4 ∷ 1 ∷ 6 ∷ 9 ∷ 0x00020000 ∷ 3 ∷ [])) 4 0 3
@@ -134,8 +134,11 @@ indexes =
     ∷ isRefused (threshold looped [] 1 9) 8 0 0
     ∷ isRefused (threshold looped (3 ∷ []) 1 9) 8 0 0
     ∷ isRefused (threshold looped three 0 9) 8 0 0
-    ∷ isAnswer (threshold looped (replicate 64 0) 64 2) (0x00020000 ∷ 0x3 ∷ [])
-    ∷ isRefused (threshold looped (replicate 65 0) 64 2) 8 0 0
+    ∷ isAnswer (threshold looped (replicate 256 0) 256 2) (0x00020000 ∷ 0x3 ∷ [])
+    ∷ isRefused (threshold looped (replicate 257 0) 256 2) 8 0 0
+    ∷ isAnswer (symmetric looped (replicate 256 0) (replicate 256 0 ++ 1 ∷ []) 2) (0x00020000 ∷ 0x3 ∷ [])
+    ∷ isRefused (symmetric looped (replicate 256 0) (replicate 258 1) 2) 8 0 0
+    ∷ same (histogramReported (histogram looped (replicate 256 0))) (2 ∷ replicate 255 0 ++ 2 ∷ [])
     ∷ isAnswer (threshold looped (1 ∷ 1 ∷ []) 2 9) (0x00020000 ∷ 0xE ∷ [])
     ∷ isAnswer (symmetric looped three (1 ∷ 0 ∷ 0 ∷ 1 ∷ []) 1) (2 ∷ [])
     ∷ isRefused (symmetric looped three (0 ∷ 1 ∷ 0 ∷ []) 9) 8 0 0
@@ -173,15 +176,15 @@ wahs =
     ∷ isRefused (checkBody Wah 31 (0x80000002 ∷ [])) 6 0 0
     ∷ isRefused (checkBody Wah 32 (0 ∷ [])) 6 0 1
     ∷ isRefused (checkBody Wah 31 []) 6 0 0
-    ∷ isRefused (checkBody Wah 16777217 (0x80000000 ∷ [])) 3 0 1
+    ∷ isRefused (checkBody Wah 1073741825 (0x80000000 ∷ [])) 3 0 1
     -- the last segment: a fill of ones over pad bits, a literal of all rows, one with a pad bit, an empty fill before it
     ∷ isSound (checkBody Wah 32 (0xC0000002 ∷ []))
     ∷ isSound (checkBody Wah 32 (0x7FFFFFFF ∷ 1 ∷ []))
     ∷ isRefused (checkBody Wah 32 (0x7FFFFFFF ∷ 2 ∷ [])) 7 0 1
     ∷ isRefused (checkBody Wah 32 (0x80000000 ∷ 2 ∷ 2 ∷ [])) 10 0 0
     -- the longest: a fill of all segments of the most rows
-    ∷ isSound (checkBody Wah 16777216 (0x80084211 ∷ []))
-    ∷ isRefused (checkBody Wah 16777216 (0x80084212 ∷ [])) 6 0 0
+    ∷ isSound (checkBody Wah 1073741824 (0x82108422 ∷ []))
+    ∷ isRefused (checkBody Wah 1073741824 (0x82108423 ∷ [])) 6 0 0
     -- questions: the count without pad bits, the nth
     ∷ isNumber (bodyCount Wah 40 (0xC0000002 ∷ [])) 40
     ∷ isNumber (bodyNth Wah 64 (0x7FFFFFFF ∷ 0 ∷ 3 ∷ []) 32) 63
@@ -234,7 +237,7 @@ rows =
     -- rows past the last; 3 and the body's faults come before 8
     isRefused (bodyRow Ewah 64 (5 ∷ []) 64) 8 0 0
     ∷ isRefused (bodyRow Ewah 64 (3 ∷ []) 64) 6 0 1
-    ∷ isRefused (bodyRow Ewah 16777217 [] 0) 3 0 1
+    ∷ isRefused (bodyRow Ewah 1073741825 [] 0) 3 0 1
     ∷ isRefused (bodyRow Ewah 0 [] 0) 8 0 0
     ∷ isRefused (bodyRow Ewah 0 (0 ∷ 1 ∷ []) 0) 8 0 0
     -- rows 5 and 64 of 96: a dirty word, a run, a dirty word; the same rows as three dirty words
@@ -293,5 +296,5 @@ unfolding every wahs isNumber isSound isRefused isAnswer checkBody bodyCount bod
 wahs-hold = refl
 
 pub indexes-hold : every indexes ≡ true
-unfolding every indexes isSound isRefused isAnswer same check bitmapRefusal bitmap partOf notOf threshold symmetric ewahFault
+unfolding every indexes isSound isRefused isAnswer same check bitmapRefusal bitmap partOf notOf threshold symmetric histogram histogramReported ewahFault
 indexes-hold = refl

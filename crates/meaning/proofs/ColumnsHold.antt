@@ -11,7 +11,7 @@ use native.Mathlib.Nat.{div-one}
 use native.Mathlib.Decide.{decLe}
 use native.Mathlib.Omega.{arith}
 use borrow.Author.Tests.{ltb-false, le-ltb, le-leb, leb-false, not-false}
-use Rattle.meaning.specs.Limits.{mostRows, leastColumn, mostColumn, mostValueColumn}
+use Rattle.meaning.specs.Limits.{mostRows, mostIndexWords, leastColumn, mostColumn, mostValueColumn}
 use Rattle.meaning.specs.Segment.{tabulate, isSet}
 use Rattle.meaning.specs.Refusal.{Outcome, refused, answer, sound, refuseIf, _then_}
 use Rattle.meaning.specs.Format.{Canonical}
@@ -19,17 +19,17 @@ use Rattle.meaning.specs.declared.Format.{Format}
 use Rattle.meaning.specs.Index.{formatOf, rowCount, bitmapCount, rowsAt, SoundIndex, indexFault}
 use Rattle.meaning.specs.Question.{intersection}
 use Rattle.meaning.specs.Answer.{check, anyBad, named}
-use Rattle.meaning.specs.NewIndex.{indexOf, writeIndex}
+use Rattle.meaning.specs.NewIndex.{indexOf, indexRoom, writeIndex}
 use Rattle.meaning.specs.Column.{valueOf, slice, slicesFrom, columnOf, sumValue}
 use Rattle.meaning.specs.Columns.{sliceCount, wider, existing, slicesOf, valueAt, badColumn, badRow, strays, askValue, value, pairColumn, askPair, askSum, sum}
 use Rattle.meaning.specs.ColumnLaws.{none, NewIndex, mostSumSlices, DigitLaws, StrayAt, GoodValue, GoodPair, ValueOrder, sumIndex, SumOrder, OrderLaws, whole, ColumnOf, SumLaws}
 use Rattle.meaning.proofs.Tests.{or-false, or-true}
-use Rattle.meaning.proofs.Outcomes.{refuse-no, refuse-yes, refuse-answer, then-sound, then-refused, then-answer, fits-yes, fits-no, fits-answer}
+use Rattle.meaning.proofs.Outcomes.{refuse-no, refuse-yes, refuse-answer, then-sound, then-refused, then-answer, fits-yes, fits-no}
 use Rattle.meaning.proofs.RowWords.{length-tabulate, getD-tabulate}
 use Rattle.meaning.proofs.IndexSound.{index-means}
 use Rattle.meaning.proofs.Formats.{canonical-form}
 use Rattle.meaning.proofs.Demanded.{all-good}
-use Rattle.meaning.proofs.NewIndexes.{new-index-holds}
+use Rattle.meaning.proofs.NewIndexes.{is-new, written-index}
 use Rattle.meaning.proofs.StraysFound.{stray-laws}
 use Rattle.meaning.proofs.ColumnValues.{value-lt, value-ext, slices-length, slices-at, slices-value, column-value}
 
@@ -173,8 +173,8 @@ module _ (index first second : List ℕ) (room : ℕ) where
         asks-both g
         ∙ then-sound (strays index first) _ n
         ∙ then-refused (strays index second) _ _ _ _ (stray-laws .first-given index second i r f);
-    no-room = λ g n m l. asks-room g n m ∙ (unfold writeIndex in fits-no room (sumIndex index first second) l);
-    answered = λ g n m l. asks-room g n m ∙ (unfold writeIndex in fits-yes room (sumIndex index first second) l);
+    no-room = λ g n m l. asks-room g n m ∙ (unfold writeIndex in fits-no (indexRoom room) (sumIndex index first second) l);
+    answered = λ g n m l. asks-room g n m ∙ (unfold writeIndex in fits-yes (indexRoom room) (sumIndex index first second) l);
   }
 
 pub order-laws : OrderLaws
@@ -186,7 +186,8 @@ and-not : (a b : Bool) → a && b ≡ true → a ≡ false → ⊥
 and-not true b e f = true≢false f
 and-not false b e f = true≢false (sym e)
 
-module _ (F : Format) (R : ℕ) (exists : ℕ → Bool) (v : ℕ → ℕ) (n : ℕ) (few : R ≤ mostRows) (some : 1 ≤ n) (most : n ≤ mostSumSlices) where
+module _ (F : Format) (R : ℕ) (exists : ℕ → Bool) (v : ℕ → ℕ) (n : ℕ) (few : R ≤ mostRows) (some : 1 ≤ n) (most : n ≤ mostSumSlices)
+    (short : length (indexOf F R (columnOf exists v n)) ≤ mostIndexWords) where
   abbrev ps : List (ℕ → Bool)
   ps = columnOf exists v n
 
@@ -202,7 +203,7 @@ module _ (F : Format) (R : ℕ) (exists : ℕ → Bool) (v : ℕ → ℕ) (n : �
   ps-length = ap suc (slices-length exists v 0 n)
 
   new : NewIndex F R ps out
-  new = new-index-holds F R ps few (omega (arith, ps-length))
+  new = is-new F R ps few (omega (arith, ps-length)) short
 
   out-exists : (r : ℕ) → r < R → rowsAt out 0 r ≡ exists r
   unfolding columnOf
@@ -294,21 +295,24 @@ module _ (F : Format) (R : ℕ) (exists : ℕ → Bool) (v : ℕ → ℕ) (n : �
 -- the answer is the new index, the index asked is sound, and both lists name columns
 record Answered (index first second : List ℕ) (out : List ℕ) : Type 0 where
   out-is : out ≡ sumIndex index first second
+  short : length (sumIndex index first second) ≤ mostIndexWords
   few-rows : rowCount index ≤ mostRows
   first-good : (2 ≤ length first) × (length first ≤ mostColumn)
   second-good : (2 ≤ length second) × (length second ≤ mostColumn)
 
 answered : (index first second : List ℕ) (room : ℕ) (out : List ℕ) → sum index first second room ≡ answer out
     → Answered index first second out
-unfolding sum askSum askPair writeIndex check
+unfolding sum askSum askPair check
 answered index first second room out e =
     let a = then-answer (indexFault index) _ out e in
     let b = refuse-answer (badColumn index mostColumn first || badColumn index mostColumn second) 8 0 0 _ out (a .1) in
     let c = then-answer (strays index first) _ out (b .1) in
     let d = then-answer (strays index second) _ out (c .1) in
     let f = or-false (badColumn index mostColumn first) (badColumn index mostColumn second) (b .0) in
+    let w = written-index (formatOf index) (rowCount index) (pairColumn index sumValue (suc (wider first second)) first second) room out (d .1) in
     record {
-      out-is = fits-answer room (sumIndex index first second) out (d .1);
+      out-is = w .0;
+      short = w .1;
       few-rows = index-means index .0 (a .0) .head .few-rows;
       first-good = column-length index mostColumn first (f .0);
       second-good = column-length index mostColumn second (f .1);
@@ -329,22 +333,23 @@ module _ (index first second : List ℕ) where
   sum-is = refl
 
   is-column : (few : rowCount index ≤ mostRows) (most : width ≤ mostSumSlices)
+      → length (indexOf (formatOf index) (rowCount index) (columnOf both total width)) ≤ mostIndexWords
       → ColumnOf index first second width total (indexOf (formatOf index) (rowCount index) (columnOf both total width))
   unfolding intersection
-  is-column few most =
+  is-column few most short =
       let F = formatOf index in
       let R = rowCount index in
-      let new = new F R both total width few (omega arith) most in
+      let new = new F R both total width few (omega arith) most short in
       record {
         is-sound = new .is-sound;
         format = new .format;
         rows = new .rows;
-        count = new .count ∙ ps-length F R both total width few (omega arith) most;
-        forms = λ k h. subst (λ (b : List ℕ). Canonical F R b) (sym (new .bodies k (omega (arith, ps-length F R both total width few (omega arith) most)))) (canonical-form F R _);
-        exists = out-exists F R both total width few (omega arith) most;
-        slices = out-slices F R both total width few (omega arith) most;
-        no-strays = out-strays F R both total width few (omega arith) most;
-        values = out-values F R both total width few (omega arith) most (sum-below index first second);
+        count = new .count ∙ ps-length F R both total width few (omega arith) most short;
+        forms = λ k h. subst (λ (b : List ℕ). Canonical F R b) (sym (new .bodies k (omega (arith, ps-length F R both total width few (omega arith) most short)))) (canonical-form F R _);
+        exists = out-exists F R both total width few (omega arith) most short;
+        slices = out-slices F R both total width few (omega arith) most short;
+        no-strays = out-strays F R both total width few (omega arith) most short;
+        values = out-values F R both total width few (omega arith) most short (sum-below index first second);
       }
 
 pub sum-laws : SumLaws
@@ -353,4 +358,4 @@ sum-laws index first second room out e =
     let a = answered index first second room out e in
     subst (λ (o : List ℕ). ColumnOf index first second (suc (wider first second)) (total index first second) o)
     (sym (a .out-is ∙ sum-is index first second))
-    (is-column index first second (a .few-rows) (omega (arith, a .first-good .1, a .second-good .1)))
+    (is-column index first second (a .few-rows) (omega (arith, a .first-good .1, a .second-good .1)) (omega (arith, a .short, ap length (sum-is index first second))))

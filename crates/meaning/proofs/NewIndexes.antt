@@ -10,15 +10,17 @@ use lib.ListN.{length, getD, take, drop, length-append, length-map, List·getD-a
 use lib.Seq.{drop-append-add, take-append-seam, take-all}
 use native.Mathlib.Omega.{arith}
 use Rattle.meaning.specs.Limits.{mostRows, mostSegments, mostDirty, mostBitmaps, mostIndexWords, wahKind, headWords, entryWords}
+use Rattle.meaning.specs.Refusal.{answer}
 use Rattle.meaning.specs.Segment.{segmentCount}
 use Rattle.meaning.specs.Format.{kindOf, rowsOf, canonical}
 use Rattle.meaning.specs.declared.Format.{Format}
 use Rattle.meaning.specs.declared.Format.the-variants.{Ewah, Wah}
 use Rattle.meaning.specs.Index.{formatOf, rowCount, bitmapCount, entryPlace, startOf, lengthOf, bodyPlace, bodyAt, rowsAt}
 use Rattle.meaning.specs.Question.{totalWords}
-use Rattle.meaning.specs.NewIndex.{entriesOf, joined, contentsEnd, assembled, indexOf}
+use Rattle.meaning.specs.NewIndex.{entriesOf, joined, contentsEnd, assembled, indexOf, indexRoom, writeIndex}
 use Rattle.meaning.specs.Laws.{SoundFacts, IndexFacts}
 use Rattle.meaning.specs.ColumnLaws.{none, NewIndex, NewIndexHolds}
+use Rattle.meaning.proofs.Outcomes.{fits-answer, fits-within}
 use Rattle.meaning.proofs.Enough.{most-words}
 use Rattle.meaning.proofs.Formats.{sound-means, canonical-sound, canonical-rows}
 use Rattle.meaning.proofs.IndexSound.{index-means}
@@ -222,7 +224,7 @@ at-map F R [] k h = absurd (omega arith)
 at-map F R (p ∷ ps) zero h = refl
 at-map F R (p ∷ ps) (suc k) h = at-map F R ps k (omega arith)
 
-module _ (F : Format) (R : ℕ) (ps : List (ℕ → Bool)) (h : R ≤ mostRows) (n : length ps ≤ mostBitmaps) where
+module _ (F : Format) (R : ℕ) (ps : List (ℕ → Bool)) where
   abbrev bs : List (List ℕ)
   bs = map (canonical F R) ps
 
@@ -232,25 +234,74 @@ module _ (F : Format) (R : ℕ) (ps : List (ℕ → Bool)) (h : R ≤ mostRows) 
   is-body : (k : ℕ) → k < length ps → bodyAt (assembled F R bs) k ≡ canonical F R (getD ps k none)
   is-body k g = body-is F R bs k (omega (arith, as-many)) ∙ at-map F R ps k g
 
+  -- ---- where its bodies lie, also where it has more words than an index may have
+
+  pub count-is : bitmapCount (indexOf F R ps) ≡ length ps
+  unfolding indexOf
+  count-is = bitmap-count F R bs ∙ as-many
+
+  pub next-place : (k : ℕ) → k < length ps → bodyPlace (indexOf F R ps) (suc k) ≡ bodyPlace (indexOf F R ps) k + length (canonical F R (getD ps k none))
+  unfolding indexOf
+  next-place k g =
+      omega (
+        arith,
+        place-is F R bs k (omega (arith, as-many)),
+        place-is F R bs (suc k) (omega (arith, as-many)),
+        total-more bs k (omega (arith, as-many)),
+        ap length (at-map F R ps k g),
+      )
+
+  pub last-place : bodyPlace (indexOf F R ps) (length ps) ≡ length (indexOf F R ps)
+  unfolding indexOf
+  last-place =
+      ap (bodyPlace (assembled F R bs)) (sym as-many)
+      ∙ place-is F R bs (length bs) (omega arith)
+      ∙ ap (λ (l : List (List ℕ)). contentsEnd (length bs) + totalWords l) (take-all (length bs) bs (omega arith))
+      ∙ sym (length-is F R bs)
+
+  -- none behind its end
+  pub place-low : (k : ℕ) → k ≤ length ps → bodyPlace (indexOf F R ps) k ≤ length (indexOf F R ps)
+  unfolding indexOf
+  place-low k g = omega (arith, place-is F R bs k (omega (arith, as-many)), total-le bs k, length-is F R bs)
+
+  -- and the words that it has at most
+  pub length-low : R ≤ mostRows → length (indexOf F R ps) ≤ contentsEnd (length ps) + mostBodyWords * length ps
+  unfolding indexOf
+  length-low h = unfold contentsEnd in omega (arith, as-many, length-is F R bs, total-words F R ps h)
+
+  -- ---- that it is sound
+
   sound-body : (k : ℕ) → k < length bs → SoundFacts F R (getD bs k [])
   sound-body k g =
       subst (λ (b : List ℕ). SoundFacts F R b) (sym (at-map F R ps k (omega (arith, as-many))))
       (sound-means F R (canonical F R (getD ps k none)) .0 (canonical-sound F R (getD ps k none)))
 
-  few-words : length (assembled F R bs) ≤ mostIndexWords
-  few-words = unfold contentsEnd in omega (arith, as-many, length-is F R bs, total-words F R ps h)
-
-  is-new : NewIndex F R ps (indexOf F R ps)
+  pub is-new : R ≤ mostRows → length ps ≤ mostBitmaps → length (indexOf F R ps) ≤ mostIndexWords → NewIndex F R ps (indexOf F R ps)
   unfolding indexOf rowsAt
-  is-new = record {
-    is-sound = index-means (assembled F R bs) .1 (assembled-facts F R bs h (omega (arith, as-many)) few-words sound-body);
+  is-new h n l = record {
+    is-sound = index-means (assembled F R bs) .1 (assembled-facts F R bs h (omega (arith, as-many)) l sound-body);
     format = format-is F R bs;
     rows = row-count F R bs;
-    count = bitmap-count F R bs ∙ as-many;
+    count = count-is;
     bodies = is-body;
-    sets = λ k r g l. ap (λ (G : Format). rowsOf G (bodyAt (assembled F R bs) k) r) (format-is F R bs) ∙ ap (λ (b : List ℕ). rowsOf F b r) (is-body k g) ∙ canonical-rows F R (getD ps k none) r l;
+    sets = λ k r g m. ap (λ (G : Format). rowsOf G (bodyAt (assembled F R bs) k) r) (format-is F R bs) ∙ ap (λ (b : List ℕ). rowsOf F b r) (is-body k g) ∙ canonical-rows F R (getD ps k none) r m;
   }
+
+-- what a buffer has room for is no longer than it, nor than an index may be
+pub room-within : (n room : ℕ) → n ≤ indexRoom room → (n ≤ room) × (n ≤ mostIndexWords)
+unfolding indexRoom
+room-within n room h = (omega arith, omega arith)
+
+-- what is written is the index of these sets, and has no more words than an index may have
+pub written-index : (F : Format) (R : ℕ) (ps : List (ℕ → Bool)) (room : ℕ) (out : List ℕ) → writeIndex F R ps room ≡ answer out
+    → (out ≡ indexOf F R ps) × (length (indexOf F R ps) ≤ mostIndexWords)
+unfolding writeIndex
+written-index F R ps room out e =
+    let ws = indexOf F R ps in
+    (fits-answer (indexRoom room) ws out e, room-within (length ws) room (fits-within (indexRoom room) ws out e) .1)
 
 -- whatever the sets are
 pub new-index-holds : NewIndexHolds
-new-index-holds = is-new
+new-index-holds F R ps room out h n e =
+    let w = written-index F R ps room out e in
+    subst (NewIndex F R ps) (sym (w .0)) (is-new F R ps h n (w .1))

@@ -19,7 +19,7 @@ use Rattle.meaning.specs.declared.Format.the-variants.{Ewah, Wah}
 use Rattle.meaning.specs.Index.{isKind, formatOf, bitmapCount, entryPlace, startOf, lengthOf, rowCount, bodyAt, rowsAt, entriesFault, bodiesFault, headFault, indexFault}
 use Rattle.meaning.specs.Question.{intersection, union, symmetricDifference, difference, complement, byTable}
 use Rattle.meaning.specs.Extent.{rowAnswer}
-use Rattle.meaning.specs.NewIndex.{indexOf, writeIndex}
+use Rattle.meaning.specs.NewIndex.{indexOf, indexRoom, writeIndex}
 use Rattle.meaning.specs.Column.{sumValue}
 use Rattle.meaning.specs.Answer as meaning
 use Rattle.meaning.specs.Columns as columns
@@ -263,7 +263,7 @@ module _ (index : List ℕ) where
       refuse (columns.badColumn index mostColumn first || columns.badColumn index mostColumn second) 8 0 0 _ (omega arith)
       (after (columns.strays index first) _ (strays first)
       (after (columns.strays index second) _ (strays second)
-      (fits room (indexOf (formatOf index) (rowCount index) (columns.pairColumn index op n first second)))))
+      (fits (indexRoom room) (indexOf (formatOf index) (rowCount index) (columns.pairColumn index op n first second)))))
 
   pub sum : (first second : List ℕ) (room : ℕ) → Numbered (columns.sum index first second room)
   unfolding columns.sum columns.askSum
@@ -277,7 +277,7 @@ module _ (index : List ℕ) where
 
   pub rewrite-index : (G : Format) (room : ℕ) → Numbered (rewriting.rewriteIndex index G room)
   unfolding rewriting.rewriteIndex writeIndex
-  rewrite-index G room = after (meaning.check index) _ (check index) (fits room (indexOf G (rowCount index) (rewriting.setsFrom index 0 (bitmapCount index))))
+  rewrite-index G room = after (meaning.check index) _ (check index) (fits (indexRoom room) (indexOf G (rowCount index) (rewriting.setsFrom index 0 (bitmapCount index))))
 
 pub rewrite : (F G : Format) (R : ℕ) (b : List ℕ) (room : ℕ) → Numbered (rewriting.rewrite F G R b room)
 unfolding rewriting.rewrite

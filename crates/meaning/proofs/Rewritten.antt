@@ -11,7 +11,7 @@ use Rattle.meaning.specs.Format.{rowsOf, canonical}
 use Rattle.meaning.specs.declared.Format.{Format}
 use Rattle.meaning.specs.Index.{rowCount, bitmapCount, rowsAt, indexFault}
 use Rattle.meaning.specs.Answer.{write, checkBody, bitmapRefusal, check}
-use Rattle.meaning.specs.NewIndex.{indexOf, writeIndex}
+use Rattle.meaning.specs.NewIndex.{writeIndex}
 use Rattle.meaning.specs.ColumnLaws.{NewIndex}
 use Rattle.meaning.specs.Laws.{Answers}
 use Rattle.meaning.specs.Rewriting.{rewrite, rewriteBitmap, setsFrom, rewriteIndex, RewriteLaws}
@@ -48,14 +48,13 @@ sets-length index k (suc more) = ap suc (sets-length index (suc k) more)
 
 of-index : (index : List ℕ) (G : Format) (room : ℕ) (b : List ℕ) → rewriteIndex index G room ≡ answer b
     → NewIndex G (rowCount index) (setsFrom index 0 (bitmapCount index)) b
-unfolding rewriteIndex writeIndex check
+unfolding rewriteIndex check
 of-index index G room b e =
     let sets = setsFrom index 0 (bitmapCount index) in
     let p = then-answer (indexFault index) _ b e in
     let f = index-means index .0 (p .0) .head in
     let few : length sets ≤ mostBitmaps = omega (arith, sets-length index 0 (bitmapCount index), f .few-bitmaps) in
-    subst (NewIndex G (rowCount index) sets) (sym (fits-answer room (indexOf G (rowCount index) sets) b (p .1)))
-    (new-index-holds G (rowCount index) sets (f .few-rows) few)
+    new-index-holds G (rowCount index) sets room b (f .few-rows) few (p .1)
 
 pub rewrite-laws : RewriteLaws
 rewrite-laws = record { keeps = keeps; back = back; of-bitmap = of-bitmap; of-index = of-index }

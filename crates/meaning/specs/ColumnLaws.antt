@@ -15,7 +15,7 @@ use Rattle.meaning.specs.Format.{canonical, Canonical}
 use Rattle.meaning.specs.Index.{formatOf, rowCount, bitmapCount, bodyAt, rowsAt, SoundIndex}
 use Rattle.meaning.specs.declared.Format.{Format}
 use Rattle.meaning.specs.Answer.{check}
-use Rattle.meaning.specs.NewIndex.{indexOf}
+use Rattle.meaning.specs.NewIndex.{indexOf, indexRoom, writeIndex}
 use Rattle.meaning.specs.Column.{valueOf, slice, slicesFrom, sumValue}
 use Rattle.meaning.specs.Columns.{sliceCount, wider, existing, valueAt, badColumn, badRow, strays, value, pairColumn, sum}
 
@@ -35,10 +35,11 @@ pub record NewIndex (F : Format) (R : ℕ) (ps : List (ℕ → Bool)) (index : L
   pub bodies : (k : ℕ) → k < length ps → bodyAt index k ≡ canonical F R (getD ps k none)
   pub sets : (k r : ℕ) → k < length ps → r < R → rowsAt index k r ≡ getD ps k none r
 
--- which holds of what is written, for as many rows and as many bitmaps as an index may have
+-- which holds of whatever is written, for as many rows and as many bitmaps as an index may have
 abbrev pub NewIndexHolds : Type 0
 NewIndexHolds =
-    (F : Format) (R : ℕ) (ps : List (ℕ → Bool)) → R ≤ mostRows → length ps ≤ mostBitmaps → NewIndex F R ps (indexOf F R ps)
+    (F : Format) (R : ℕ) (ps : List (ℕ → Bool)) (room : ℕ) (index : List ℕ) → R ≤ mostRows → length ps ≤ mostBitmaps
+    → writeIndex F R ps room ≡ answer index → NewIndex F R ps index
 
 -- ---- digits
 
@@ -122,7 +123,7 @@ abbrev pub sumIndex : (index first second : List ℕ) → List ℕ
 sumIndex index first second = indexOf (formatOf index) (rowCount index) (pairColumn index sumValue (suc (wider first second)) first second)
 
 -- of a sum: the index's own faults; on a sound index a bad list, whatever strays; a stray, in the first column before the
--- second, and whatever the room; 9 with the words needed, if there is less room; and else the answer
+-- second, and whatever the room; 9 with the words needed, if there is less room or an index may not have so many; and else the answer
 pub record SumOrder (index first second : List ℕ) (room : ℕ) : Type 0 where
   pub faulty : (number bitmap word : ℕ) → check index ≡ refused number bitmap word
       → sum index first second room ≡ refused number bitmap word
@@ -133,10 +134,10 @@ pub record SumOrder (index first second : List ℕ) (room : ℕ) : Type 0 where
   pub stray-second : GoodPair index first second → strays index first ≡ sound
       → (i r : ℕ) → FirstStray index second i r → sum index first second room ≡ refused 11 (getD second (suc i) 0) r
   pub no-room : GoodPair index first second → strays index first ≡ sound → strays index second ≡ sound
-      → room < length (sumIndex index first second)
+      → indexRoom room < length (sumIndex index first second)
       → sum index first second room ≡ refused 9 0 (length (sumIndex index first second))
   pub answered : GoodPair index first second → strays index first ≡ sound → strays index second ≡ sound
-      → length (sumIndex index first second) ≤ room
+      → length (sumIndex index first second) ≤ indexRoom room
       → sum index first second room ≡ answer (sumIndex index first second)
 
 -- for every index, list, row and room

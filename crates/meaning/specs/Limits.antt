@@ -17,7 +17,7 @@ mostNumber = 11
 
 -- The index: the greatest number of rows
 abbrev pub mostRows : ℕ
-mostRows = 16777216
+mostRows = 1073741824
 
 -- the most segments that a body has, in either format: those of the most rows, 31 in each
 abbrev pub mostSegments : ℕ
@@ -25,11 +25,11 @@ mostSegments = (mostRows + 30) / 31
 
 -- The index: the greatest number N of bitmaps
 abbrev pub mostBitmaps : ℕ
-mostBitmaps = 64
+mostBitmaps = 256
 
 -- Questions over a list: the greatest number of places in a list
 abbrev pub mostNamed : ℕ
-mostNamed = 64
+mostNamed = 256
 
 -- the entries of a histogram, and of the longest table: one for each number of holders, 0 included
 abbrev pub histogramCounts : ℕ
@@ -37,7 +37,7 @@ histogramCounts = mostNamed + 1
 
 -- the bits of a counter of holders, and the greatest number that they hold
 abbrev pub counterPlanes : ℕ
-counterPlanes = 7
+counterPlanes = 9
 
 abbrev pub mostCounted : ℕ
 mostCounted = 2 ^ counterPlanes - 1

@@ -1,11 +1,11 @@
 -- A new index, made of sets of rows: what a call writes whose answer is an index. Section "The index" of paper 01, and request 1.
 -- Its bodies are in canonical form, those of empty sets included.
 -- Assumes nothing.
-use Prim.Native.Nat.{ℕ, _+_, _*_}
+use Prim.Native.Nat.{ℕ, _+_, _*_, min}
 use mathlib.Core.Bool.{Bool}
 use mathlib.Core.List.{List, [], _∷_, _++_, map}
 use lib.ListN.{length}
-use Rattle.meaning.specs.Limits.{headWords, entryWords}
+use Rattle.meaning.specs.Limits.{headWords, entryWords, mostIndexWords}
 use Rattle.meaning.specs.Refusal.{Outcome}
 use Rattle.meaning.specs.Format.{kindOf, canonical}
 use Rattle.meaning.specs.declared.Format.{Format}
@@ -35,7 +35,11 @@ unfoldable pub indexOf : Format → (R : ℕ) → List (ℕ → Bool) → List �
 unfolding assembled canonical
 indexOf F R ps = assembled F R (map (canonical F R) ps)
 
--- it, or 9 with its words if the buffer is shorter
+-- the words of a buffer that an index can take: no more than an index may have (request 6)
+unfoldable pub indexRoom : (room : ℕ) → ℕ
+indexRoom room = min room mostIndexWords
+
+-- it, or 9 with its words if the buffer is shorter, or if it is longer than an index may be, whatever the buffer's length
 unfoldable pub writeIndex : Format → (R : ℕ) → List (ℕ → Bool) → (room : ℕ) → Outcome (List ℕ)
-unfolding fits indexOf
-writeIndex F R ps room = fits room (indexOf F R ps)
+unfolding fits indexOf indexRoom
+writeIndex F R ps room = fits (indexRoom room) (indexOf F R ps)

@@ -130,7 +130,7 @@ readings =
     -- LOOPED: T = 2, the histogram, T = 4, a buffer of one word
     ∷ whole looped
     ∷ asks looped three 2 (7 ∷ 7 ∷ 7 ∷ []) (0x00020000 ∷ 0xA ∷ 7 ∷ []) 2 1
-    ∷ counts looped three (0 ∷ 2 ∷ 2 ∷ 0 ∷ replicate 61 0)
+    ∷ counts looped three (0 ∷ 2 ∷ 2 ∷ 0 ∷ replicate 253 0)
     ∷ refuses looped three 4 (7 ∷ 7 ∷ 7 ∷ []) 8 0 0
     ∷ refuses looped three 2 (7 ∷ []) 9 0 2
     -- 8 rows: AND, OR, XOR, ANDNOT, and NOT of the first
@@ -165,7 +165,7 @@ readings =
     -- the LOOPED example in WAH; stretches over fills and literals: each word is a piece, equal fills side by side too
     ∷ whole loopedWah
     ∷ asks loopedWah three 2 (7 ∷ 7 ∷ []) (0xA ∷ 7 ∷ []) 1 1
-    ∷ counts loopedWah three (0 ∷ 2 ∷ 2 ∷ 0 ∷ replicate 61 0)
+    ∷ counts loopedWah three (0 ∷ 2 ∷ 2 ∷ 0 ∷ replicate 253 0)
     ∷ refuses loopedWah three 2 [] 9 0 1
     ∷ meets Wah 93 ((0x80000003 ∷ []) ∷ (0x80000002 ∷ 0x20 ∷ []) ∷ []) 2
     ∷ meets Wah 124 ((0x80000002 ∷ 0x80000002 ∷ []) ∷ []) 2

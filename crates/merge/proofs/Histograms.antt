@@ -139,7 +139,7 @@ module _ (F : Format) (counts : List ℕ) (s : Survey) (mask : ℕ) where
             (ne-eqb (s .ones) c (λ q. e (sym q))))
 
     on-mixed : (s .dirty ≡ 0 → ⊥) → (r : List ℕ)
-        → ((c : ℕ) → c < histogramCounts → getD r c 0 ≡ getD counts c 0 + 1 * rowsAt c)
+        → ((c : ℕ) → c < histogramCounts → getD r c 0 ≡ getD counts c 0 + rowsAt c)
         → HistogramBefore F R bodies (o + s .least) r
     on-mixed d r g c l =
         let here : i ≡ o = omega (arith, st .single d) in
@@ -166,7 +166,7 @@ module _ (F : Format) (counts : List ℕ) (s : Survey) (mask : ℕ) where
   }
 
   pub mixed-counted : (s .dirty ≡ 0 → ⊥) → (r : List ℕ) → length r ≡ histogramCounts
-      → ((c : ℕ) → c < histogramCounts → getD r c 0 ≡ getD counts c 0 + 1 * rowsAt c)
+      → ((c : ℕ) → c < histogramCounts → getD r c 0 ≡ getD counts c 0 + rowsAt c)
       → StretchCounted F counts s mask r
   mixed-counted d r n g = record { long = n; on = λ R o bodies st m t. on-mixed R o bodies st m t d r g }
 

@@ -15,7 +15,7 @@ use Rattle.meaning.specs.Ahead.{answerRows}
 use Rattle.walk.specs.Queries.{Listed}
 use Rattle.merge.specs.declared.evaluate.Operation.{Operation}
 use Rattle.merge.specs.declared.engine.Merged.{Merged}
-use Rattle.merge.specs.Operations.{chosen, LowNumber}
+use Rattle.merge.specs.Operations.{chosen}
 
 -- a sound index, and a list that names some of its bitmaps
 pub record Walkable (index list : List ℕ) : Type 0 where
@@ -23,11 +23,10 @@ pub record Walkable (index list : List ℕ) : Type 0 where
   pub listed : Listed index list
   pub some : 1 ≤ length list
 
--- with them an operation whose number a list can reach, and a table with no more entries than there are such numbers
+-- with them a table with no more entries than there are numbers that a list can reach
 pub record Mergeable (index list : List ℕ) (op : Operation) (table : List ℕ) : Type 0 where
   pub walkable : Walkable index list
   pub few-entries : length table ≤ histogramCounts
-  pub low-number : LowNumber op
 
 -- the bodies that a list names
 abbrev pub bodiesOf : (index list : List ℕ) → List (List ℕ)

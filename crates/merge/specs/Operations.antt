@@ -1,11 +1,10 @@
 -- Which rows an operation puts into its answer.
 -- Assumes nothing.
-use Prim.Native.Nat.{ℕ, _≤_}
+use Prim.Native.Nat.{ℕ}
 use mathlib.Core.Bool.{Bool}
 use mathlib.Core.List.{List}
 use lib.Dec.{eqb, leb}
 use lib.ListN.{getD}
-use Rattle.meaning.specs.Limits.{mostNamed}
 use Rattle.merge.specs.declared.evaluate.Operation.{Operation}
 use Rattle.merge.specs.declared.evaluate.Operation.the-variants.{AtLeast, Exactly, Table}
 
@@ -14,9 +13,3 @@ unfoldable pub chosen : Operation → (table : List ℕ) → (c : ℕ) → Bool
 chosen (AtLeast t) table c = leb t c
 chosen (Exactly t) table c = eqb c t
 chosen Table table c = eqb (getD table c 0) 1
-
--- its number is one that a list can reach
-abbrev pub LowNumber : Operation → Type 0
-LowNumber (AtLeast t) = t ≤ mostNamed
-LowNumber (Exactly t) = t ≤ mostNamed
-LowNumber Table = Unit {0}

@@ -8,7 +8,7 @@ ghost use Rattle.meaning.specs.Segment.{isSet, allSet};
 ghost use Rattle.meaning.specs.Format.{width};
 ghost use Rattle.meaning.specs.declared.Format.{Format};
 ghost use Rattle.counters.specs.Counters.{countAt};
-ghost use Rattle.merge.specs.Operations.{chosen, LowNumber};
+ghost use Rattle.merge.specs.Operations.{chosen};
 ghost use Rattle.merge.specs.Parts.{Evaluated};
 use meaning::PLANES;
 use walk::survey::Survey;
@@ -45,9 +45,10 @@ fn entry_is_one(table: &[u32], c: u32) -> bool
 }
 
 // The rows of a segment that are in the answer, where base of the list have every row of it, and the counters' number
-// more.
-fn word(op: Operation, table: &[u32], base: u32, planes: [u32; PLANES]) -> u32
-    requires { ⌜ (base ≤ mostNamed) × (length (now table) ≤ histogramCounts) × LowNumber op ⌝ }
+// more, which never passes `most`.
+fn word(op: Operation, table: &[u32], base: u32, most: u32, planes: [u32; PLANES]) -> u32
+    requires { ⌜ (base + most ≤ mostNamed) × (length (now table) ≤ histogramCounts)
+        × ((j : ℕ) → j < 32 → countAt planes j ≤ most) ⌝ }
     ensures { λ r. ⌜ ((j : ℕ) → j < 32 → isSet r j ≡ chosen op (now (table .entry)) (base + countAt planes j)) ⌝ }
 {
     match op {
@@ -55,15 +56,15 @@ fn word(op: Operation, table: &[u32], base: u32, planes: [u32; PLANES]) -> u32
             if t <= base {
                 return 0xFFFF_FFFF;
             }
-            counters::at_least(planes, t - base)
+            counters::at_least(planes, most, t - base)
         }
         Operation::Exactly(t) => {
             if t < base {
                 return 0;
             }
-            counters::equals(planes, t - base)
+            counters::equals(planes, most, t - base)
         }
-        Operation::Table => counters::by_table(planes, base, table),
+        Operation::Table => counters::by_table(planes, base, most, table),
     }
 }
 
@@ -76,14 +77,16 @@ pub enum Part {
 // The part of the answer in a stretch of n segments, of whose last one the mask has the rows; `full` is the word of a
 // segment of ones. With no dirty word it is a run, also over a last segment with pad bits.
 pub fn evaluate(op: Operation, table: &[u32], s: Survey, mask: u32, full: u32) -> Part
-    requires { ⌜ (length (now table) ≤ histogramCounts) × LowNumber op × (s .ones ≤ mostNamed) ⌝ }
+    requires { ⌜ (length (now table) ≤ histogramCounts) × (s .ones + s .dirty ≤ mostNamed)
+        × ((j : ℕ) → j < 32 → countAt (s .planes) j ≤ s .dirty) ⌝ }
     ensures { λ r. ⌜ ((F : Format) → full ≡ allSet (width F) → Evaluated F op (now (table .entry)) s mask r) ⌝ }
 {
     let n = s.least;
     let base = s.ones;
-    if s.dirty != 0 {
+    let dirty = s.dirty;
+    if dirty != 0 {
         let planes = s.planes;
-        return Part::Word(rows::spelled(word(op, table, base, planes), mask, full));
+        return Part::Word(rows::spelled(word(op, table, base, dirty, planes), mask, full));
     }
     if holds(op, table, base) {
         return Part::Run(1, n);

@@ -2,7 +2,7 @@
 ghost use mathlib.Core.Path.{_≡_};
 ghost use mathlib.Core.List.{map};
 ghost use Prim.Native.Nat.{ℕ, _+_, _≤_, _<_};
-ghost use lib.ListN.{getD};
+ghost use lib.ListN.{length, getD};
 ghost use Rattle.meaning.specs.Limits.{mostRows, mostNamed, histogramCounts, mostSegments};
 ghost use Rattle.meaning.specs.Format as format;
 ghost use Rattle.meaning.specs.Format.{rowsOf};
@@ -20,28 +20,24 @@ use words::rows;
 
 // The numbers with the rows of a stretch counted in, of segments of that width, of whose last one the mask has the
 // rows.
-fn count_stretch(
-    counts: [u32; HISTOGRAM_COUNTS],
-    s: Survey,
-    mask: u32,
-    width: u32,
-) -> [u32; HISTOGRAM_COUNTS]
+fn count_stretch(counts: &mut [u32; HISTOGRAM_COUNTS], s: Survey, mask: u32, width: u32)
     requires { ⌜ (s .ones + s .dirty ≤ mostNamed) × (1 ≤ s .least) × (s .least ≤ mostSegments) × (width ≤ 32)
-        × ((c : ℕ) → c < histogramCounts → getD counts c 0 ≤ mostRows)
+        × (length (now counts) ≡ histogramCounts)
+        × ((c : ℕ) → c < histogramCounts → getD (now counts) c 0 ≤ mostRows)
         × ((j : ℕ) → j < 32 → countAt (s .planes) j ≤ s .dirty) ⌝ }
-    ensures { λ r. ⌜ ((F : Format) → width ≡ format.width F → StretchCounted F counts s mask r) ⌝ }
+    ensures { λ _. ⌜ ((F : Format) → width ≡ format.width F
+        → StretchCounted F (now (counts .entry)) s mask (now (counts .exit))) ⌝ }
 {
     let n = s.least;
     let base = s.ones;
     let dirty = s.dirty;
     if dirty != 0 {
         let planes = s.planes;
-        return counters::add_to_histogram(counts, planes, base, dirty, mask, 1);
+        counters::add_to_histogram(counts, planes, base, dirty, mask);
+        return;
     }
-    let mut r = counts;
     let k = base as usize;
-    r[k] = r[k] + ((n - 1) * width + bits::count(mask));
-    r
+    counts[k] = counts[k] + ((n - 1) * width + bits::count(mask));
 }
 
 // For each c from 0 to the most that a list can name the number of rows that exactly c of the list have.
@@ -63,8 +59,7 @@ pub fn histogram(index: &[u32], list: &[u32]) -> [u32; HISTOGRAM_COUNTS]
     while o < segments {
         let n = s.least;
         let mask = rows::mask_before(full, last, segments, o + n);
-        let d = count_stretch(counts, s, mask, width);
-        counts = d;
+        count_stretch(&mut counts, s, mask, width);
         let t = survey::advance(format, index, list, &mut q.numbers, n);
         s = t;
         o += n;

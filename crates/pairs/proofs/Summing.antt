@@ -116,10 +116,6 @@ module _ (index first second : List ℕ) (n : ℕ) (cs : Columns index first sec
     pub contents-fit : headWords + entryWords * (n + 1) ≤ getD starts (n + 1) 0
     contents-fit = let z : 0 + (n + 1) ≡ n + 1 = omega arith in omega (arith, st .first, rw z at (rising (n + 1) 0 (omega arith)))
 
-    pub small : (k : ℕ) → k ≤ n + 1 → getD starts k 0 ≤ 71 + k * (2 * mostSegments)
-    small zero h = omega (arith, st .first, cs .few)
-    small (suc k) h = omega (arith, ap (λ (j : ℕ). getD starts j 0) (add-one k), steps k (omega arith), small k (omega arith), body-low k)
-
     -- each body's part is just as long
     pub exact : (out : List ℕ) (i : ℕ) → getD starts (n + 1) 0 ≤ length out → i ≤ n → length (region starts out i) ≡ length (bodyOf index first second n i)
     exact out i h l = region-length starts out (n + 1) i (laid (length out) h) (omega arith) ∙ omega (arith, steps i l)

@@ -7,7 +7,7 @@ use meaning::HEAD_WORDS;
 use meaning::MOST_STARTS;
 use new_index::layout;
 
-// The words that the index of n slices takes; it is written where they fit, and else nothing is. Bodies are measured first,
+// The words that the index of n slices takes; it is written where there is room for it, and else nothing is. Bodies are measured first,
 // since each lies behind those before it.
 pub fn sum(index: &[u32], first: &[u32], second: &[u32], n: usize, out: &mut [u32]) -> usize
     requires { ⌜ Columns (now index) (now first) (now second) n ⌝ }
@@ -19,7 +19,7 @@ pub fn sum(index: &[u32], first: &[u32], second: &[u32], n: usize, out: &mut [u3
     let measured = pass::pass(index, first, second, n, out, &nowhere, false);
     let starts = layout::starts(&measured.numbers, count, HEAD_WORDS + ENTRY_WORDS * count);
     let need = starts[count];
-    if out.len() < need {
+    if contents::room(out.len()) < need {
         return need;
     }
     let rows = contents::rows(index);

@@ -1,16 +1,15 @@
 -- `archive::measure` meets its contract: after k rounds the words are those before body k of the new index.
 -- Assumes nothing.
-use Prim.Native.Nat.{ℕ, _+_, _-_, _≤_, _<_}
+use Prim.Native.Nat.{ℕ, _+_, _-_, _*_, _≤_, _<_}
 use mathlib.Core.Bool.{false≢true}
-use mathlib.Core.Path.{_≡_, refl, ap, _∙_}
+use mathlib.Core.Path.{_≡_, refl, _∙_}
 use mathlib.Core.List.{List}
 use denote.Ref.{now}
-use lib.ListN.{length}
+use Rattle.meaning.specs.Limits.{mostBitmaps, mostContents}
 use Rattle.meaning.specs.Index.{bitmapCount, bodyPlace}
-use Rattle.meaning.specs.Laws.{IndexFacts}
+use Rattle.meaning.proofs.NewIndexes.{mostBodyWords}
 use Rattle.archive.specs.Anew.{anew}
-use Rattle.archive.proofs.Growing.{words-of, within}
-use Rattle.archive.proofs.Renewed.{new-facts, new-count, new-place, new-body}
+use Rattle.archive.proofs.Renewed.{new-place, new-next, new-end, new-low}
 use borrow.Author.Needs.{needs}
 use native.Mathlib.Omega.{arith}
 use Rattle.archive.proofs.measure.Statement.{statement}
@@ -48,14 +47,8 @@ module _ (l : tie.At-loop Inv-loop μ-loop) where
   abbrev t : List ℕ
   t = anew index (call .args .to)
 
-  facts : IndexFacts t
-  facts = new-facts index (call .args .to) (call .pre)
-
   all : l .before .before .bitmaps .result ≡ bitmapCount index
   all = l .before .before .bitmaps .ensures
-
-  count : bitmapCount index ≡ bitmapCount t
-  count = new-count index (call .args .to) (call .pre)
 
 inside : (i : tie.In-loop Inv-loop μ-loop) → i .before .loop .k < bitmapCount (index (i .before))
 inside i = omega (arith, i .loop-test .taken, all (i .before))
@@ -71,18 +64,18 @@ module _ (c : tie.After-put-body Inv-loop μ-loop) where
   abbrev k : ℕ
   k = l .loop .k
 
-  below : k < bitmapCount (t l)
-  below = omega (arith, inside (c .before .before), count l)
-
   next : l .loop .need + c .put-body .result ≡ bodyPlace (t l) (k + 1)
   next =
-      let e = ap length (new-body (index l) (call l .args .to) (call l .pre) k (inside (c .before .before))) in
-      omega (arith, l .loop .inv .1, c .put-body .ensures .words-are, e, words-of (t l) (facts l) k below)
+      let e = new-next (index l) (call l .args .to) (call l .pre) k (inside (c .before .before)) in
+      omega (arith, l .loop .inv .1, c .put-body .ensures .words-are, e)
+
+  low : bodyPlace (t l) (k + 1) ≤ mostContents + mostBodyWords * mostBitmaps
+  low = new-low (index l) (call l .args .to) (call l .pre) (k + 1) (omega (arith, inside (c .before .before)))
 
 add-need : tie.Need-add-need Inv-loop μ-loop
 add-need c =
     let w = c .before .before in
-    record { fits = omega (arith, next w, within (t (l w)) (facts (l w)) (k w) (below w)) }
+    record { fits = omega (arith, next w, low w) }
 
 add-k : tie.Need-add-k Inv-loop μ-loop
 add-k c = search needs
@@ -101,8 +94,8 @@ same-length c = search needs
 returns : tie.Need-returns Inv-loop μ-loop
 returns c =
     let l = c .before in
-    let e : l .loop .k ≡ bitmapCount (t l) = omega (arith, l .loop .inv .0, c .loop-test .left, all l, count l) in
-    (l .loop .inv .1 ∙ ap (bodyPlace (t l)) e ∙ facts l .entries .last-end, l .loop .inv .2)
+    let e : l .loop .k ≡ bitmapCount (index l) = omega (arith, l .loop .inv .0, c .loop-test .left, all l) in
+    (l .loop .inv .1 ∙ new-end (index l) (call l .args .to) (call l .pre) (l .loop .k) e, l .loop .inv .2)
 
 pub measure-spec : {M : Type 1} → statement M
 measure-spec =

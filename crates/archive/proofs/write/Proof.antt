@@ -2,12 +2,15 @@
 -- buffer has the whole index.
 -- Assumes nothing.
 use Prim.Native.Nat.{ℕ, _-_, _≤_, _<_}
-use mathlib.Core.Path.{_≡_, _∙_, subst}
+use mathlib.Core.Path.{_≡_, ap, _∙_, subst}
 use mathlib.Core.List.{List}
 use denote.Ref.{now}
 use lib.ListN.{length, length-set}
+use Rattle.meaning.specs.Limits.{mostIndexWords}
 use Rattle.meaning.specs.Index.{bitmapCount, bodyPlace}
+use Rattle.meaning.specs.NewIndex.{indexRoom}
 use Rattle.meaning.specs.Laws.{IndexFacts}
+use Rattle.meaning.proofs.NewIndexes.{room-within}
 use Rattle.archive.specs.Anew.{anew, Begun}
 use Rattle.archive.proofs.Growing.{begun-none, begun-all}
 use Rattle.archive.proofs.Renewed.{new-facts, new-kind, new-rows, new-count, new-place}
@@ -29,14 +32,18 @@ module _ (s : tie.Start Inv-loop μ-loop) where
   abbrev t : List ℕ
   t = anew (now (s .args .index)) (s .args .to)
 
+  -- it fits the buffer, and is no longer than an index may be
+  fits : (length t ≤ length (now (s .args .out))) × (length t ≤ mostIndexWords)
+  fits = room-within (length t) (length (now (s .args .out))) (s .pre .1)
+
   facts : IndexFacts t
-  facts = new-facts (now (s .args .index)) (s .args .to) (s .pre .0)
+  facts = new-facts (now (s .args .index)) (s .args .to) (s .pre .0) (fits .1)
 
   count : bitmapCount (now (s .args .index)) ≡ bitmapCount t
   count = new-count (now (s .args .index)) (s .args .to) (s .pre .0)
 
   three : 3 ≤ length (now (s .args .out))
-  three = omega (arith, facts .head .head, s .pre .1)
+  three = omega (arith, facts .head .head, fits .0)
 
 bitmaps-requires : tie.Need-bitmaps-requires Inv-loop μ-loop
 bitmaps-requires c κs = search needs
@@ -88,8 +95,8 @@ module _ (l : tie.At-loop Inv-loop μ-loop) where
       let rows = l .before .before .rows in
       let kind = l .before .before .before .kind in
       l .loop .inv .2 (now (call .args .out))
-      (begun-none (t call) (facts call) (now (call .args .out)) (call .pre .1) (kind .result) (rows .result) rounds
-      (kind .ensures ∙ new-kind index to (call .pre .0)) (rows .ensures ∙ new-rows index to (call .pre .0))
+      (begun-none (t call) (facts call) (now (call .args .out)) (fits call .0) (kind .result) (rows .result) rounds
+      (kind .ensures ∙ new-kind index to (call .pre .0) (fits call .1)) (rows .ensures ∙ new-rows index to (call .pre .0) (fits call .1))
       (all ∙ count call))
 
 write-body-requires : tie.Need-write-body-requires Inv-loop μ-loop
@@ -97,7 +104,7 @@ write-body-requires c κs =
     let i = c .before in
     let s = call (i .before) in
     let below : i .before .loop .k < bitmapCount (now (s .args .index)) = omega (arith, i .loop-test .taken, all (i .before)) in
-    (s .pre .0, (below, (i .before .loop .inv .1, omega (arith, s .pre .1, begun (i .before) .long))))
+    (s .pre .0, (below, (i .before .loop .inv .1, omega (arith, s .pre .1, ap indexRoom (begun (i .before) .long)))))
 
 add-k : tie.Need-add-k Inv-loop μ-loop
 add-k c = search needs
@@ -120,7 +127,7 @@ returns c =
     let l = c .before in
     let s = call l in
     let e : l .loop .k ≡ bitmapCount (t s) = omega (arith, l .loop .inv .0, c .loop-test .left, all l, count s) in
-    begun-all (t s) (facts s) (now (s .args .out)) (l .loop .out) (s .pre .1)
+    begun-all (t s) (facts s) (now (s .args .out)) (l .loop .out) (fits s .0)
     (subst (λ (k : ℕ). Begun (t s) (now (s .args .out)) (l .loop .out) k) e (begun l))
 
 pub write-spec : {M : Type 1} → statement M

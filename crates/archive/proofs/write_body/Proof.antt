@@ -10,6 +10,7 @@ use Rattle.meaning.specs.Limits.{mostIndexWords}
 use Rattle.meaning.specs.Format.{canonical}
 use Rattle.meaning.specs.Index.{rowCount, bitmapCount, entryPlace, bodyPlace, bodyAt, rowsAt}
 use Rattle.meaning.specs.Laws.{IndexFacts}
+use Rattle.meaning.proofs.NewIndexes.{room-within}
 use Rattle.archive.specs.Anew.{anew}
 use Rattle.archive.proofs.Growing.{words-of, within, entries-before, part-room, lent-long, begun-more}
 use Rattle.archive.proofs.Renewed.{new-facts, new-count, new-body}
@@ -38,20 +39,23 @@ module _ (s : tie.Start) where
   abbrev b : List ℕ
   b = bodyAt t k
 
+  room : (length t ≤ length out) × (length t ≤ mostIndexWords)
+  room = room-within (length t) (length out) (s .pre .1 .1 .1)
+
   facts : IndexFacts t
-  facts = new-facts index (s .args .to) (s .pre .0)
+  facts = new-facts index (s .args .to) (s .pre .0) (room .1)
 
   inside : k < bitmapCount t
   inside = omega (arith, s .pre .1 .0, new-count index (s .args .to) (s .pre .0))
 
   is-body : canonical (s .args .to) (rowCount index) (rowsAt index k) ≡ b
-  is-body = new-body index (s .args .to) (s .pre .0) k (s .pre .1 .0)
+  is-body = new-body index (s .args .to) (s .pre .0) (room .1) k (s .pre .1 .0)
 
   end : at + length b ≡ bodyPlace t (k + 1)
   end = omega (arith, words-of t facts k inside, s .pre .1 .1 .0)
 
   fits : at + length b ≤ length out
-  fits = omega (arith, end, within t facts k inside, s .pre .1 .1 .1)
+  fits = omega (arith, end, within t facts k inside, room .0)
 
   few : at + length b ≤ mostIndexWords
   few = omega (arith, end, within t facts k inside)
@@ -142,7 +146,7 @@ returns c =
     let s = s c in
     let e = c .entry-place in (
       omega (arith, end s, words c),
-      λ old g. begun-more (t s) (facts s) old (out s) (k s) (inside s) (s .pre .1 .1 .1) g
+      λ old g. begun-more (t s) (facts s) old (out s) (k s) (inside s) (room s .0) g
           (back c) (at s) (put c .put-body .result) (e .result) (came c) (s .pre .1 .1 .0) (words c) (e .ensures .0),
     )
 

@@ -4,13 +4,14 @@ use native.Mathlib.Decide.{decLe}
 use mathlib.Core.Bool.{Bool, _&&_, and-false}
 use mathlib.Core.List.{List}
 use mathlib.Core.Path.{_≡_, ap, ap₂, _∙_}
-use Prim.Native.Nat.{ℕ, suc, _+_, _-_, _*_, _≤_, _<_}
-use native.Mathlib.Nat.{le-refl, mul-le-mul}
+use denote.Ref.{now}
+use Prim.Native.Nat.{ℕ, suc, _+_, _-_, _≤_, _<_}
+use native.Mathlib.Nat.{le-refl}
 use borrow.Author.Tests.{ne-eqb}
 use lib.Bits.{bitAnd}
 use lib.Dec.{eqb}
-use lib.ListN.{getD}
-use Rattle.meaning.specs.Limits.{mostSegments}
+use lib.ListN.{length, getD}
+use Rattle.meaning.specs.Limits.{histogramCounts}
 use Rattle.meaning.specs.Rows.{countBelow}
 use Rattle.meaning.specs.Segment.{isSet}
 use Rattle.meaning.proofs.Counting.{count-ext, count-le}
@@ -48,15 +49,15 @@ rows-are planes base mask x c h x-is =
     (λ j l. and-set mask x j ∙ ap (λ (b : Bool). isSet mask j && b) (x-is j l ∙ eqb-more base (countAt planes j) c h))
 
 -- what the count at c grows to
-abbrev grown : (counts planes : List ℕ) (base mask times c : ℕ) → ℕ
-grown counts planes base mask times c = getD counts c 0 + times * rowsAt planes base mask c
+abbrev grown : (counts planes : List ℕ) (base mask c : ℕ) → ℕ
+grown counts planes base mask c = getD counts c 0 + rowsAt planes base mask c
 
 abbrev Inv-loop : tie.InvT-loop
-Inv-loop planes base most mask times r₀ from end c₀ r c =
-    (base ≤ c) × (c ≤ base + most + 1) × Filled (grown r₀ planes base mask times) r₀ r c
+Inv-loop counts₀ planes base most mask from end c₀ counts c =
+    (base ≤ c) × (c ≤ base + most + 1) × (length counts ≡ histogramCounts) × Filled (grown counts₀ planes base mask) counts₀ counts c
 
 abbrev μ-loop : tie.MeasureT-loop
-μ-loop planes base most mask times r₀ from end c₀ r c = base + most + 1 - c
+μ-loop counts₀ planes base most mask from end c₀ counts c = base + most + 1 - c
 
 add-end : tie.Need-add-end Inv-loop μ-loop
 add-end c = search needs
@@ -67,7 +68,13 @@ add-end-2 c = search needs
 loop-holds : tie.Need-loop-holds Inv-loop μ-loop
 loop-holds c =
     let a = c .args in
-    (search needs, search needs, filled-from (grown (a .counts) (a .planes) (a .base) (a .mask) (a .times)) (a .counts) (a .base) (λ i l. rw (rows-none (a .planes) (a .base) (a .mask) i l) (omega arith)))
+    let was = now (a .counts) in (
+      search needs,
+      search needs,
+      c .pre .1,
+      filled-from (grown was (a .planes) (a .base) (a .mask)) was (a .base)
+          (λ i l. rw (rows-none (a .planes) (a .base) (a .mask) i l) (omega arith)),
+    )
 
 sub-equals : tie.Need-sub-equals Inv-loop μ-loop
 sub-equals c = search needs
@@ -78,36 +85,35 @@ cast-equals c = search needs
 equals-requires : tie.Need-equals-requires Inv-loop μ-loop
 equals-requires c κs = search needs
 
-mul-r : tie.Need-mul-r Inv-loop μ-loop
-mul-r c = search needs
+mul-counts : tie.Need-mul-counts Inv-loop μ-loop
+mul-counts c = search needs
 
-array-read-r : tie.Need-array-read-r Inv-loop μ-loop
-array-read-r c = search needs
+element-copy-out-counts : tie.Need-element-copy-out-counts Inv-loop μ-loop
+element-copy-out-counts c = search needs
 
 count-requires : tie.Need-count-requires Inv-loop μ-loop
 count-requires c κs = search needs
 
--- what is added is no more than all the bits that there can be
-added-most : (c : tie.After-count Inv-loop μ-loop) → c .before .before .before .before .args .times * c .count .result ≤ mostSegments * 32
-added-most c =
-    let s = c .before .before .before .before in
-    let rows = bitAnd (s .args .mask) (c .before .equals .result) in
-    let few : c .count .result ≤ 32 = omega (arith, c .count .ensures, count-le 32 (isSet rows)) in
-    mul-le-mul (s .pre .1) few
+add-counts : tie.Need-add-counts Inv-loop μ-loop
+add-counts c =
+    let l = c .before .before .before .before in
+    let rows = bitAnd (l .before .args .mask) (c .before .before .equals .result) in
+    record {
+      fits =
+          omega (
+            arith,
+            c .count .ensures,
+            count-le 32 (isSet rows),
+            l .loop .inv .3 .rest (l .loop .c) (le-refl (l .loop .c)),
+            l .before .pre .2 (l .loop .c) (omega (arith, l .before .pre .0)),
+          );
+    }
 
-mul-r-2 : tie.Need-mul-r-2 Inv-loop μ-loop
-mul-r-2 c = omega (arith, added-most c)
+mul-counts-2 : tie.Need-mul-counts-2 Inv-loop μ-loop
+mul-counts-2 c = search needs
 
-add-r : tie.Need-add-r Inv-loop μ-loop
-add-r c =
-    let h = c .before .before .before .loop in
-    omega (arith, added-most c, h .inv .2 .rest (h .c) (le-refl (h .c)), c .before .before .before .before .pre .2 (h .c) (omega arith))
-
-mul-r-3 : tie.Need-mul-r-3 Inv-loop μ-loop
-mul-r-3 c = search needs
-
-array-write-r : tie.Need-array-write-r Inv-loop μ-loop
-array-write-r c = search needs
+element-write-counts : tie.Need-element-write-counts Inv-loop μ-loop
+element-write-counts c = search needs
 
 add-c : tie.Need-add-c Inv-loop μ-loop
 add-c c = search needs
@@ -117,30 +123,34 @@ loop-less c = search needs
 
 loop-again : tie.Need-loop-again Inv-loop μ-loop
 loop-again c =
-    let h = c .before .before .before .loop in
-    let a = c .before .before .before .before .args in
+    let l = c .before .before .before .before in
+    let h = l .loop in
+    let a = l .before .args in
+    let was = now (a .counts) in
     let rows : c .count .result ≡ rowsAt (a .planes) (a .base) (a .mask) (h .c) =
-    c .count .ensures ∙ rows-are (a .planes) (a .base) (a .mask) (c .before .equals .result) (h .c) (h .inv .0) (c .before .equals .ensures) in (
+    c .count .ensures ∙ rows-are (a .planes) (a .base) (a .mask) (c .before .before .equals .result) (h .c) (h .inv .0) (c .before .before .equals .ensures) in (
       search needs,
       search needs,
-      filled-more (grown (a .counts) (a .planes) (a .base) (a .mask) (a .times)) (a .counts) (h .r) (h .c) (getD (h .r) (h .c) 0 + a .times * c .count .result) (omega arith)
-          (ap₂ (λ (x y : ℕ). x + a .times * y) (h .inv .2 .rest (h .c) (le-refl (h .c))) rows) (h .inv .2),
+      search needs,
+      filled-more (grown was (a .planes) (a .base) (a .mask)) was (h .counts) (h .c) (getD (h .counts) (h .c) 0 + c .count .result) (omega (arith, h .inv .2, l .before .pre .0))
+          (ap₂ _+_ (h .inv .3 .rest (h .c) (le-refl (h .c))) rows) (h .inv .3),
     )
 
 -- past the last count that can grow
-past : (planes counts r : List ℕ) (base most mask times c i : ℕ) → ((j : ℕ) → j < 32 → countAt planes j ≤ most) → Filled (grown counts planes base mask times) counts r c
-    → base + most < c → c ≤ i → getD r i 0 ≡ grown counts planes base mask times i
-past planes counts r base most mask times c i low f h g = f .rest i g ∙ rw (rows-past planes base most mask i low (omega arith)) (omega arith)
+past : (planes counts r : List ℕ) (base most mask c i : ℕ) → ((j : ℕ) → j < 32 → countAt planes j ≤ most) → Filled (grown counts planes base mask) counts r c
+    → base + most < c → c ≤ i → getD r i 0 ≡ grown counts planes base mask i
+past planes counts r base most mask c i low f h g = f .rest i g ∙ rw (rows-past planes base most mask i low (omega arith)) (omega arith)
 
 returns : tie.Need-returns Inv-loop μ-loop
 returns c =
     let h = c .before .loop in
-    let a = c .before .before .args in
-    let low = c .before .before .pre .3 in (
-      search needs,
+    let s = c .before .before in
+    let a = s .args in
+    let was = now (a .counts) in (
+      h .inv .2,
       λ i l. elim (decLe (suc i) (h .c)) [
-        | yes g ↦ h .inv .2 .done i g
-        | no g ↦ past (a .planes) (a .counts) (h .r) (a .base) (a .most) (a .mask) (a .times) (h .c) i low (h .inv .2) (omega arith) (omega arith)
+        | yes g ↦ h .inv .3 .done i g
+        | no g ↦ past (a .planes) was (h .counts) (a .base) (a .most) (a .mask) (h .c) i (s .pre .3) (h .inv .3) (omega arith) (omega arith)
       ],
     )
 
@@ -156,13 +166,12 @@ add-to-histogram-spec =
     sub-equals
     cast-equals
     equals-requires
-    mul-r
-    array-read-r
+    mul-counts
+    element-copy-out-counts
     count-requires
-    mul-r-2
-    add-r
-    mul-r-3
-    array-write-r
+    add-counts
+    mul-counts-2
+    element-write-counts
     add-c
     loop-less
     loop-again

@@ -3,33 +3,64 @@
 use mathlib.Core.Bool.{_&&_, _||_}
 use mathlib.Core.Path.{_≡_, sym, ap, _∙_}
 use mathlib.Core.Logic.{⊎-elim}
-use Prim.Native.Nat.{ℕ, _-_, _/_, _^_, _≤_}
+use Prim.Native.Nat.{ℕ, _-_, _/_, _^_, _≤_, _<_}
+use borrow.Author.Tests.{lt-leb}
 use lib.Bits.{and-mask}
+use lib.Dec.{leb}
 use lib.ListN.{getD}
 use Rattle.meaning.specs.Limits.{counterPlanes}
 use Rattle.meaning.specs.Segment.{isSet}
 use Rattle.counters.specs.Counters.{countAt}
+use Rattle.meaning.proofs.Counting.{zero-clear}
 use Rattle.words.proofs.BitLaws.{and-set, or-set}
-use Rattle.counters.proofs.CounterLaws.{Compared, compared-none, compared-more, compared-all, reaches, reaches-one, reaches-zero, reaches-flag, reaches-is}
+use Rattle.counters.proofs.CounterLaws.{Compared, short-digits, compared-none, compared-more, compared-all, reaches, reaches-one, reaches-zero, reaches-flag, reaches-is}
 use borrow.Author.Needs.{needs}
 use native.Mathlib.Omega.{arith}
 use Rattle.counters.proofs.at_least.Statement.{statement}
 use Rattle.counters.proofs.at_least.Tie as tie
 
 abbrev Inv-loop : tie.InvT-loop
-Inv-loop t planes r₀ k₀ r k = (k ≤ counterPlanes) × Compared reaches 32 planes t r k
+Inv-loop most t planes r₀ k₀ r k = (k ≤ counterPlanes) × Compared reaches 32 planes t r k
 
 abbrev μ-loop : tie.MeasureT-loop
-μ-loop t planes r₀ k₀ r k = counterPlanes - k
+μ-loop most t planes r₀ k₀ r k = counterPlanes - k
+
+returns : tie.Need-returns Inv-loop μ-loop
+returns c j l =
+    let s = c .before in
+    zero-clear j ∙ sym (lt-leb (s .args .t) (countAt (s .args .t1) j) (omega (arith, c .if1 .taken, s .pre .1 j l)))
+
+-- the call
+abbrev start : tie.At-loop Inv-loop μ-loop → tie.Start Inv-loop μ-loop
+start l = l .before .before
+
+-- where k digits hold the greatest counter, the bits of r say how the whole compares
+done : (l : tie.At-loop Inv-loop μ-loop) → start l .args .most < 2 ^ l .loop .k
+    → (j : ℕ) → j < 32 → isSet (l .loop .r) j ≡ leb (start l .args .t) (countAt (start l .args .t1) j)
+done l h j g =
+    let a = start l .args in
+    sym (reaches-flag (isSet (l .loop .r) j))
+    ∙ compared-all reaches 32 (a .t1) (a .t) (l .loop .r) (l .loop .k) (λ i m. omega (arith, start l .pre .1 i m))
+    (omega (arith, l .before .if1 .left)) (l .loop .inv .1) j g
+    ∙ reaches-is (a .t) (countAt (a .t1) j)
 
 loop-holds : tie.Need-loop-holds Inv-loop μ-loop
 loop-holds c = (search needs, compared-none reaches 32 _ _)
 
-cast-if1 : tie.Need-cast-if1 Inv-loop μ-loop
-cast-if1 c = search needs
+cast-if2 : tie.Need-cast-if2 Inv-loop μ-loop
+cast-if2 c = search needs
 
-shr-if1 : tie.Need-shr-if1 Inv-loop μ-loop
-shr-if1 c = search needs
+shr-if2 : tie.Need-shr-if2 Inv-loop μ-loop
+shr-if2 c = search needs
+
+returns-2 : tie.Need-returns-2 Inv-loop μ-loop
+returns-2 c = done (c .before .before) (short-digits _ _ (c .if2 .taken))
+
+cast-if3 : tie.Need-cast-if3 Inv-loop μ-loop
+cast-if3 c = search needs
+
+shr-if3 : tie.Need-shr-if3 Inv-loop μ-loop
+shr-if3 c = search needs
 
 mul-r : tie.Need-mul-r Inv-loop μ-loop
 mul-r c = search needs
@@ -51,25 +82,24 @@ loop-less c = search needs
 
 loop-again : tie.Need-loop-again Inv-loop μ-loop
 loop-again c =
-    let h = c .before .before .loop in
-    let a = c .before .before .before .args in
+    let l = c .before .before .before in
+    let h = l .loop in
+    let a = start l .args in
     let p = getD (a .t1) (h .k) 0 in
     let low = and-mask (a .t / 2 ^ h .k) 1 in (
       search needs,
       ⊎-elim
-          (λ w. compared-more reaches 32 (a .t1) (a .t) 1 _&&_ reaches-one (h .r) (c .if1 .r) (h .k) (omega arith) (sym low ∙ w .0 .taken)
+          (λ w. compared-more reaches 32 (a .t1) (a .t) 1 _&&_ reaches-one (h .r) (c .if3 .r) (h .k) (omega arith) (sym low ∙ w .0 .taken)
           (λ j l. ap (λ (x : ℕ). isSet x j) (w .1) ∙ and-set (h .r) p j) (h .inv .1))
-          (λ w. compared-more reaches 32 (a .t1) (a .t) 0 _||_ reaches-zero (h .r) (c .if1 .r) (h .k) (omega arith) (omega (arith, w .0 .left))
+          (λ w. compared-more reaches 32 (a .t1) (a .t) 0 _||_ reaches-zero (h .r) (c .if3 .r) (h .k) (omega arith) (omega (arith, w .0 .left))
           (λ j l. ap (λ (x : ℕ). isSet x j) (w .1) ∙ or-set (h .r) p j) (h .inv .1))
-          (c .if1 .came),
+          (c .if3 .came),
     )
 
-returns : tie.Need-returns Inv-loop μ-loop
-returns c j l =
-    let h = c .before .loop in
-    let a = c .before .before .args in
-    let k-is : h .k ≡ counterPlanes = omega arith in
-    sym (reaches-flag (isSet (h .r) j)) ∙ compared-all reaches 32 (a .t1) (a .t) (h .r) counterPlanes (omega arith) (omega arith) (rw k-is at (h .inv .1)) j l ∙ reaches-is (a .t) (countAt (a .t1) j)
+returns-3 : tie.Need-returns-3 Inv-loop μ-loop
+returns-3 c =
+    let k-is : c .before .loop .k ≡ counterPlanes = omega arith in
+    done (c .before) (omega (arith, start (c .before) .pre .0, ap (λ (k : ℕ). 2 ^ k) k-is))
 
 pub at-least-spec : {M : Type 1} → statement M
 at-least-spec =
@@ -77,9 +107,13 @@ at-least-spec =
     (tie.spec
     Inv-loop
     μ-loop
+    returns
     loop-holds
-    cast-if1
-    shr-if1
+    cast-if2
+    shr-if2
+    returns-2
+    cast-if3
+    shr-if3
     mul-r
     array-read-r
     mul-r-2
@@ -87,4 +121,4 @@ at-least-spec =
     add-k
     loop-less
     loop-again
-    returns)
+    returns-3)

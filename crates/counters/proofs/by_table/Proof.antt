@@ -18,11 +18,11 @@ use Rattle.counters.proofs.by_table.Statement.{statement}
 use Rattle.counters.proofs.by_table.Tie as tie
 
 abbrev Inv-loop : tie.InvT-loop
-Inv-loop planes base table r₀ from k₀ r k =
+Inv-loop planes base most table r₀ from k₀ r k =
     (base ≤ k) × ((j : ℕ) → j < 32 → isSet r j ≡ told table k (base + countAt planes j))
 
 abbrev μ-loop : tie.MeasureT-loop
-μ-loop planes base table r₀ from k₀ r k = length table - k
+μ-loop planes base most table r₀ from k₀ r k = length table - k
 
 loop-holds : tie.Need-loop-holds Inv-loop μ-loop
 loop-holds c =

@@ -11,7 +11,7 @@ slice-aggregate-ask-list : tie.Need-slice-aggregate-ask-list
 slice-aggregate-ask-list c = search needs
 
 ask-list-requires : tie.Need-ask-list-requires
-ask-list-requires c κs = let s = c .before .before .before .before in (s .pre, (omega arith, omega arith, omega arith))
+ask-list-requires c κs = let s = c .before .before .before .before in (s .pre, (omega arith, omega arith))
 
 same-length : tie.Need-same-length
 same-length c = search needs

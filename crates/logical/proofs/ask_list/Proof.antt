@@ -40,7 +40,7 @@ write-answer-requires c κs =
     let l = c .before .before .before in
     let s = l .before .before .before .before in
     let few = listed (now (s .args .index)) (now (s .args .list)) (s .pre .1 .1) (sym (l .names-missing .ensures) ∙ c .before .before .if1 .left) in
-    record { walkable = record { facts = s .pre .0; listed = few; some = s .pre .1 .0 }; few-entries = omega arith; low-number = s .pre .1 .2 }
+    record { walkable = record { facts = s .pre .0; listed = few; some = s .pre .1 .0 }; few-entries = omega arith }
 
 words-alone-requires : tie.Need-words-alone-requires
 words-alone-requires c κs = search needs

@@ -1,7 +1,9 @@
 -- `columns::ask::write_sum` meets its contract.
 -- Assumes nothing.
 use Prim.Native.Nat.{_+_}
+use mathlib.Core.Path.{ap}
 use denote.Ref.{now}
+use Rattle.meaning.specs.NewIndex.{indexRoom}
 use Rattle.pairs.specs.Passes.{Columns}
 use Rattle.columns.proofs.Asking.{good-column, two-columns, wrote-no-room, wrote-sum}
 use native.Mathlib.Omega.{arith}
@@ -24,6 +26,9 @@ add-n c = omega (arith, columns c .few)
 sum-requires : tie.Need-sum-requires
 sum-requires c κs = columns (c .before)
 
+room-requires : tie.Need-room-requires
+room-requires c κs = search needs
+
 no-room-requires : tie.Need-no-room-requires
 no-room-requires c κs = search needs
 
@@ -32,20 +37,22 @@ same-length c = search needs
 
 returns : tie.Need-returns
 returns c =
-    let k = c .before .before .before .before in
+    let r = c .before .before in
+    let k = r .before .before .before in
     let a = k .before .before .before .before .before .before .before .args in
     wrote-no-room (now (a .index)) (now (a .first)) (now (a .second)) (now (a .out)) _ _ (k .sum .result) (k .before .before .wider .ensures) (k .sum .ensures)
-    (omega (arith, c .before .if1 .taken, k .sum .kept .1 .1 .1 .1 .0)) (c .no-room .result) (c .no-room .ensures)
+    (omega (arith, c .before .if1 .taken, r .room .ensures, ap indexRoom (k .sum .kept .1 .1 .1 .1 .0))) (c .no-room .result) (c .no-room .ensures)
 
 same-length-2 : tie.Need-same-length-2
 same-length-2 c = search needs
 
 returns-2 : tie.Need-returns-2
 returns-2 c =
-    let k = c .before .before .before in
+    let r = c .before in
+    let k = r .before .before .before in
     let a = k .before .before .before .before .before .before .before .args in
     wrote-sum (now (a .index)) (now (a .first)) (now (a .second)) (now (a .out)) _ _ (k .sum .result) (k .before .before .wider .ensures) (k .sum .ensures)
-    (omega (arith, c .if1 .left, k .sum .kept .1 .1 .1 .1 .0))
+    (omega (arith, c .if1 .left, r .room .ensures, ap indexRoom (k .sum .kept .1 .1 .1 .1 .0)))
 
 pub write-sum-spec : {M : Type 1} → statement M
 write-sum-spec =
@@ -54,6 +61,7 @@ write-sum-spec =
     wider-requires
     add-n
     sum-requires
+    room-requires
     no-room-requires
     same-length
     returns

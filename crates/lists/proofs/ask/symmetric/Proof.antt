@@ -61,7 +61,7 @@ write-answer-requires c κs =
     let s = l .before .before .before .before .before in
     let a = s .args in
     let w = good-walkable (now (a .index)) (now (a .list)) (s .pre) (sym (l .list-is-bad .ensures) ∙ c .before .before .before .before .if1 .left) in
-    record { walkable = w; few-entries = omega (arith, w .listed .most, c .before .before .before .if2 .left); low-number = tt }
+    record { walkable = w; few-entries = omega (arith, w .listed .most, c .before .before .before .if2 .left) }
 
 same-length : tie.Need-same-length
 same-length c = search needs

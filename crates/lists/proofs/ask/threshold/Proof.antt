@@ -69,7 +69,6 @@ write-answer-requires c κs =
     record {
       walkable = w;
       few-entries = search needs;
-      low-number = omega (arith, w .listed .most, c .before .before .before .wide .ensures .0, c .before .before .if3 .left);
     }
 
 same-length : tie.Need-same-length

@@ -110,7 +110,7 @@ evaluate-requires : tie.Need-evaluate-requires Inv-loop μ-loop
 evaluate-requires c κs =
     let i = c .before in
     let p = call (i .before) .pre .0 in
-    (p .few-entries, p .low-number, omega (arith, next i .held-low))
+    (p .few-entries, next i .held-low, next i .counts-low)
 
 emit-requires : tie.Need-emit-requires Inv-loop μ-loop
 emit-requires c κs =

@@ -17,7 +17,7 @@ spelled-requires c κs = search needs
 returns : tie.Need-returns
 returns c = λ F full-is.
     let w = c .before .word in
-    let a = c .before .before .before .before .before .before .args in
+    let a = c .before .before .before .before .before .args in
     word-part F (a .op) (now (a .table)) (a .s) (a .mask) (c .before .before .before .if1 .taken)
     (w .result) (w .ensures) (c .spelled .result)
     (λ real some most m. c .spelled .ensures (width F) real some most full-is m .0)
@@ -27,13 +27,13 @@ holds-requires c κs = search needs
 
 returns-2 : tie.Need-returns-2
 returns-2 c = λ F full-is.
-    let a = c .before .before .before .before .before .args in
+    let a = c .before .before .before .before .args in
     let e = sym (c .before .holds .ensures) ∙ c .if2 .taken in
     ones-part F (a .op) (now (a .table)) (a .s) (a .mask) (c .before .before .if1 .left) e
 
 returns-3 : tie.Need-returns-3
 returns-3 c = λ F full-is.
-    let a = c .before .before .before .before .before .args in
+    let a = c .before .before .before .before .args in
     let e = sym (c .before .holds .ensures) ∙ c .if2 .left in
     zeros-part F (a .op) (now (a .table)) (a .s) (a .mask) (c .before .before .if1 .left) e
 

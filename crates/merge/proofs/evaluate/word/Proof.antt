@@ -27,7 +27,7 @@ sub-at-least : tie.Need-sub-at-least
 sub-at-least c = search needs
 
 at-least-requires : tie.Need-at-least-requires
-at-least-requires c κs = omega (arith, (rw (c .before .before .op .given .1) at (c .before .before .before .before .before .pre .2)))
+at-least-requires c κs = search needs
 
 enum-known-op-2 : tie.Need-enum-known-op-2
 enum-known-op-2 c = search needs
@@ -40,7 +40,7 @@ returns-2 c j l =
     rw (v .1) (zero-clear j ∙ sym (ne-eqb (a .base + countAt (a .planes) j) (v .0 .0) (omega arith)))
 
 equals-requires : tie.Need-equals-requires
-equals-requires c κs = omega (arith, (rw (c .before .before .op2 .given .1) at (c .before .before .before .before .before .pre .2)))
+equals-requires c κs = search needs
 
 enum-told : tie.Need-enum-told
 enum-told c = search needs

@@ -2,6 +2,7 @@
 -- Assumes nothing.
 use Prim.Native.Nat.{_-_, _*_, _≤_}
 use native.Mathlib.Nat.{mul-le-mul}
+use denote.Ref.{now}
 use borrow.Author.Needs.{needs}
 use native.Mathlib.Omega.{arith}
 use Rattle.meaning.specs.Limits.{mostSegments}
@@ -16,60 +17,63 @@ add-to-histogram-requires c κs = search needs
 
 returns : tie.Need-returns
 returns c = λ F w-is.
-    let s = c .before .before .before in
+    let s = c .before .before .before .before in
     let r = c .add-to-histogram .ensures in
-    mixed-counted F (s .args .counts) (s .args .s) (s .args .mask) (λ z. omega arith) _ (r .0) (r .1)
+    mixed-counted F (now (s .args .counts)) (s .args .s) (s .args .mask) (λ z. omega arith) _ (r .0) (r .1)
 
 cast-k : tie.Need-cast-k
 cast-k c = search needs
 
-mul-r : tie.Need-mul-r
-mul-r c = search needs
+mul-counts : tie.Need-mul-counts
+mul-counts c = search needs
 
-array-read-r : tie.Need-array-read-r
-array-read-r c = search needs
+element-copy-out-counts : tie.Need-element-copy-out-counts
+element-copy-out-counts c = search needs
 
-sub-r : tie.Need-sub-r
-sub-r c = search needs
+sub-counts : tie.Need-sub-counts
+sub-counts c = search needs
 
 -- the segments before the last have no more rows than there can be
 whole-most : (s : tie.Start) → (s .args .s .least - 1) * s .args .width ≤ mostSegments * 32
 whole-most s = let few : s .args .s .least - 1 ≤ mostSegments = omega (arith, s .pre .2) in mul-le-mul few (s .pre .3)
 
-mul-r-2 : tie.Need-mul-r-2
-mul-r-2 c = omega (arith, whole-most (c .before))
+mul-counts-2 : tie.Need-mul-counts-2
+mul-counts-2 c = record { fits = omega (arith, whole-most (c .before .before)) }
 
 count-requires : tie.Need-count-requires
 count-requires c κs = search needs
 
-add-r : tie.Need-add-r
-add-r c =
-    let s = c .before .before in
-    omega (arith, whole-most s, c .count .ensures, count-le 32 (isSet (s .args .mask)))
+add-counts : tie.Need-add-counts
+add-counts c =
+    let s = c .before .before .before in
+    record { fits = omega (arith, whole-most s, c .count .ensures, count-le 32 (isSet (s .args .mask))) }
 
-add-r-2 : tie.Need-add-r-2
-add-r-2 c =
-    let s = c .before .before in
-    omega (
-      arith,
-      whole-most s,
-      c .count .ensures,
-      count-le 32 (isSet (s .args .mask)),
-      s .pre .4 (s .args .s .ones) (omega arith),
-    )
+add-counts-2 : tie.Need-add-counts-2
+add-counts-2 c =
+    let s = c .before .before .before in
+    record {
+      fits =
+          omega (
+            arith,
+            whole-most s,
+            c .count .ensures,
+            count-le 32 (isSet (s .args .mask)),
+            s .pre .5 (s .args .s .ones) (omega (arith, s .pre .0)),
+          );
+    }
 
-mul-r-3 : tie.Need-mul-r-3
-mul-r-3 c = search needs
+mul-counts-3 : tie.Need-mul-counts-3
+mul-counts-3 c = search needs
 
-array-write-r : tie.Need-array-write-r
-array-write-r c = search needs
+element-write-counts : tie.Need-element-write-counts
+element-write-counts c = search needs
 
 returns-2 : tie.Need-returns-2
 returns-2 c = λ F w-is.
-    let s = c .before .before in
+    let s = c .before .before .before in
     let a = s .args in
     rw (c .count .ensures, w-is)
-    (clean-counted F (a .counts) (a .s) (a .mask) (search needs) (omega (arith, s .pre .0)) (omega arith))
+    (clean-counted F (now (a .counts)) (a .s) (a .mask) (s .pre .4) (omega (arith, s .pre .0)) (omega arith))
 
 pub count-stretch-spec : {M : Type 1} → statement M
 count-stretch-spec =
@@ -78,13 +82,13 @@ count-stretch-spec =
     add-to-histogram-requires
     returns
     cast-k
-    mul-r
-    array-read-r
-    sub-r
-    mul-r-2
+    mul-counts
+    element-copy-out-counts
+    sub-counts
+    mul-counts-2
     count-requires
-    add-r
-    add-r-2
-    mul-r-3
-    array-write-r
+    add-counts
+    add-counts-2
+    mul-counts-3
+    element-write-counts
     returns-2)

@@ -104,19 +104,20 @@ mask-before-requires c κs = search needs
 
 count-stretch-requires : tie.Need-count-stretch-requires Inv-loop μ-loop
 count-stretch-requires c κs =
-    let n = next (c .before) in
-    let t = c .before .before in (
+    let n = next (c .before .before) in
+    let t = c .before .before .before in (
       n .held-low,
       n .is .some,
       omega (arith, n .few),
       omega (arith, width-is t, width-le (formatOf (index t))),
+      t .loop .inv .long,
       entries-low (t .loop .inv) (call t .pre .facts .head .few-rows),
       n .counts-low,
     )
 
 advance-requires : tie.Need-advance-requires Inv-loop μ-loop
 advance-requires c κs =
-    let i = c .before .before .before in
+    let i = c .before .before .before .before in
     let w = call (i .before) .pre in
     let a = i .before .loop .inv .along in
     let n = next i in (
@@ -125,17 +126,18 @@ advance-requires c κs =
     )
 
 add-o : tie.Need-add-o Inv-loop μ-loop
-add-o c = omega (arith, next (c .before .before .before .before) .few)
+add-o c = omega (arith, next (c .before .before .before .before .before) .few)
 
 loop-less : tie.Need-loop-less Inv-loop μ-loop
-loop-less c = let i = c .before .before .before .before in omega (arith, next i .is .some, i .loop-test .taken)
+loop-less c = let i = c .before .before .before .before .before in omega (arith, next i .is .some, i .loop-test .taken)
 
 loop-again : tie.Need-loop-again Inv-loop μ-loop
 loop-again c =
     let d = c .before .before in
-    let i = d .before .before in
+    let m = d .before .before in
+    let i = m .before in
     let t = i .before in
-    counting-more (t .loop .inv) (next i) (mask-of (next i) (layout t) (d .before .mask-before .ensures))
+    counting-more (t .loop .inv) (next i) (mask-of (next i) (layout t) (m .mask-before .ensures))
     (d .count-stretch .ensures (formatOf (index t)) (width-is t)) (c .advance .ensures)
 
 returns : tie.Need-returns Inv-loop μ-loop

@@ -9,12 +9,14 @@ use native.Mathlib.Omega.{arith}
 use borrow.Author.Needs.{needs}
 use Rattle.meaning.specs.Limits.{mostStarts, headWords, entryWords}
 use Rattle.meaning.specs.Index.{formatOf, rowCount}
+use Rattle.meaning.specs.NewIndex.{indexRoom}
+use Rattle.meaning.proofs.NewIndexes.{room-within}
 use Rattle.new_index.specs.Layouts.{StartsOf, Headed}
 use Rattle.new_index.specs.Writers.{writerOf, Laid}
 use Rattle.pairs.specs.Passes.{Columns, bodyOf}
 use Rattle.pairs.specs.Sums.{sumIndex}
 use Rattle.pairs.proofs.Rows.{zeros}
-use Rattle.pairs.proofs.Summing.{nowhere-laid, nothing-kept, none-stored, headed-as, body-low, need-is, laid, contents-fit, small, exact, written}
+use Rattle.pairs.proofs.Summing.{nowhere-laid, nothing-kept, none-stored, headed-as, body-low, need-is, laid, contents-fit, exact, written}
 use Rattle.pairs.proofs.sum.sum.Statement.{statement}
 use Rattle.pairs.proofs.sum.sum.Tie as tie
 
@@ -63,6 +65,17 @@ module _ (s : tie.After-starts) where
   in-order : (room : ℕ) → getD starts (n + 1) 0 ≤ room → Laid starts (n + 1) room
   in-order = laid index first second n cs ws starts used st
 
+-- ---- where the buffer's room is known
+abbrev measured : tie.After-room → tie.After-starts
+measured r = r .before
+
+-- the words needed, and that there is room for an index of so many
+abbrev needed : tie.After-room → ℕ
+needed r = getD (starts (measured r)) (n (measured r) + 1) 0
+
+fits : (r : tie.After-room) → needed r ≤ r .room .result → needed r ≤ indexRoom (length (old (measured r)))
+fits r h = omega (arith, h, r .room .ensures, ap (λ (l : List ℕ). indexRoom (length l)) (same (measured r)))
+
 add-count : tie.Need-add-count
 add-count c = search needs
 
@@ -101,40 +114,50 @@ mul-need c = search needs
 array-read-need : tie.Need-array-read-need
 array-read-need c = search needs
 
+room-requires : tie.Need-room-requires
+room-requires c κs = search needs
+
 same-length : tie.Need-same-length
 same-length c = search needs
 
 returns : tie.Need-returns
 returns c =
-    let s = c .before in
-    record { need-is = need s; fits = λ h. absurd (omega (arith, c .if1 .taken, ap length (same s))); lacks = λ h. same s }
+    let r = c .before in
+    let s = measured r in
+    record {
+      need-is = need s;
+      fits = λ h. absurd (omega (arith, c .if1 .taken, r .room .ensures, ap (λ (l : List ℕ). indexRoom (length l)) (same s)));
+      lacks = λ h. same s;
+    }
 
 rows-requires : tie.Need-rows-requires
 rows-requires c κs = search needs
 
 format-requires : tie.Need-format-requires
-format-requires c κs = cs (c .before .before) .facts .head .head
+format-requires c κs = cs (measured (c .before .before)) .facts .head .head
 
 slice-aggregate-write-contents : tie.Need-slice-aggregate-write-contents
 slice-aggregate-write-contents c = search needs
 
 write-contents-requires : tie.Need-write-contents-requires
 write-contents-requires c κs =
-    let s = c .before .before .before .before .before in
-    let fits = c .before .before .before .before .if1 .left in
-    let l = in-order s _ fits in (
+    let r = c .before .before .before .before .before in
+    let s = measured r in
+    let w = room-within (needed r) (length (old s)) (fits r (c .before .before .before .before .if1 .left)) in
+    let l = in-order s (length (old s)) (w .0) in (
       (
         omega (arith, cs s .few),
         l .many,
-        omega (arith, contents-fit (index s) (first s) (second s) (n s) (cs s) (ws s) (starts s) (used s) (st s), fits),
+        omega (
+          arith,
+          contents-fit (index s) (first s) (second s) (n s) (cs s) (ws s) (starts s) (used s) (st s),
+          w .0,
+          ap length (same s),
+        ),
       ),
       λ i h. (
         l .rising i (i + 1) (omega arith) (omega arith),
-        omega (
-          arith,
-          small (index s) (first s) (second s) (n s) (cs s) (ws s) (starts s) (used s) (st s) (i + 1) (omega arith),
-          cs s .few,
-        ),
+        omega (arith, l .rising (i + 1) (n s + 1) (omega arith) (omega arith), w .1),
       ),
     )
 
@@ -143,14 +166,20 @@ slice-aggregate-pass-2 c = search needs
 
 -- ---- where the contents are written
 module _ (h : tie.After-write-contents) where
+  abbrev here : tie.After-room
+  here = h .before .before .before .before .before .before
+
   abbrev laid-out : tie.After-starts
-  laid-out = h .before .before .before .before .before .before
+  laid-out = measured here
 
   abbrev mid : List ℕ
   mid = h .write-contents .last .1 .0
 
-  room : getD (starts laid-out) (n laid-out + 1) 0 ≤ length (old laid-out)
-  room = omega (arith, h .before .before .before .before .before .if1 .left, ap length (same laid-out))
+  within : needed here ≤ indexRoom (length (old laid-out))
+  within = fits here (h .before .before .before .before .before .if1 .left)
+
+  room : needed here ≤ length (old laid-out)
+  room = room-within (needed here) (length (old laid-out)) within .0
 
   headed :
       let s = laid-out in
@@ -186,7 +215,7 @@ returns-2 c =
     let out =
     written (index s) (first s) (second s) (n s) (cs s) (ws s) (starts s) (used s) (st s) (old s) (mid h) _ _ (room h)
     (headed h) (c .before .before .pass2 .ensures) in
-    record { need-is = need s; fits = λ l. out; lacks = λ l. absurd (omega (arith, room h)) }
+    record { need-is = need s; fits = λ l. out; lacks = λ l. absurd (omega (arith, within h)) }
 
 pub sum-spec : {M : Type 1} → statement M
 sum-spec =
@@ -200,6 +229,7 @@ sum-spec =
     starts-requires
     mul-need
     array-read-need
+    room-requires
     same-length
     returns
     rows-requires
