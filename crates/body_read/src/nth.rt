@@ -15,7 +15,7 @@ pub fn nth(format: Format, body: &[u32], rows: u32, n: u32) -> Found
     ensures { λ r. ⌜ foundOf r ≡ askNth rows (rowsOf format (now (body .entry))) n ⌝ }
 {
     match format {
-        Format::Ewah => ewah_count::nth::nth(body, rows, n),
+        Format::Ewah => ewah_nth::nth::nth(body, rows, n),
         Format::Wah => wah_read::nth::nth(body, rows, n),
     }
 }

@@ -1,4 +1,4 @@
--- `ewah_count::nth::nth` meets its contract. The invariant: the walk stands at a marker, and with the set bits of the
+-- `ewah_nth::nth::nth` meets its contract. The invariant: the walk stands at a marker, and with the set bits of the
 -- segments behind passed so many are still ahead. By `nth-pad` a set bit past the last row is none.
 -- Assumes nothing.
 use borrow.Author.Needs.{needs}
@@ -17,14 +17,14 @@ use Rattle.meaning.specs.Demands.{IsNth}
 use Rattle.meaning.specs.Ewah.{segments, ewahRows}
 use Rattle.meaning.proofs.Walk.{At, Step, at-start, at-end}
 use Rattle.meaning.proofs.Asked.{ones-step, nth-step, nth-found, nth-pad, nth-past}
-use Rattle.ewah_count.specs.declared.nth.Sought.the-variants.{Here, Ahead}
+use Rattle.ewah_nth.specs.declared.nth.Sought.the-variants.{Here, Ahead}
 use Rattle.answers.specs.Told.{foundOf}
-use Rattle.ewah_count.specs.Seeking.{SoughtIn}
+use Rattle.ewah_nth.specs.Seeking.{SoughtIn}
 use Rattle.meaning.proofs.Parts.{part-is}
 use Rattle.meaning.proofs.RowWords.{segments-few}
 use Rattle.ewah.proofs.MarkerStep.{read-step}
-use Rattle.ewah_count.proofs.nth.nth.Statement.{statement}
-use Rattle.ewah_count.proofs.nth.nth.Tie as tie
+use Rattle.ewah_nth.proofs.nth.nth.Statement.{statement}
+use Rattle.ewah_nth.proofs.nth.nth.Tie as tie
 
 abbrev Inv-loop : tie.InvT-loop
 Inv-loop body rows n at₀ behind₀ ahead₀ at behind ahead =

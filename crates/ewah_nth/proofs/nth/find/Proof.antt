@@ -1,4 +1,4 @@
--- `ewah_count::nth::find` meets its contract. The invariant: with the bits of the first i words passed, so many set bits are still ahead.
+-- `ewah_nth::nth::find` meets its contract. The invariant: with the bits of the first i words passed, so many set bits are still ahead.
 -- Assumes nothing.
 use borrow.Author.Needs.{needs}
 use native.Mathlib.Omega.{arith}
@@ -13,8 +13,8 @@ use Rattle.meaning.specs.Segment.{ones, isSet}
 use Rattle.meaning.specs.Demands.{IsNth}
 use Rattle.meaning.proofs.Counted.{nth-holds}
 use Rattle.meaning.proofs.Counting.{ones-next, nth-word}
-use Rattle.ewah_count.proofs.nth.find.Statement.{statement}
-use Rattle.ewah_count.proofs.nth.find.Tie as tie
+use Rattle.ewah_nth.proofs.nth.find.Statement.{statement}
+use Rattle.ewah_nth.proofs.nth.find.Tie as tie
 
 abbrev Inv-loop : tie.InvT-loop
 Inv-loop ws k ahead₀ i₀ ahead i = (i ≤ length ws) × (ones 32 (take i ws) + ahead ≡ k)

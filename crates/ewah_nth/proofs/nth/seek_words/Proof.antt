@@ -1,4 +1,4 @@
--- `ewah_count::nth::seek_words` meets its contract: by `nth-part`, the bit found in a part is the one asked for of the words.
+-- `ewah_nth::nth::seek_words` meets its contract: by `nth-part`, the bit found in a part is the one asked for of the words.
 -- The invariant: with the bits of the first i words passed, so many set bits are still ahead.
 -- Assumes nothing.
 use borrow.Author.Needs.{needs}
@@ -13,8 +13,8 @@ use borrow.Rule.Slice.PartMut.{mid-len}
 use Rattle.meaning.specs.Segment.{ones, hasRow}
 use Rattle.meaning.specs.Demands.{IsNth}
 use Rattle.meaning.proofs.Counting.{ones-part, nth-part}
-use Rattle.ewah_count.proofs.nth.seek_words.Statement.{statement}
-use Rattle.ewah_count.proofs.nth.seek_words.Tie as tie
+use Rattle.ewah_nth.proofs.nth.seek_words.Statement.{statement}
+use Rattle.ewah_nth.proofs.nth.seek_words.Tie as tie
 
 abbrev Inv-loop : tie.InvT-loop
 Inv-loop ws k ahead₀ i₀ ahead i = (i ≤ length ws) × (ones 32 (take i ws) + ahead ≡ k)

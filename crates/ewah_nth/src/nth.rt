@@ -10,10 +10,10 @@ ghost use Rattle.meaning.specs.Laws.{EwahFacts};
 ghost use Rattle.meaning.specs.Answer.{askNth};
 ghost use Rattle.meaning.specs.Demands.{IsNth};
 ghost use Rattle.answers.specs.Told.{foundOf};
-ghost use Rattle.ewah_count.specs.Seeking.{SoughtIn};
-use crate::count;
+ghost use Rattle.ewah_nth.specs.Seeking.{SoughtIn};
 use answers::answer::Found;
 use ewah::marker;
+use ewah_count::count;
 use popcount::BLOCK;
 use words::bits;
 

@@ -1,4 +1,4 @@
--- `ewah_count::nth::seek` meets its contract: the clean run is passed first, and then the dirty words.
+-- `ewah_nth::nth::seek` meets its contract: the clean run is passed first, and then the dirty words.
 -- Assumes nothing.
 use Prim.Native.Nat.{ℕ, _+_, _-_, _*_, _<_}
 use mathlib.Core.Path.{_≡_}
@@ -9,12 +9,12 @@ use lib.ListN.{length, take, drop, replicate, length-replicate}
 use Rattle.meaning.specs.Segment.{ones, fill, hasRow}
 use Rattle.meaning.specs.Demands.{IsNth}
 use Rattle.meaning.proofs.Counting.{ones-append, nth-left, nth-right, nth-run}
 use Rattle.ewah_count.proofs.Passing.{none-set}
-use Rattle.ewah_count.specs.declared.nth.Sought.the-variants.{Here, Ahead}
+use Rattle.ewah_nth.specs.declared.nth.Sought.the-variants.{Here, Ahead}
 use native.Mathlib.Omega.{arith}
 use borrow.Author.Needs.{needs}
-use Rattle.ewah_count.proofs.nth.seek.Statement.{statement}
-use Rattle.ewah_count.proofs.nth.seek.Tie as tie
+use Rattle.ewah_nth.proofs.nth.seek.Statement.{statement}
+use Rattle.ewah_nth.proofs.nth.seek.Tie as tie
 
 -- the set row with k set rows before it, of a run with words behind it
 module _ (clean value : ℕ) (ws : List ℕ) where

@@ -6,8 +6,8 @@ use mathlib.Core.List.{List}
 use lib.ListN.{length}
 use Rattle.meaning.specs.Segment.{hasRow, ones}
 use Rattle.meaning.specs.Demands.{IsNth}
-use Rattle.ewah_count.specs.declared.nth.Sought.{Sought}
-use Rattle.ewah_count.specs.declared.nth.Sought.the-variants.{Here, Ahead}
+use Rattle.ewah_nth.specs.declared.nth.Sought.{Sought}
+use Rattle.ewah_nth.specs.declared.nth.Sought.the-variants.{Here, Ahead}
 
 -- in these segments: the set row with k set rows before it, or how many of k are left when all of theirs are passed
 abbrev pub SoughtIn : List ℕ → (k : ℕ) → Sought → Type 0
