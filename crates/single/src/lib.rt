@@ -1,3 +1,2 @@
-// Questions on one body or one bitmap once its check has passed: what is left to be refused, 8 and 9, and the answer.
-pub mod bitmap;
+// Questions on one body once its check has passed: what is left to be refused, 8 and 9, and the answer.
 pub mod body;

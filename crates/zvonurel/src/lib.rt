@@ -125,7 +125,7 @@ pub fn bitmap_refusal(index: &[u32], k: u32) -> Checked
     let checked = check(index);
     match checked {
         Checked::Refused(refusal) => Checked::Refused(refusal),
-        Checked::Sound => single::bitmap::check_number(index, k),
+        Checked::Sound => bitmaps::check_number(index, k),
     }
 }
 
@@ -152,7 +152,7 @@ pub fn row(index: &[u32], k: u32, row: u32) -> Flag
     let checked = bitmap_refusal(index, k);
     match checked {
         Checked::Refused(refusal) => Flag::Refused(refusal),
-        Checked::Sound => single::bitmap::row(index, k, row),
+        Checked::Sound => bitmaps::row(index, k, row),
     }
 }
 
@@ -163,7 +163,7 @@ pub fn count(index: &[u32], k: u32) -> Number
     let checked = bitmap_refusal(index, k);
     match checked {
         Checked::Refused(refusal) => Number::Refused(refusal),
-        Checked::Sound => Number::Is(single::bitmap::count(index, k)),
+        Checked::Sound => Number::Is(bitmaps::count(index, k)),
     }
 }
 
@@ -174,7 +174,7 @@ pub fn nth(index: &[u32], k: u32, n: u32) -> Number
     let checked = bitmap_refusal(index, k);
     match checked {
         Checked::Refused(refusal) => Number::Refused(refusal),
-        Checked::Sound => single::bitmap::nth(index, k, n),
+        Checked::Sound => bitmaps::nth(index, k, n),
     }
 }
 
@@ -186,7 +186,7 @@ pub fn expand_bitmap(index: &[u32], k: u32, out: &mut [u32]) -> Written
     let checked = bitmap_refusal(index, k);
     match checked {
         Checked::Refused(refusal) => Written::Refused(refusal),
-        Checked::Sound => single::bitmap::plain(index, k, out),
+        Checked::Sound => bitmaps::plain(index, k, out),
     }
 }
 
@@ -198,7 +198,7 @@ pub fn rewrite_bitmap(index: &[u32], k: u32, to: Format, out: &mut [u32]) -> Wri
     let checked = bitmap_refusal(index, k);
     match checked {
         Checked::Refused(refusal) => Written::Refused(refusal),
-        Checked::Sound => single::bitmap::rewrite(index, k, to, out),
+        Checked::Sound => bitmaps::rewrite(index, k, to, out),
     }
 }
 

@@ -1,5 +1,5 @@
 -- `zvonurel::count` meets its contract: the bitmap's refusal; or, by `known-index`, a bitmap of a sound index, and then
--- `single::bitmap::count`. Assumes nothing.
+-- `bitmaps::count`. Assumes nothing.
 use mathlib.Core.Path.{ap}
 use denote.Ref.{now}
 use borrow.Author.Needs.{needs}

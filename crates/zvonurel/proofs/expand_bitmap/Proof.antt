@@ -1,5 +1,5 @@
 -- `zvonurel::expand_bitmap` meets its contract: the bitmap's refusal; or, by `known-index`, a bitmap of a sound index, and then
--- `single::bitmap::plain`. Assumes nothing.
+-- `bitmaps::plain`. Assumes nothing.
 use denote.Ref.{now}
 use lib.ListN.{length}
 use borrow.Author.Needs.{needs}

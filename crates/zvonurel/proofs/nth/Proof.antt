@@ -1,5 +1,5 @@
 -- `zvonurel::nth` meets its contract: the bitmap's refusal; or, by `known-index`, a bitmap of a sound index, and then
--- `single::bitmap::nth`. Assumes nothing.
+-- `bitmaps::nth`. Assumes nothing.
 use denote.Ref.{now}
 use borrow.Author.Needs.{needs}
 use Rattle.meaning.specs.Index.{rowCount, rowsAt}

@@ -1,5 +1,5 @@
 -- `zvonurel::rewrite_bitmap` meets its contract: the bitmap's refusal; or, by `known-index`, a bitmap of a sound index, and then
--- `single::bitmap::rewrite`. Assumes nothing.
+-- `bitmaps::rewrite`. Assumes nothing.
 use denote.Ref.{now}
 use lib.ListN.{length}
 use borrow.Author.Needs.{needs}

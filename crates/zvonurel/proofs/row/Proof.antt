@@ -1,5 +1,5 @@
 -- `zvonurel::row` meets its contract: the bitmap's refusal; or, by `known-index`, a bitmap of a sound index, and then
--- `single::bitmap::row`. Assumes nothing.
+-- `bitmaps::row`. Assumes nothing.
 use denote.Ref.{now}
 use borrow.Author.Needs.{needs}
 use Rattle.meaning.specs.Index.{formatOf, rowCount, bodyAt}

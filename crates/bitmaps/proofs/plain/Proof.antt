@@ -1,4 +1,4 @@
--- `single::bitmap::rewrite` meets its contract: `single::body::rewrite` of the bitmap's body. Assumes nothing.
+-- `bitmaps::plain` meets its contract: `plain::expand::plain` of the bitmap's body. Assumes nothing.
 use Prim.Native.Nat.{ℕ}
 use mathlib.Core.Path.{subst}
 use mathlib.Core.List.{List}
@@ -6,11 +6,11 @@ use lib.ListN.{length}
 use denote.Ref.{now}
 use Rattle.meaning.specs.Refusal.{Outcome}
 use Rattle.answers.specs.Told.{Wrote}
-use Rattle.meaning.specs.Answer.{write}
-use Rattle.single.proofs.Numbers.{rows-as, facts-as, asked-as}
+use Rattle.meaning.specs.Answer.{askPlain}
+use Rattle.bitmaps.proofs.Numbers.{rows-as, facts-as, asked-as}
 use borrow.Author.Needs.{needs}
-use Rattle.single.proofs.bitmap.rewrite.Statement.{statement}
-use Rattle.single.proofs.bitmap.rewrite.Tie as tie
+use Rattle.bitmaps.proofs.plain.Statement.{statement}
+use Rattle.bitmaps.proofs.plain.Tie as tie
 
 format-requires : tie.Need-format-requires
 format-requires c κs = c .before .before .pre .0 .head .head
@@ -21,8 +21,8 @@ body-requires c κs = let s = c .before .before .before in (s .pre .0 .head, (s 
 rows-requires : tie.Need-rows-requires
 rows-requires c κs = c .before .before .before .before .pre .0 .head .head
 
-rewrite-requires : tie.Need-rewrite-requires
-rewrite-requires c κs =
+plain-requires : tie.Need-plain-requires
+plain-requires c κs =
     let s = c .before .before .before .before .before .before in
     (rows-as (now (s .args .index)) (s .args .k) (s .pre .0) (s .pre .1) _ (c .before .rows .ensures), facts-as (now (s .args .index)) (s .args .k) (s .pre .0) (s .pre .1) _ _ _ (c .before .before .before .format .ensures) (c .before .rows .ensures) (c .before .before .body .ensures .0))
 
@@ -34,12 +34,12 @@ returns c =
     let x = c .before .before in
     let s = x .before .before .before .before .before .before .before in
     let a = s .args in
-    subst (λ (o : Outcome (List ℕ)). Wrote o (x .rewrite .result) (now (a .out)) (x .rewrite .last .1 .1 .1 .1 .0))
-    (asked-as (now (a .index)) (a .k) (s .pre .0) (s .pre .1) (Outcome (List ℕ)) (λ R p. write (a .to) R p (length (now (a .out)))) _ _ _
+    subst (λ (o : Outcome (List ℕ)). Wrote o (x .plain .result) (now (a .out)) (x .plain .last .1 .1 .1 .0))
+    (asked-as (now (a .index)) (a .k) (s .pre .0) (s .pre .1) (Outcome (List ℕ)) (λ R p. askPlain R p (length (now (a .out)))) _ _ _
     (x .before .before .before .before .format .ensures) (x .before .before .rows .ensures) (x .before .before .before .body .ensures .0))
-    (x .rewrite .ensures)
+    (x .plain .ensures)
 
-pub rewrite-spec : {M : Type 1} → statement M
-rewrite-spec =
+pub plain-spec : {M : Type 1} → statement M
+plain-spec =
     tie.close
-    (tie.spec format-requires body-requires rows-requires rewrite-requires same-length returns)
+    (tie.spec format-requires body-requires rows-requires plain-requires same-length returns)

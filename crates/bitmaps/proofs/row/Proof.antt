@@ -1,12 +1,12 @@
--- `single::bitmap::row` meets its contract: `single::body::row` of the bitmap's body. Assumes nothing.
+-- `bitmaps::row` meets its contract: `single::body::row` of the bitmap's body. Assumes nothing.
 use mathlib.Core.Path.{_∙_}
 use denote.Ref.{now}
 use Rattle.meaning.specs.Refusal.{Outcome}
 use Rattle.meaning.specs.Answer.{askRow}
 use Rattle.meaning.specs.declared.Row.{Row}
-use Rattle.single.proofs.Numbers.{rows-as, facts-as, written-as}
-use Rattle.single.proofs.bitmap.row.Statement.{statement}
-use Rattle.single.proofs.bitmap.row.Tie as tie
+use Rattle.bitmaps.proofs.Numbers.{rows-as, facts-as, written-as}
+use Rattle.bitmaps.proofs.row.Statement.{statement}
+use Rattle.bitmaps.proofs.row.Tie as tie
 
 format-requires : tie.Need-format-requires
 format-requires c κs = c .before .pre .0 .head .head

@@ -1,10 +1,10 @@
--- `single::bitmap::check_number` meets its contract: `number-bad` or `number-good`, by the number of bitmaps that was read. Assumes nothing.
+-- `bitmaps::check_number` meets its contract: `number-bad` or `number-good`, by the number of bitmaps that was read. Assumes nothing.
 use mathlib.Core.Path.{ap, _∙_}
 use Rattle.answers.specs.Told.{refusedBy, verdictOf}
-use Rattle.single.proofs.Numbers.{number-bad, number-good}
+use Rattle.bitmaps.proofs.Numbers.{number-bad, number-good}
 use borrow.Author.Needs.{needs}
-use Rattle.single.proofs.bitmap.check_number.Statement.{statement}
-use Rattle.single.proofs.bitmap.check_number.Tie as tie
+use Rattle.bitmaps.proofs.check_number.Statement.{statement}
+use Rattle.bitmaps.proofs.check_number.Tie as tie
 
 bitmaps-requires : tie.Need-bitmaps-requires
 bitmaps-requires c κs = search needs

@@ -9,7 +9,6 @@ ghost use Rattle.meaning.specs.Index.{formatOf, rowCount, bitmapCount, bodyAt, 
 ghost use Rattle.meaning.specs.Laws.{IndexFacts};
 ghost use Rattle.meaning.specs.Answer as meaning;
 ghost use Rattle.answers.specs.Told.{verdictOf, flagOf, numberOf, Wrote};
-use crate::body;
 use answers::answer;
 use answers::answer::Flag;
 use answers::answer::Number;
@@ -17,6 +16,7 @@ use answers::answer::Written;
 use answers::refusal::Checked;
 use body_read::count;
 use meaning::Format;
+use single::body;
 
 // Whether an index has a bitmap k; 8 where it has not.
 pub fn check_number(index: &[u32], k: u32) -> Checked
