@@ -24,7 +24,7 @@ use Rattle.answers.specs.declared.answer.Written.the-variants as written
 use Rattle.answers.specs.Told.{refusedBy, refusal, Wrote}
 use Rattle.answers.proofs.Tells.{wrote-refused, wrote-none, wrote-words}
 use Rattle.pairs.specs.Passes.{Columns}
-use Rattle.pairs.specs.Sums.{SumWritten}
+use Rattle.column_sum.specs.Sums.{SumWritten}
 
 -- ---- a list
 

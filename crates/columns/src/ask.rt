@@ -15,11 +15,11 @@ use answers::answer;
 use answers::answer::Value;
 use answers::answer::Written;
 use answers::refusal::Checked;
+use column_sum::sum;
 use lists::ask;
 use meaning::LEAST_COLUMN;
 use meaning::MOST_COLUMN;
 use meaning::MOST_VALUE_COLUMN;
-use pairs::sum;
 
 // Whether a list has too few or too many numbers for a column, or names a bitmap that is not there.
 fn column_is_bad(index: &[u32], list: &[u32], most: usize) -> bool

@@ -4,4 +4,3 @@ pub mod Blocks
 pub mod Rows
 pub mod Evenly
 pub mod Passing
-pub mod Summing

@@ -1,11 +1,11 @@
 // The sum of two columns of a sound index, as a new index.
 ghost use Rattle.pairs.specs.Passes.{Columns};
-ghost use Rattle.pairs.specs.Sums.{SumWritten};
-use crate::pass;
+ghost use Rattle.column_sum.specs.Sums.{SumWritten};
 use meaning::ENTRY_WORDS;
 use meaning::HEAD_WORDS;
 use meaning::MOST_STARTS;
 use new_index::layout;
+use pairs::pass;
 
 // The words that the index of n slices takes; it is written where there is room for it, and else nothing is. Bodies are measured first,
 // since each lies behind those before it.

@@ -24,8 +24,8 @@ use Rattle.new_index.specs.Writers.{writerOf, region, Laid}
 use Rattle.new_index.specs.Layouts.{StartsOf, Headed}
 use Rattle.new_index.proofs.Regions.{region-length}
 use Rattle.new_index.proofs.LaidOut.{assembled-out, contents-are}
 use Rattle.pairs.specs.Passes.{Columns, bodyOf, PassedTo}
-use Rattle.pairs.specs.Sums.{sumIndex}
+use Rattle.column_sum.specs.Sums.{sumIndex}
 
 -- places that are all 0 are in order
 pub nowhere-laid : (zs : List ℕ) (count n : ℕ) → count < length zs → ((i : ℕ) → getD zs i 0 ≡ 0) → Laid zs count n

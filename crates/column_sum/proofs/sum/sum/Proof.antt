@@ -1,4 +1,4 @@
--- `pairs::sum::sum` meets its contract: measured, laid out, and written where it fits.
+-- `column_sum::sum::sum` meets its contract: measured, laid out, and written where it fits.
 -- Assumes nothing.
 use Prim.Native.Nat.{ℕ, _+_, _*_, _≤_}
 use mathlib.Core.Path.{_≡_, ap}
@@ -13,12 +13,12 @@ use Rattle.meaning.specs.NewIndex.{indexRoom}
 use Rattle.meaning.proofs.NewIndexes.{room-within}
 use Rattle.new_index.specs.Layouts.{StartsOf, Headed}
 use Rattle.new_index.specs.Writers.{writerOf, Laid}
 use Rattle.pairs.specs.Passes.{Columns, bodyOf}
-use Rattle.pairs.specs.Sums.{sumIndex}
+use Rattle.column_sum.specs.Sums.{sumIndex}
 use Rattle.pairs.proofs.Rows.{zeros}
-use Rattle.pairs.proofs.Summing.{nowhere-laid, nothing-kept, none-stored, headed-as, body-low, need-is, laid, contents-fit, exact, written}
-use Rattle.pairs.proofs.sum.sum.Statement.{statement}
-use Rattle.pairs.proofs.sum.sum.Tie as tie
+use Rattle.column_sum.proofs.Summing.{nowhere-laid, nothing-kept, none-stored, headed-as, body-low, need-is, laid, contents-fit, exact, written}
+use Rattle.column_sum.proofs.sum.sum.Statement.{statement}
+use Rattle.column_sum.proofs.sum.sum.Tie as tie
 
 -- ---- where the bodies are measured and laid out
 module _ (s : tie.After-starts) where
