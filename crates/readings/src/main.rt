@@ -70,13 +70,10 @@ fn none_set(rows: u32, index: &[u32]) {
     reading(rows, written, &out, 0, 16);
 }
 
-// An index whose bitmap is a run of 8 segments, eight runs of 65,535, and a last marker.
-fn most_rows(rows: u32, last: u32) {
+// An index whose bitmap is a run of 8 segments, and eight runs of 65,535.
+fn sixteen_million(rows: u32) {
     let f = 0x0001_FFFF;
-    none_set(
-        rows,
-        &[1, rows, 1, 5, 10, 0x11, f, f, f, f, f, f, f, f, last],
-    );
+    none_set(rows, &[1, rows, 1, 5, 9, 0x11, f, f, f, f, f, f, f, f]);
 }
 
 // Only the length is told, so that the prover never spells the words out.
@@ -84,6 +81,21 @@ fn filled(x: u32) -> [u32; 32770]
     ensures { λ r. ⌜ 32770 ≡ length r ⌝ }
 {
     [x; 32770]
+}
+
+// The most rows: a run of 512 segments, 512 runs of 65,535, and a last marker.
+fn most_rows(rows: u32, last: u32) {
+    let mut index = filled(0x0001_FFFF);
+    let mut out = filled(0);
+    index[0] = 1;
+    index[1] = rows;
+    index[2] = 1;
+    index[3] = 5;
+    index[4] = 514;
+    index[5] = 0x0000_0401;
+    index[518] = last;
+    let written = zvonurel::xor(&index[0..519], 0, 0, &mut out);
+    reading(rows, written, &out, 510, 513);
 }
 
 // Rows 0, 32, 64 and so on: n mixed segments. (A range up to a large literal, in place of n, costs the prover by its
@@ -101,11 +113,15 @@ fn main() {
     // Runs of 1 and 65,535 segments; of 0 and 65,535.
     none_set(2097152, &[1, 2097152, 1, 5, 2, 0x0000_0003, 0x0001_FFFF]);
     none_set(2097120, &[1, 2097120, 1, 5, 2, 0x0000_0001, 0x0001_FFFF]);
+    sixteen_million(16777216);
     // The last marker is empty; with one row more it has the last segment, so that nothing but the rows is wrong.
-    most_rows(16777216, 0x0000_0000);
-    most_rows(16777217, 0x0000_0002);
+    most_rows(1073741824, 0x0000_0000);
+    most_rows(1073741825, 0x0000_0002);
+    // In WAH one fill has them all.
+    none_set(1073741824, &[2, 1073741824, 1, 5, 1, 0xC210_8422]);
+    none_set(1073741825, &[2, 1073741825, 1, 5, 1, 0xC210_8422]);
     every_32nd(1048544, 32767, 0, 2);
     every_32nd(1048576, 32768, 32768, 32770);
     // Plain words are refused for too many rows before their own number is.
-    every_32nd(16777217, 32770, 0, 0);
+    every_32nd(1073741825, 32770, 0, 0);
 }
