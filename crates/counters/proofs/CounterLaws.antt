@@ -6,10 +6,10 @@ use mathlib.Core.Path.{_≡_, refl, sym, ap, ap₂, _∙_}
 use mathlib.Core.List.{List, [], _∷_}
 use lib.Dec.{eqb, leb}
 use lib.ListN.{length, getD, set, drop, length-set}
-use lib.Pow.{pow-pos, shr-shr}
+use lib.Pow.{shr-shr}
 use lib.Seq.{drop-cons}
 use lib.Bits.{bitAnd, bitXor}
-use native.Mathlib.Nat.{pow-suc, div-one, div-eq-of-lt, div-add-mod', mod-lt}
+use native.Mathlib.Nat.{pow-suc, div-one, div-eq-of-lt}
 use native.Mathlib.Numerals.{add-one}
 use native.Mathlib.Omega.{arith}
 use borrow.Author.Tests.{ne-eqb}
@@ -83,12 +83,6 @@ none-from ps k j h = go (countAt (drop k ps) j) (part-le ps k j)
     go : (n : ℕ) → n * 2 ^ k ≤ countAt ps j → n ≡ 0
     go zero l = refl
     go (suc n) l = absurd (omega arith)
-
--- a number whose digits end before k is below 2 ^ k
-pub short-digits : (m k : ℕ) → m / 2 ^ k ≡ 0 → m < 2 ^ k
-short-digits m k e =
-    let all : 0 * 2 ^ k + m % 2 ^ k ≡ m = rw e at (div-add-mod' m (2 ^ k)) in
-    omega (arith, all, mod-lt m {m = 2 ^ k} (pow-pos k))
 
 -- the digits of t from k on
 digits-from : (t k : ℕ) → t / 2 ^ k ≡ t / 2 ^ k % 2 + 2 * (t / 2 ^ (k + 1))

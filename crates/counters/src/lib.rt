@@ -9,6 +9,8 @@ ghost use Rattle.meaning.specs.Limits.{mostNamed, histogramCounts, counterPlane
 ghost use Rattle.meaning.specs.Rows.{countBelow};
 ghost use Rattle.meaning.specs.Segment.{bitAt, isSet};
 ghost use Rattle.counters.specs.Counters.{countAt};
+use meaning::FEW_COUNTED;
+use meaning::FEW_PLANES;
 use meaning::HISTOGRAM_COUNTS;
 use meaning::PLANES;
 use words::bits;
@@ -31,8 +33,8 @@ pub fn add(planes: [u32; PLANES], x: u32) -> [u32; PLANES]
     r
 }
 
-// The rows whose counter is at least t, where no counter passes `most`: the planes behind the digits of `most` are empty, and are
-// not read, so that few bitmaps are counted in few planes.
+// The rows whose counter is at least t, where no counter passes `most`: of few bitmaps the higher planes are empty, and are not
+// read.
 pub fn at_least(planes: [u32; PLANES], most: u32, t: u32) -> u32
     requires { ⌜ (most ≤ mostCounted) × ((j : ℕ) → j < 32 → countAt planes j ≤ most) ⌝ }
     ensures { λ r. ⌜ ((j : ℕ) → j < 32 → isSet r j ≡ leb t (countAt planes j)) ⌝ }
@@ -42,8 +44,10 @@ pub fn at_least(planes: [u32; PLANES], most: u32, t: u32) -> u32
     }
     let mut r: u32 = 0xFFFF_FFFF;
     for k in 0..PLANES {
-        if most >> k == 0 {
-            return r;
+        if k == FEW_PLANES {
+            if most <= FEW_COUNTED {
+                return r;
+            }
         }
         if (t >> k) & 1 == 1 {
             r = r & planes[k];
@@ -64,8 +68,10 @@ pub fn equals(planes: [u32; PLANES], most: u32, t: u32) -> u32
     }
     let mut r: u32 = 0xFFFF_FFFF;
     for k in 0..PLANES {
-        if most >> k == 0 {
-            return r;
+        if k == FEW_PLANES {
+            if most <= FEW_COUNTED {
+                return r;
+            }
         }
         if (t >> k) & 1 == 1 {
             r = r & planes[k];

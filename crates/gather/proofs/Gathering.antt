@@ -9,7 +9,7 @@ use native.Mathlib.Omega.{arith}
 use borrow.Author.Count.{below-more}
 use borrow.Author.Tests.{eq-eqb, ne-eqb}
 use lib.ListN.{length, getD}
-use Rattle.meaning.specs.Limits.{blockSegments, blockWords, placeNumbers, queryNumbers}
+use Rattle.meaning.specs.Limits.{blockSegments, blockWords, placeNumbers}
 use Rattle.meaning.specs.Format.{segmentsOf}
 use Rattle.meaning.specs.declared.Format.{Format}
 use Rattle.ewah.specs.declared.cursor.Cursor.{Cursor}
@@ -50,7 +50,7 @@ within-row false n i few l = omega (arith, few refl)
 module _ (F : Format) (index list was : List ℕ) (n : ℕ) (even : Bool) (x₀ : List ℕ) where
   -- the first m places went on, and their rows are taken; later places stay, and the words behind these rows
   pub record Gathering (m : ℕ) (ns x : List ℕ) : Type 0 where
-    pub long : length ns ≡ queryNumbers
+    pub long : length ns ≡ length was
     pub rows-long : length x ≡ blockWords
     pub later : (k : ℕ) → m ≤ k → cursorOf ns k ≡ cursorOf was k
     pub on : (k : ℕ) → k < m → (o : ℕ) → CursorAt F (placeBody index list k) o (cursorOf was k)
@@ -60,9 +60,9 @@ module _ (F : Format) (index list was : List ℕ) (n : ℕ) (even : Bool) (x₀ 
     pub rest : (i : ℕ) → m * blockSegments ≤ i → getD x i 0 ≡ getD x₀ i 0
 
   -- no place did
-  pub gathering-none : length was ≡ queryNumbers → length x₀ ≡ blockWords → Gathering 0 was x₀
-  gathering-none a b = record {
-    long = a;
+  pub gathering-none : length x₀ ≡ blockWords → Gathering 0 was x₀
+  gathering-none b = record {
+    long = refl;
     rows-long = b;
     later = λ k l. refl;
     on = λ k l. absurd (omega arith);

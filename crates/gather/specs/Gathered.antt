@@ -5,7 +5,7 @@ use mathlib.Core.Bool.{Bool}
 use mathlib.Core.Path.{_≡_}
 use mathlib.Core.List.{List}
 use lib.ListN.{length, getD}
-use Rattle.meaning.specs.Limits.{blockSegments, blockWords, queryNumbers}
+use Rattle.meaning.specs.Limits.{blockSegments, blockWords}
 use Rattle.meaning.specs.Format.{segmentsOf}
 use Rattle.meaning.specs.declared.Format.{Format}
 use Rattle.ewah.specs.declared.cursor.Cursor.{Cursor}
@@ -30,7 +30,7 @@ pub record PlaceTaken (F : Format) (b ns : List ℕ) (k n : ℕ) (even : Bool) (
 
 -- every place of the list went n segments on, and row k of x′ has those of place k; rows behind the list's stay
 pub record Gathered (F : Format) (index list ns : List ℕ) (n : ℕ) (even : Bool) (x ns′ x′ : List ℕ) : Type 0 where
-  pub long : length ns′ ≡ queryNumbers
+  pub long : length ns′ ≡ length ns
   pub on : (o : ℕ) → Standing F index list ns (length list) o → Standing F index list ns′ (length list) (o + n)
   pub words : (o : ℕ) → Standing F index list ns (length list) o → (k i : ℕ) → k < length list → i < n
       → wordAt even x′ (k * blockSegments) i ≡ getD (segmentsOf F (placeBody index list k)) (o + i) 0

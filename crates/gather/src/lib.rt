@@ -4,23 +4,22 @@ ghost use mathlib.Core.Bool.{true, false};
 ghost use mathlib.Core.Path.{_≡_};
 ghost use Prim.Native.Nat.{ℕ, _≤_, _<_};
 ghost use lib.ListN.{length};
-ghost use Rattle.meaning.specs.Limits.{mostNamed, mostValueColumn, blockSegments, blockWords, queryNumbers};
+ghost use Rattle.meaning.specs.Limits.{mostNamed, mostValueColumn, blockSegments, blockWords};
 ghost use Rattle.meaning.specs.Index.{formatOf, bitmapCount, bodyAt};
 ghost use Rattle.meaning.specs.Laws.{HeadFacts, EntryFacts};
 ghost use Rattle.ewah.specs.Cursors.{leftOf};
-ghost use Rattle.walk.specs.Queries.{cursorOf, Listed};
+ghost use Rattle.walk.specs.Queries.{cursorOf, PlaceIn, PlacesIn, Listed};
 ghost use Rattle.gather.specs.Gathered.{StandsBefore, StandingBefore, PlaceTaken, Gathered};
 use meaning::BLOCK_SEGMENTS;
 use meaning::BLOCK_WORDS;
 use meaning::Format;
 use meaning::PLACE_NUMBERS;
-use meaning::QUERY_NUMBERS;
 use walk::query;
 use walk::survey;
 
 // How many segments the piece at place k has left, from its two numbers.
-fn left(numbers: &[u32; QUERY_NUMBERS], k: usize) -> u32
-    requires { ⌜ (k < mostNamed) × (length (now numbers) ≡ queryNumbers) ⌝ }
+fn left(numbers: &[u32], k: usize) -> u32
+    requires { ⌜ (k < mostNamed) × PlaceIn (now numbers) k ⌝ }
     ensures { λ r. ⌜ r ≡ leftOf (cursorOf (now (numbers .entry)) k .piece) ⌝ }
 {
     let at = PLACE_NUMBERS * k;
@@ -32,8 +31,8 @@ fn left(numbers: &[u32; QUERY_NUMBERS], k: usize) -> u32
 }
 
 // The fewest segments that one of the first `len` places has left in its piece; no place has fewer.
-pub fn nearest(numbers: &[u32; QUERY_NUMBERS], len: usize) -> u32
-    requires { ⌜ (len ≤ mostNamed) × (length (now numbers) ≡ queryNumbers) ⌝ }
+pub fn nearest(numbers: &[u32], len: usize) -> u32
+    requires { ⌜ (len ≤ mostNamed) × PlacesIn (now numbers) len ⌝ }
     ensures { λ r. ⌜ ((k : ℕ) → k < len → r ≤ leftOf (cursorOf (now (numbers .entry)) k .piece)) ⌝ }
 {
     let mut least: u32 = 0xFFFF_FFFF;
@@ -50,7 +49,7 @@ fn take_place(
     format: Format,
     index: &[u32],
     b: u32,
-    numbers: &mut [u32; QUERY_NUMBERS],
+    numbers: &mut [u32],
     k: usize,
     n: u32,
     even: bool,
@@ -59,7 +58,7 @@ fn take_place(
     requires { ⌜ HeadFacts (now index) ⌝ }
     requires { ⌜ EntryFacts (now index) ⌝ }
     requires { ⌜ StandsBefore format (bodyAt (now index) b) (cursorOf (now numbers) k) n ⌝ }
-    requires { ⌜ (b < bitmapCount (now index)) × (k < mostValueColumn) × (length (now numbers) ≡ queryNumbers)
+    requires { ⌜ (b < bitmapCount (now index)) × (k < mostValueColumn) × PlaceIn (now numbers) k
         × (length (now x) ≡ blockWords) × (1 ≤ n)
         × (even ≡ true → n ≤ leftOf (cursorOf (now numbers) k .piece)) × (even ≡ false → n ≤ blockSegments) ⌝ }
     ensures { λ _. ⌜ PlaceTaken format (bodyAt (now (index .entry)) b) (now (numbers .entry)) k n even
@@ -83,7 +82,7 @@ pub fn gather(
     format: Format,
     index: &[u32],
     list: &[u32],
-    numbers: &mut [u32; QUERY_NUMBERS],
+    numbers: &mut [u32],
     n: u32,
     even: bool,
     x: &mut [u32; BLOCK_WORDS],
@@ -93,7 +92,7 @@ pub fn gather(
     requires { ⌜ EntryFacts (now index) ⌝ }
     requires { ⌜ Listed (now index) (now list) ⌝ }
     requires { ⌜ StandingBefore (formatOf (now index)) (now index) (now list) (now numbers) n ⌝ }
-    requires { ⌜ (length (now numbers) ≡ queryNumbers) × (length (now x) ≡ blockWords)
+    requires { ⌜ PlacesIn (now numbers) (length (now list)) × (length (now x) ≡ blockWords)
         × (length (now list) ≤ mostValueColumn) × (1 ≤ n)
         × (even ≡ true → (k : ℕ) → k < length (now list) → n ≤ leftOf (cursorOf (now numbers) k .piece))
         × (even ≡ false → n ≤ blockSegments) ⌝ }

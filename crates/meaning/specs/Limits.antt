@@ -49,6 +49,20 @@ placeNumbers = 4
 abbrev pub queryNumbers : ℕ
 queryNumbers = placeNumbers * mostNamed
 
+-- for short lists: the planes that few dirty words are compared in, and how many those are; the places of a query of its own, and
+-- its numbers
+abbrev pub fewPlanes : ℕ
+fewPlanes = 4
+
+abbrev pub fewCounted : ℕ
+fewCounted = 2 ^ fewPlanes - 1
+
+abbrev pub shortNamed : ℕ
+shortNamed = 64
+
+abbrev pub shortNumbers : ℕ
+shortNumbers = placeNumbers * shortNamed
+
 -- Request 1: the fewest numbers that name a column (existence and one slice), the most (existence and 32 slices), and the most
 -- where only a value is asked (existence and the 33 slices that a sum can have)
 abbrev pub leastColumn : ℕ

@@ -6,7 +6,7 @@ use mathlib.Core.Path.{_≡_, ap, ap₂, _∙_}
 use mathlib.Core.List.{List}
 use native.Mathlib.Omega.{arith}
 use lib.ListN.{length, getD}
-use Rattle.meaning.specs.Limits.{mostSegments, mostNamed, queryNumbers}
+use Rattle.meaning.specs.Limits.{mostSegments, mostNamed}
 use Rattle.meaning.specs.Segment.{segmentCount, lastRows, rowsIn, allSet, bitAt}
 use Rattle.meaning.specs.Format.{width, mostRun}
 use Rattle.meaning.specs.declared.Format.{Format}
@@ -20,7 +20,7 @@ use Rattle.ewah.specs.declared.cursor.Piece.the-variants.{Clean, Dirty}
 use Rattle.ewah.specs.Cursors.{ValueLow, leftOf}
 use Rattle.counters.specs.Counters.{countAt}
 use Rattle.walk.specs.declared.survey.Survey.{Survey}
-use Rattle.walk.specs.Queries.{cursorOf, Standing, placeBody}
+use Rattle.walk.specs.Queries.{cursorOf, PlacesIn, Standing, placeBody}
 use Rattle.walk.specs.Surveys.{onesIn, dirtyIn, bitIn, Surveyed, MovedAll}
 use Rattle.merge.specs.Merges.{Walkable, bodiesOf}
 use Rattle.merge.proofs.Stretched.{stretch, least-low, least-left}
@@ -57,7 +57,7 @@ bit-most (Dirty x) j = unfold bitAt in omega arith
 pub record Along (index list ns : List ℕ) (s : Survey) (o : ℕ) : Type 0 where
   pub here : o ≤ segmentCount (width (formatOf index)) (rowCount index)
   pub standing : Standing (formatOf index) index list ns (length list) o
-  pub long : length ns ≡ queryNumbers
+  pub long : PlacesIn ns (length list)
   pub surveyed : Surveyed ns (length list) s
 
 -- all that the body of a loop over stretches needs of the one that comes next
@@ -72,7 +72,7 @@ pub record NextStretch (index list ns : List ℕ) (s : Survey) (o : ℕ) : Type 
   pub counts-low : (j : ℕ) → j < 32 → countAt (s .planes) j ≤ s .dirty
 
 module _ {index list ns : List ℕ} {s : Survey} where
-  pub along-none : Standing (formatOf index) index list ns (length list) 0 → length ns ≡ queryNumbers
+  pub along-none : Standing (formatOf index) index list ns (length list) 0 → PlacesIn ns (length list)
       → Surveyed ns (length list) s → Along index list ns s 0
   along-none st n su = record { here = omega arith; standing = st; long = n; surveyed = su }
 
@@ -123,7 +123,7 @@ module _ {index list ns : List ℕ} {s : Survey} where
     along-more n mv = record {
       here = n .is .within;
       standing = mv .on o (g .standing);
-      long = mv .long ∙ g .long;
+      long = omega (arith, mv .long, g .long);
       surveyed = mv .surveyed;
     }
 

@@ -10,9 +10,15 @@ ghost use Rattle.meaning.specs.declared.Format.{Format};
 ghost use Rattle.meaning.specs.Index.{formatOf, rowCount};
 ghost use Rattle.meaning.specs.Question.{histogramOf};
 ghost use Rattle.counters.specs.Counters.{countAt};
+ghost use Rattle.walk.specs.Queries.{PlacesIn};
 ghost use Rattle.merge.specs.Merges.{Walkable, bodiesOf};
 ghost use Rattle.merge.specs.Histograms.{StretchCounted};
 use meaning::HISTOGRAM_COUNTS;
+use meaning::QUERY_NUMBERS;
+use meaning::SHORT_NAMED;
+use meaning::SHORT_NUMBERS;
+use walk::query::Query;
+use walk::query::ShortQuery;
 use walk::survey;
 use walk::survey::Survey;
 use words::bits;
@@ -40,9 +46,16 @@ fn count_stretch(counts: &mut [u32; HISTOGRAM_COUNTS], s: Survey, mask: u32, wid
     counts[k] = counts[k] + ((n - 1) * width + bits::count(mask));
 }
 
-// For each c from 0 to the most that a list can name the number of rows that exactly c of the list have.
-pub fn histogram(index: &[u32], list: &[u32]) -> [u32; HISTOGRAM_COUNTS]
+// For each c from 0 to the most that a list can name the number of rows that exactly c of the list have. The numbers have room
+// for a cursor for each of the list's `len` places.
+fn histogram_over(
+    index: &[u32],
+    list: &[u32],
+    numbers: &mut [u32],
+    len: usize,
+) -> [u32; HISTOGRAM_COUNTS]
     requires { ⌜ Walkable (now index) (now list) ⌝ }
+    requires { ⌜ PlacesIn (now numbers) (length (now list)) × (len ≡ length (now list)) ⌝ }
     ensures { λ r. ⌜ r ≡ histogramOf (rowCount (now (index .entry)))
         (map (rowsOf (formatOf (now (index .entry)))) (bodiesOf (now (index .entry)) (now (list .entry)))) ⌝ }
 {
@@ -52,17 +65,40 @@ pub fn histogram(index: &[u32], list: &[u32]) -> [u32; HISTOGRAM_COUNTS]
     let width = rows::width(format);
     let full = rows::full(format);
     let last = rows::last_mask(format, rows);
-    let mut q = survey::open(format, index, list);
-    let mut s = survey::all(q);
+    survey::open(format, index, list, numbers);
+    let mut s = survey::all(numbers, len);
     let mut counts: [u32; HISTOGRAM_COUNTS] = [0; HISTOGRAM_COUNTS];
     let mut o: u32 = 0;
     while o < segments {
         let n = s.least;
         let mask = rows::mask_before(full, last, segments, o + n);
         count_stretch(&mut counts, s, mask, width);
-        let t = survey::advance(format, index, list, &mut q.numbers, n);
+        let t = survey::advance(format, index, list, numbers, n);
         s = t;
         o += n;
     }
     counts
+}
+
+// The same, over a query that is no longer than it needs to be. (Its array is moved to a variable, since that can be lent as a
+// slice.)
+pub fn histogram(index: &[u32], list: &[u32]) -> [u32; HISTOGRAM_COUNTS]
+    requires { ⌜ Walkable (now index) (now list) ⌝ }
+    ensures { λ r. ⌜ r ≡ histogramOf (rowCount (now (index .entry)))
+        (map (rowsOf (formatOf (now (index .entry)))) (bodiesOf (now (index .entry)) (now (list .entry)))) ⌝ }
+{
+    if list.len() <= SHORT_NAMED {
+        let q = ShortQuery {
+            numbers: [0; SHORT_NUMBERS],
+            len: list.len(),
+        };
+        let mut numbers = q.numbers;
+        return histogram_over(index, list, &mut numbers, q.len);
+    }
+    let q = Query {
+        numbers: [0; QUERY_NUMBERS],
+        len: list.len(),
+    };
+    let mut numbers = q.numbers;
+    histogram_over(index, list, &mut numbers, q.len)
 }

@@ -6,7 +6,7 @@ use mathlib.Core.Path.{_≡_, refl, sym, ap, _∙_, subst}
 use mathlib.Core.List.{List, [], _++_}
 use lib.ListN.{length, getD, take, drop}
 use native.Mathlib.Omega.{arith}
-use Rattle.meaning.specs.Limits.{mostSegments, mostValueColumn, queryNumbers, blockSegments, writersNumbers}
+use Rattle.meaning.specs.Limits.{mostSegments, mostValueColumn, shortNumbers, blockSegments, writersNumbers}
 use Rattle.meaning.specs.Segment.{Segment, segmentCount, allSet, rowsIn}
 use Rattle.meaning.specs.Format.{width, mostRun, segmentsOf, wordsOf, canonical}
 use Rattle.meaning.specs.declared.Format.{Format}
@@ -39,13 +39,13 @@ S index = segmentCount (width (formatOf index)) (rowCount index)
 -- every cursor stands at segment o of its body
 pub record Walking (index list ns : List ℕ) (o : ℕ) : Type 0 where
   pub standing : Standing (formatOf index) index list ns (length list) o
-  pub long : length ns ≡ queryNumbers
+  pub long : length ns ≡ shortNumbers
 
 module _ {index list ns : List ℕ} {o : ℕ} (g : Walking index list ns o) where
   module _ {n : ℕ} {even : Bool} {x ns′ x′ : List ℕ}
       (gd : Gathered (formatOf index) index list ns n even x ns′ x′) where
     pub walking-on : Walking index list ns′ (o + n)
-    walking-on = record { standing = gd .on o (g .standing); long = gd .long }
+    walking-on = record { standing = gd .on o (g .standing); long = gd .long ∙ g .long }
 
     pub still-cleared : Cleared list x → Cleared list x′
     still-cleared z = record { long = gd .rows-long; past = λ i h. gd .rest i h ∙ z .past i h }

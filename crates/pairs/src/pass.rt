@@ -8,6 +8,7 @@ ghost use Rattle.pairs.specs.Passes.{Columns, bodyOf, PassedTo};
 use crate::choose;
 use crate::spell;
 use meaning::BLOCK_WORDS;
+use meaning::SHORT_NUMBERS;
 use new_index::writers;
 use new_index::writers::Writers;
 use walk::survey;
@@ -35,8 +36,10 @@ pub fn pass(
     let segments = rows::segments(format, rows);
     let full = rows::full(format);
     let last = rows::last_mask(format, rows);
-    let mut p = survey::open(format, index, first);
-    let mut q = survey::open(format, index, second);
+    let mut p: [u32; SHORT_NUMBERS] = [0; SHORT_NUMBERS];
+    let mut q: [u32; SHORT_NUMBERS] = [0; SHORT_NUMBERS];
+    survey::open(format, index, first, &mut p);
+    survey::open(format, index, second, &mut q);
     let mut ws = writers::start(format);
     let mut x: [u32; BLOCK_WORDS] = [0; BLOCK_WORDS];
     let mut y: [u32; BLOCK_WORDS] = [0; BLOCK_WORDS];
@@ -44,14 +47,14 @@ pub fn pass(
     let mut run = false;
     let mut o: u32 = 0;
     while o < segments {
-        let near = gather::nearest(&p.numbers, first.len());
-        let close = gather::nearest(&q.numbers, second.len());
+        let near = gather::nearest(&p, first.len());
+        let close = gather::nearest(&q, second.len());
         let s = choose::choose(survey::smaller(near, close), o, segments, run);
         let m = s.n;
         let even = s.even;
         let mask = rows::mask_before(full, last, segments, o + m);
-        gather::gather(format, index, first, &mut p.numbers, m, even, &mut x);
-        gather::gather(format, index, second, &mut q.numbers, m, even, &mut y);
+        gather::gather(format, index, first, &mut p, m, even, &mut x);
+        gather::gather(format, index, second, &mut q, m, even, &mut y);
         adder::sum(&x, &y, &mut z, n);
         spell::spell(&mut z, n + 1, m, even, mask, full);
         writers::emit_all(

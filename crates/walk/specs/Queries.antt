@@ -37,6 +37,13 @@ cursorOf ns i = record {
   dirty = getD ns (placeNumbers * i + 3) 0;
 }
 
+-- the numbers have room for place i, and for m places
+abbrev pub PlaceIn : List ℕ → (i : ℕ) → Type 0
+PlaceIn ns i = placeNumbers * i + 3 < length ns
+
+abbrev pub PlacesIn : List ℕ → (m : ℕ) → Type 0
+PlacesIn ns m = placeNumbers * m ≤ length ns
+
 -- the cursor c was put at place i, and the other places stay
 pub record Stored (ns : List ℕ) (i : ℕ) (c : Cursor) (ns′ : List ℕ) : Type 0 where
   pub long : length ns′ ≡ length ns

@@ -1,25 +1,32 @@
 // A query: the numbers of a cursor for each place of a list of bitmaps.
 ghost use mathlib.Core.Path.{_≡_};
 ghost use Prim.Native.Nat.{_<_};
-ghost use lib.ListN.{length};
-ghost use Rattle.meaning.specs.Limits.{mostNamed, queryNumbers};
+ghost use Rattle.meaning.specs.Limits.{mostNamed};
 ghost use Rattle.ewah.specs.Cursors.{ValueLow};
-ghost use Rattle.walk.specs.Queries.{cursorOf, tagOf, numberOf, Stored};
+ghost use Rattle.walk.specs.Queries.{cursorOf, tagOf, numberOf, PlaceIn, Stored};
 use ewah::cursor::Cursor;
 use ewah::cursor::Piece;
 use meaning::PLACE_NUMBERS;
 use meaning::QUERY_NUMBERS;
+use meaning::SHORT_NUMBERS;
 
 // Four numbers for each place of a list: what the cursor's piece is (its clean value, or 2 for a dirty word), what is left of
-// the run or the word, the next word, and the dirty words due there.
+// the run or the word, the next word, and the dirty words due there. The functions over them are lent the array as a slice, so
+// that they serve a query of any length.
 pub struct Query {
     pub numbers: [u32; QUERY_NUMBERS],
     pub len: usize,
 }
 
+// The same for a short list: less is cleared for it.
+pub struct ShortQuery {
+    pub numbers: [u32; SHORT_NUMBERS],
+    pub len: usize,
+}
+
 // The cursor at place i.
-pub fn cursor_at(numbers: &[u32; QUERY_NUMBERS], i: usize) -> Cursor
-    requires { ⌜ (i < mostNamed) × (length (now numbers) ≡ queryNumbers) ⌝ }
+pub fn cursor_at(numbers: &[u32], i: usize) -> Cursor
+    requires { ⌜ (i < mostNamed) × PlaceIn (now numbers) i ⌝ }
     ensures { λ r. ⌜ r ≡ cursorOf (now (numbers .entry)) i ⌝ }
 {
     let at = PLACE_NUMBERS * i;
@@ -62,9 +69,8 @@ fn number(piece: Piece) -> u32
 }
 
 // A cursor put at place i; the other places stay.
-pub fn set_cursor(numbers: &mut [u32; QUERY_NUMBERS], i: usize, c: Cursor)
-    requires { ⌜ (i < mostNamed) × (length (now numbers) ≡ queryNumbers)
-        × (c .next < 4294967296) × ValueLow (c .piece) ⌝ }
+pub fn set_cursor(numbers: &mut [u32], i: usize, c: Cursor)
+    requires { ⌜ (i < mostNamed) × PlaceIn (now numbers) i × (c .next < 4294967296) × ValueLow (c .piece) ⌝ }
     ensures { λ _. ⌜ Stored (now (numbers .entry)) i c (now (numbers .exit)) ⌝ }
 {
     let piece = c.piece;

@@ -4,19 +4,17 @@ ghost use mathlib.Core.Path.{_≡_};
 ghost use mathlib.Core.List.{List};
 ghost use Prim.Native.Nat.{ℕ, _≤_, _<_, min};
 ghost use lib.ListN.{length, getD};
-ghost use Rattle.meaning.specs.Limits.{mostNamed, queryNumbers};
+ghost use Rattle.meaning.specs.Limits.{mostNamed};
 ghost use Rattle.meaning.specs.Laws.{HeadFacts, EntryFacts, IndexFacts};
 ghost use Rattle.meaning.specs.Index.{formatOf, bitmapCount, bodyAt};
 ghost use Rattle.ewah.specs.Cursors.{ValueLow, InOrder, leftOf};
-ghost use Rattle.walk.specs.Queries.{cursorOf, Listed, Standing};
+ghost use Rattle.walk.specs.Queries.{cursorOf, PlaceIn, PlacesIn, Listed, Standing};
 ghost use Rattle.walk.specs.Surveys.{Room, Weighed, Surveyed, Moved, MovedAll};
 use crate::query;
-use crate::query::Query;
 use bodies::cursor;
 use ewah::cursor::Piece;
 use meaning::Format;
 use meaning::PLANES;
-use meaning::QUERY_NUMBERS;
 
 // The fewest segments that a piece has left, the places in a run of ones, those on a dirty word, and for each row the
 // dirty words that have it, as counters.
@@ -74,14 +72,14 @@ fn move_place(
     format: Format,
     index: &[u32],
     k: u32,
-    numbers: &mut [u32; QUERY_NUMBERS],
+    numbers: &mut [u32],
     i: usize,
     n: u32,
     s: Survey,
 ) -> Survey
     requires { ⌜ HeadFacts (now index) ⌝ }
     requires { ⌜ EntryFacts (now index) ⌝ }
-    requires { ⌜ (k < bitmapCount (now index)) × (i < mostNamed) × (length (now numbers) ≡ queryNumbers)
+    requires { ⌜ (k < bitmapCount (now index)) × (i < mostNamed) × PlaceIn (now numbers) i
         × (1 ≤ n) × (n ≤ leftOf (cursorOf (now numbers) i .piece)) ⌝ }
     requires { ⌜ InOrder format (bodyAt (now index) k) (cursorOf (now numbers) i) ⌝ }
     requires { ⌜ Room s ⌝ }
@@ -96,18 +94,12 @@ fn move_place(
 }
 
 // Every cursor goes n segments on in its body, which has the index's format.
-pub fn advance(
-    format: Format,
-    index: &[u32],
-    list: &[u32],
-    numbers: &mut [u32; QUERY_NUMBERS],
-    n: u32,
-) -> Survey
+pub fn advance(format: Format, index: &[u32], list: &[u32], numbers: &mut [u32], n: u32) -> Survey
     requires { ⌜ format ≡ formatOf (now index) ⌝ }
     requires { ⌜ HeadFacts (now index) ⌝ }
     requires { ⌜ EntryFacts (now index) ⌝ }
     requires { ⌜ Listed (now index) (now list) ⌝ }
-    requires { ⌜ (length (now numbers) ≡ queryNumbers) × (1 ≤ n) × ((i : ℕ) → i < length (now list)
+    requires { ⌜ PlacesIn (now numbers) (length (now list)) × (1 ≤ n) × ((i : ℕ) → i < length (now list)
         → (n ≤ leftOf (cursorOf (now numbers) i .piece))
         × InOrder (formatOf (now index)) (bodyAt (now index) (getD (now list) i 0)) (cursorOf (now numbers) i)) ⌝ }
     ensures { λ r. ⌜ MovedAll (formatOf (now (index .entry))) (now (index .entry)) (now (list .entry))
@@ -124,37 +116,33 @@ pub fn advance(
 }
 
 // A cursor for each place of the list, on the first piece of its body.
-pub fn open(format: Format, index: &[u32], list: &[u32]) -> Query
+pub fn open(format: Format, index: &[u32], list: &[u32], numbers: &mut [u32])
     requires { ⌜ format ≡ formatOf (now index) ⌝ }
     requires { ⌜ IndexFacts (now index) ⌝ }
     requires { ⌜ Listed (now index) (now list) ⌝ }
-    ensures { λ r. ⌜ (r .len ≡ length (now (list .entry))) × (length (r .numbers) ≡ queryNumbers)
-        × Standing (formatOf (now (index .entry))) (now (index .entry)) (now (list .entry)) (r .numbers)
+    requires { ⌜ PlacesIn (now numbers) (length (now list)) ⌝ }
+    ensures { λ _. ⌜ (length (now (numbers .exit)) ≡ length (now (numbers .entry)))
+        × Standing (formatOf (now (index .entry))) (now (index .entry)) (now (list .entry)) (now (numbers .exit))
         (length (now (list .entry))) 0 ⌝ }
 {
-    let mut q = Query {
-        numbers: [0; QUERY_NUMBERS],
-        len: list.len(),
-    };
     let mut i: usize = 0;
     while i < list.len() {
         let c = cursor::open(format, contents::body(index, list[i]));
-        query::set_cursor(&mut q.numbers, i, c);
+        query::set_cursor(numbers, i, c);
         i += 1;
     }
-    q
 }
 
-// The survey of all places.
-pub fn all(q: Query) -> Survey
-    requires { ⌜ (q .len ≤ mostNamed) × (length (q .numbers) ≡ queryNumbers)
-        × ((i : ℕ) → i < q .len → ValueLow (cursorOf (q .numbers) i .piece)) ⌝ }
-    ensures { λ r. ⌜ Surveyed (q .numbers) (q .len) r ⌝ }
+// The survey of the first `len` places.
+pub fn all(numbers: &[u32], len: usize) -> Survey
+    requires { ⌜ (len ≤ mostNamed) × PlacesIn (now numbers) len
+        × ((i : ℕ) → i < len → ValueLow (cursorOf (now numbers) i .piece)) ⌝ }
+    ensures { λ r. ⌜ Surveyed (now (numbers .entry)) len r ⌝ }
 {
     let mut s = nothing();
     let mut i: usize = 0;
-    while i < q.len {
-        let c = query::cursor_at(&q.numbers, i);
+    while i < len {
+        let c = query::cursor_at(numbers, i);
         let piece = c.piece;
         let r = weigh(s, piece);
         s = r;

@@ -15,7 +15,7 @@ use Rattle.meaning.specs.Segment.{isSet}
 use Rattle.meaning.proofs.Counting.{zero-clear}
 use Rattle.counters.specs.Counters.{countAt}
 use Rattle.words.proofs.BitLaws.{and-set, and-not-set}
-use Rattle.counters.proofs.CounterLaws.{Compared, short-digits, compared-none, compared-more, compared-all, agrees, agrees-one, agrees-zero}
+use Rattle.counters.proofs.CounterLaws.{Compared, compared-none, compared-more, compared-all, agrees, agrees-one, agrees-zero}
 use borrow.Author.Needs.{needs}
 use native.Mathlib.Omega.{arith}
 use Rattle.counters.proofs.equals.Statement.{statement}
@@ -48,20 +48,16 @@ done l h j g =
 loop-holds : tie.Need-loop-holds Inv-loop μ-loop
 loop-holds c = (search needs, compared-none agrees 32 _ _)
 
-cast-if2 : tie.Need-cast-if2 Inv-loop μ-loop
-cast-if2 c = search needs
-
-shr-if2 : tie.Need-shr-if2 Inv-loop μ-loop
-shr-if2 c = search needs
-
 returns-2 : tie.Need-returns-2 Inv-loop μ-loop
-returns-2 c = done (c .before .before) (short-digits _ _ (c .if2 .taken))
+returns-2 c =
+    let l = c .before .before .before in
+    done l (omega (arith, c .if3 .taken, ap (λ (k : ℕ). 2 ^ k) (c .before .if2 .taken)))
 
-cast-if3 : tie.Need-cast-if3 Inv-loop μ-loop
-cast-if3 c = search needs
+cast-if4 : tie.Need-cast-if4 Inv-loop μ-loop
+cast-if4 c = search needs
 
-shr-if3 : tie.Need-shr-if3 Inv-loop μ-loop
-shr-if3 c = search needs
+shr-if4 : tie.Need-shr-if4 Inv-loop μ-loop
+shr-if4 c = search needs
 
 mul-r : tie.Need-mul-r Inv-loop μ-loop
 mul-r c = search needs
@@ -91,11 +87,11 @@ loop-again c =
     let f : Fits w32 p = search needs in (
       search needs,
       ⊎-elim
-          (λ w. compared-more agrees 32 (a .t1) (a .t) 1 _&&_ agrees-one (h .r) (c .if3 .r) (h .k) (omega arith) (sym low ∙ w .0 .taken)
+          (λ w. compared-more agrees 32 (a .t1) (a .t) 1 _&&_ agrees-one (h .r) (c .if4 .r) (h .k) (omega arith) (sym low ∙ w .0 .taken)
           (λ j l. ap (λ (x : ℕ). isSet x j) (w .1) ∙ and-set (h .r) p j) (h .inv .1))
-          (λ w. compared-more agrees 32 (a .t1) (a .t) 0 (λ g b. g && not b) agrees-zero (h .r) (c .if3 .r) (h .k) (omega arith) (omega (arith, w .0 .left))
+          (λ w. compared-more agrees 32 (a .t1) (a .t) 0 (λ g b. g && not b) agrees-zero (h .r) (c .if4 .r) (h .k) (omega arith) (omega (arith, w .0 .left))
           (λ j l. ap (λ (x : ℕ). isSet x j) (w .1) ∙ and-not-set 32 (h .r) p j (f .fits) l) (h .inv .1))
-          (c .if3 .came),
+          (c .if4 .came),
     )
 
 returns-3 : tie.Need-returns-3 Inv-loop μ-loop
@@ -111,11 +107,9 @@ equals-spec =
     μ-loop
     returns
     loop-holds
-    cast-if2
-    shr-if2
     returns-2
-    cast-if3
-    shr-if3
+    cast-if4
+    shr-if4
     mul-r
     array-read-r
     mul-r-2

@@ -22,10 +22,10 @@ abbrev μ-loop : tie.MeasureT-loop
 
 loop-holds : tie.Need-loop-holds Inv-loop μ-loop
 loop-holds c =
-    let s = c .before .before in
+    let s = c .before .before .before in
     let a = s .args in
     let p = s .pre .1 .1 .1 .1 .1 in
-    let none = gathering-none (a .format) (now (a .index)) (now (a .list)) (now (a .numbers)) (a .n) (a .even) (now (a .x)) (p .0) (p .1) in
+    let none = gathering-none (a .format) (now (a .index)) (now (a .list)) (now (a .numbers)) (a .n) (a .even) (now (a .x)) (p .1) in
     (omega arith, none)
 
 mul-take-place : tie.Need-mul-take-place Inv-loop μ-loop
@@ -38,7 +38,7 @@ take-place-requires : tie.Need-take-place-requires Inv-loop μ-loop
 take-place-requires c κs =
     let l = c .before .before .before .before .loop in
     let t = c .before .before .before .loop-test .taken in
-    let s = c .before .before .before .before .before .before .before in
+    let s = c .before .before .before .before .before .before .before .before in
     let a = s .args in
     let g = l .inv .1 in
     let li = s .pre .1 .1 .1 .0 in
@@ -52,7 +52,7 @@ take-place-requires c κs =
         (
           stands-before (a .format) (now (a .index)) (now (a .list)) (now (a .numbers)) (a .n) (a .even) (now (a .x))
               (l .k) (l .numbers) (l .x) g t before,
-          (li .its (l .k) t, omega (arith, p .2, t), g .long, g .rows-long, p .3, λ e. rw same (p .4 e (l .k) t), p .5),
+          (li .its (l .k) t, omega (arith, p .2, t), omega (arith, g .long, p .0, t), g .rows-long, p .3, λ e. rw same (p .4 e (l .k) t), p .5),
         ),
       ),
     )
@@ -65,20 +65,24 @@ loop-less c = search needs
 
 loop-again : tie.Need-loop-again Inv-loop μ-loop
 loop-again c =
-    let l = c .before .before .before .before .before .loop in
-    let s = c .before .before .before .before .before .before .before .before in
+    let u = c .before .before in
+    let l = u .before .before .before .before .before .loop in
+    let s = u .before .before .before .before .before .before .before .before .before in
     let a = s .args in
     let p = s .pre .1 .1 .1 .1 .1 in
-    let t = c .before .before .before .before .loop-test .taken in (
+    let t = u .before .before .before .before .loop-test .taken in (
       omega (arith, t),
       gathering-more (a .format) (now (a .index)) (now (a .list)) (now (a .numbers)) (a .n) (a .even) (now (a .x))
-          (l .k) (l .numbers) (l .x) (l .inv .1) (p .5) _ _ (c .take-place .ensures),
+          (l .k) (l .numbers) (l .x) (l .inv .1) (p .5) _ _ (u .take-place .ensures),
     )
+
+same-length : tie.Need-same-length Inv-loop μ-loop
+same-length c = c .before .loop .inv .1 .long
 
 returns : tie.Need-returns Inv-loop μ-loop
 returns c =
     let l = c .before .loop in
-    let s = c .before .before .before .before in
+    let s = c .before .before .before .before .before in
     let a = s .args in
     let e : l .k ≡ length (now (a .list)) = omega (arith, l .inv .0, c .loop-test .left) in
     subst (λ (F : Format). Gathered F (now (a .index)) (now (a .list)) (now (a .numbers)) (a .n) (a .even) (now (a .x)) (l .numbers) (l .x))
@@ -99,4 +103,5 @@ gather-spec =
     add-k
     loop-less
     loop-again
+    same-length
     returns)

@@ -12,8 +12,8 @@ mul-at c = search needs
 mul-tag : tie.Need-mul-tag
 mul-tag c = search needs
 
-element-copy-out-tag : tie.Need-element-copy-out-tag
-element-copy-out-tag c = search needs
+shared-slice-read-tag : tie.Need-shared-slice-read-tag
+shared-slice-read-tag c = search needs
 
 returns : tie.Need-returns
 returns c = let a = c .before .before .args in left-dirty (now (a .numbers)) (a .k) (c .if1 .taken)
@@ -24,8 +24,8 @@ add-result c = search needs
 mul-result : tie.Need-mul-result
 mul-result c = search needs
 
-element-copy-out-result : tie.Need-element-copy-out-result
-element-copy-out-result c = search needs
+shared-slice-read-result : tie.Need-shared-slice-read-result
+shared-slice-read-result c = search needs
 
 returns-2 : tie.Need-returns-2
 returns-2 c = let a = c .before .before .before .args in left-clean (now (a .numbers)) (a .k) (c .before .if1 .left)
@@ -36,9 +36,9 @@ left-spec =
     (tie.spec
     mul-at
     mul-tag
-    element-copy-out-tag
+    shared-slice-read-tag
     returns
     add-result
     mul-result
-    element-copy-out-result
+    shared-slice-read-result
     returns-2)

@@ -1,189 +1,49 @@
--- `merge::engine::merge` meets its contract. The invariant: the cursors are on their way at segment o, and the writer
--- has put the answer's first o segments.
+-- `merge::engine::merge` meets its contract: a query of either length has room for the list.
 -- Assumes nothing.
-use Prim.Native.Nat.{ℕ, _-_}
-use mathlib.Core.Path.{subst}
-use mathlib.Core.List.{List, []}
-use denote.Ref.{now}
-use Rattle.meaning.specs.declared.Format.{Format}
-use Rattle.meaning.specs.Index.{formatOf}
-use Rattle.body_write.specs.Bodies.{Stands}
-use Rattle.walk.specs.Surveys.{Surveyed}
-use Rattle.merge.proofs.Along.{Laid, laid, NextStretch, along-none, next-stretch, mask-of}
-use Rattle.merge.proofs.Merging.{Merging, merging-none, merging-more, merging-all, steps-low, may-emit}
+use mathlib.Core.Path.{refl}
 use borrow.Author.Needs.{needs}
 use native.Mathlib.Omega.{arith}
 use Rattle.merge.proofs.engine.merge.Statement.{statement}
 use Rattle.merge.proofs.engine.merge.Tie as tie
 
-abbrev Inv-loop : tie.InvT-loop
-Inv-loop index list op table out₀ store format rows segments full last q₀ s₀ w₀ o₀ stretches₀ out q s w o stretches =
-    Merging index list op table out₀ store out (q .numbers) s w o stretches
+slice-aggregate-merge-over : tie.Need-slice-aggregate-merge-over
+slice-aggregate-merge-over c = search needs
 
-abbrev μ-loop : tie.MeasureT-loop
-μ-loop index list op table out₀ store format rows segments full last q₀ s₀ w₀ o₀ stretches₀ out q s w o stretches =
-    segments - o
+merge-over-requires : tie.Need-merge-over-requires
+merge-over-requires c κs =
+    let t = c .before .before .before in
+    let s = t .before .before .before .before .before in
+    (s .pre .0, (s .pre .1, (omega (arith, t .if1 .taken), refl)))
 
--- at the loop's test: the call, and the index's rows in segments
-module _ (t : tie.At-loop Inv-loop μ-loop) where
-  abbrev last : tie.After-last-mask Inv-loop μ-loop
-  last = t .before .before .before .before
+same-length : tie.Need-same-length
+same-length c = search needs
 
-  abbrev format : tie.After-format Inv-loop μ-loop
-  format = last .before .before .before .before
+returns : tie.Need-returns
+returns c = search needs
 
-  abbrev call : tie.Start Inv-loop μ-loop
-  call = format .before .before .before .before .before
+slice-aggregate-merge-over-2 : tie.Need-slice-aggregate-merge-over-2
+slice-aggregate-merge-over-2 c = search needs
 
-  abbrev index : List ℕ
-  index = now (call .args .index)
+merge-over-requires-2 : tie.Need-merge-over-requires-2
+merge-over-requires-2 c κs =
+    let s = c .before .before .before .before .before .before .before .before in
+    (s .pre .0, (s .pre .1, (omega (arith, s .pre .0 .walkable .listed .most), refl)))
 
-  layout : Laid index (format .format .result) (last .before .before .segments .result) (last .before .full .result)
-      (last .last-mask .result)
-  layout =
-      laid index (format .format .ensures) (last .before .before .before .rows .ensures)
-      (last .before .before .segments .ensures) (last .before .full .ensures) (last .last-mask .ensures)
+same-length-2 : tie.Need-same-length-2
+same-length-2 c = search needs
 
-  -- the next stretch
-  abbrev Next : Type 0
-  Next = NextStretch index (now (call .args .list)) (t .loop .q .numbers) (t .loop .s) (t .loop .o)
-
--- in its body
-next : (i : tie.In-loop Inv-loop μ-loop) → Next (i .before)
-next i =
-    let t = i .before in
-    next-stretch (t .loop .inv .along) (call t .pre .0 .walkable)
-    (omega (arith, i .loop-test .taken, layout t .total))
-
-format-requires : tie.Need-format-requires Inv-loop μ-loop
-format-requires c κs = c .before .before .before .before .pre .0 .walkable .facts .head .head
-
-rows-requires : tie.Need-rows-requires Inv-loop μ-loop
-rows-requires c κs = c .before .before .before .before .before .pre .0 .walkable .facts .head .head
-
-segments-requires : tie.Need-segments-requires Inv-loop μ-loop
-segments-requires c κs =
-    let s = c .before .before .before .before .before .before in
-    omega (arith, c .rows .ensures, s .pre .0 .walkable .facts .head .few-rows)
-
-full-requires : tie.Need-full-requires Inv-loop μ-loop
-full-requires c κs = search needs
-
-last-mask-requires : tie.Need-last-mask-requires Inv-loop μ-loop
-last-mask-requires c κs = search needs
-
-open-requires : tie.Need-open-requires Inv-loop μ-loop
-open-requires c κs =
-    let f = c .before .before .before .before in
-    let w = f .before .before .before .before .before .pre .0 .walkable in
-    (f .format .ensures, (w .facts, w .listed))
-
-all-requires : tie.Need-all-requires Inv-loop μ-loop
-all-requires c κs =
-    let s = c .before .before .before .before .before .before .before .before .before .before in
-    let e = c .«open» .ensures in (
-      omega (arith, e .0, s .pre .0 .walkable .listed .most),
-      e .1,
-      λ i h. e .2 i (omega (arith, e .0)) .in-order .value-low,
-    )
-
-start-requires : tie.Need-start-requires Inv-loop μ-loop
-start-requires c κs = search needs
-
-loop-holds : tie.Need-loop-holds Inv-loop μ-loop
-loop-holds c =
-    let a = c .before in
-    let q = a .before .«open» .result in
-    let e = a .before .«open» .ensures in
-    let f = a .before .before .before .before .before .before .format .ensures in
-    merging-none
-    (along-none (e .2) (e .1) (subst (λ (m : ℕ). Surveyed (q .numbers) m (a .all .result)) (e .0) (a .all .ensures)))
-    (subst (λ (F : Format). Stands F (c .start .result) []) f (c .start .ensures))
-
-add-mask-before : tie.Need-add-mask-before Inv-loop μ-loop
-add-mask-before c = omega (arith, next c .few)
-
-mask-before-requires : tie.Need-mask-before-requires Inv-loop μ-loop
-mask-before-requires c κs = search needs
-
-evaluate-requires : tie.Need-evaluate-requires Inv-loop μ-loop
-evaluate-requires c κs =
-    let i = c .before in
-    let p = call (i .before) .pre .0 in
-    (p .few-entries, next i .held-low, next i .counts-low)
-
-emit-requires : tie.Need-emit-requires Inv-loop μ-loop
-emit-requires c κs =
-    let e = c .before in
-    let i = e .before .before in
-    let t = i .before in
-    let d = layout t in
-    may-emit (t .loop .inv) (next i) (mask-of (next i) d (e .before .mask-before .ensures))
-    (e .evaluate .ensures (formatOf (index t)) (d .full-is)) (d .format-is) (call t .pre .1)
-
-advance-requires : tie.Need-advance-requires Inv-loop μ-loop
-advance-requires c κs =
-    let i = c .before .before .before .before .before .before .before in
-    let w = call (i .before) .pre .0 .walkable in
-    let a = i .before .loop .inv .along in
-    let n = next i in (
-      layout (i .before) .format-is,
-      (w .facts .head, (w .facts .entries, (w .listed, (a .long, n .is .some, λ k h. (n .left-each k h, a .standing k h .in-order))))),
-    )
-
-add-o : tie.Need-add-o Inv-loop μ-loop
-add-o c = omega (arith, next (c .before .before .before .before .before .before .before .before) .few)
-
-add-stretches : tie.Need-add-stretches Inv-loop μ-loop
-add-stretches c =
-    let i = c .before .before .before .before .before .before .before .before in
-    omega (arith, steps-low (i .before .loop .inv), next i .few)
-
-loop-less : tie.Need-loop-less Inv-loop μ-loop
-loop-less c =
-    let i = c .before .before .before .before .before .before .before .before in
-    omega (arith, next i .is .some, i .loop-test .taken)
-
-loop-again : tie.Need-loop-again Inv-loop μ-loop
-loop-again c =
-    let w = c .before .before .before .before in
-    let e = w .before .before in
-    let i = e .before .before in
-    let t = i .before in
-    let d = layout t in
-    merging-more (t .loop .inv) (next i) (mask-of (next i) d (e .before .mask-before .ensures))
-    (e .evaluate .ensures (formatOf (index t)) (d .full-is)) (d .format-is)
-    (w .emit .ensures) (w .emit .kept .1 .0) (c .advance .ensures)
-
-same-length : tie.Need-same-length Inv-loop μ-loop
-same-length c = c .before .loop .inv .same
-
-returns : tie.Need-returns Inv-loop μ-loop
-returns c = merging-all (c .before .loop .inv) (omega (arith, layout (c .before) .total, c .loop-test .left))
+returns-2 : tie.Need-returns-2
+returns-2 c = search needs
 
 pub merge-spec : {M : Type 1} → statement M
 merge-spec =
     tie.close
     (tie.spec
-    Inv-loop
-    μ-loop
-    format-requires
-    rows-requires
-    segments-requires
-    full-requires
-    last-mask-requires
-    open-requires
-    all-requires
-    start-requires
-    loop-holds
-    add-mask-before
-    mask-before-requires
-    evaluate-requires
-    emit-requires
-    advance-requires
-    add-o
-    add-stretches
-    loop-less
-    loop-again
+    slice-aggregate-merge-over
+    merge-over-requires
     same-length
-    returns)
+    returns
+    slice-aggregate-merge-over-2
+    merge-over-requires-2
+    same-length-2
+    returns-2)

@@ -1,6 +1,6 @@
 -- `pairs::pass::pass` meets its contract: block by block, by `Passing`.
 -- Assumes nothing.
-use Prim.Native.Nat.{ℕ, _+_, _-_, _≤_, _<_, min}
+use Prim.Native.Nat.{ℕ, _+_, _-_, _*_, _≤_, _<_, min}
 use mathlib.Core.Bool.{Bool}
 use mathlib.Core.Path.{_≡_, refl, ap, ap₂, _∙_, subst}
 use mathlib.Core.List.{List}
@@ -8,7 +8,7 @@ use lib.ListN.{length}
 use denote.Ref.{now}
 use native.Mathlib.Omega.{arith}
 use borrow.Author.Needs.{needs}
-use Rattle.meaning.specs.Limits.{mostSegments, blockWords}
+use Rattle.meaning.specs.Limits.{mostSegments, blockWords, mostValueColumn, placeNumbers, shortNumbers}
 use Rattle.meaning.specs.Segment.{segmentCount, lastRows, allSet, rowsIn}
 use Rattle.meaning.specs.Format.{width}
 use Rattle.meaning.specs.declared.Format.{Format}
@@ -28,7 +28,7 @@ use Rattle.pairs.proofs.pass.pass.Tie as tie
 
 abbrev Inv-loop : tie.InvT-loop
 Inv-loop index first second n out₀ starts store format rows segments full last p₀ q₀ ws₀ x₀ y₀ z₀ run₀ o₀ out p q ws x y z run o =
-    Passing index first second n starts out₀ store out (p .numbers) (q .numbers) (ws .numbers) o
+    Passing index first second n starts out₀ store out p q (ws .numbers) o
     × (length z ≡ blockWords) × Cleared first x × Cleared second y
 
 abbrev μ-loop : tie.MeasureT-loop
@@ -77,7 +77,7 @@ module _ (a : tie.After-last-mask Inv-loop μ-loop) where
 -- ---- at the loop's test
 module _ (i : tie.In-loop Inv-loop μ-loop) where
   abbrev read : tie.After-last-mask Inv-loop μ-loop
-  read = i .before .before .before .before .before
+  read = i .before .before .before .before .before .before .before .before .before
 
   abbrev first : List ℕ
   first = now (call read .args .first)
@@ -89,10 +89,10 @@ module _ (i : tie.In-loop Inv-loop μ-loop) where
   n = call read .args .n
 
   abbrev ns1 : List ℕ
-  ns1 = i .before .loop .p .numbers
+  ns1 = i .before .loop .p
 
   abbrev ns2 : List ℕ
-  ns2 = i .before .loop .q .numbers
+  ns2 = i .before .loop .q
 
   abbrev o : ℕ
   o = i .before .loop .o
@@ -106,7 +106,7 @@ module _ (i : tie.In-loop Inv-loop μ-loop) where
 -- ---- at a block that was chosen
 module _ (w : tie.After-choose Inv-loop μ-loop) where
   abbrev here : tie.In-loop Inv-loop μ-loop
-  here = w .before .before .before .before .before .before .before .before
+  here = w .before .before .before .before .before .before
 
   abbrev a : tie.After-last-mask Inv-loop μ-loop
   a = read here
@@ -123,11 +123,11 @@ module _ (w : tie.After-choose Inv-loop μ-loop) where
   ch : Chosen near (segmentCount (width (F a)) (R a)) (o here) m even
   ch = subst (λ (k : ℕ). Chosen near k (o here) m even) (total a) (w .choose .ensures)
 
-  near-is : near ≡ min (w .before .before .before .before .before .nearest .result) (w .before .before .nearest2 .result)
+  near-is : near ≡ min (w .before .before .before .before .nearest .result) (w .before .before .nearest2 .result)
   near-is = w .before .smaller .ensures
 
   near1 : (k : ℕ) → k < length (first here) → near ≤ leftOf (cursorOf (ns1 here) k .piece)
-  near1 k h = omega (arith, near-is, w .before .before .before .before .before .nearest .ensures k h)
+  near1 k h = omega (arith, near-is, w .before .before .before .before .nearest .ensures k h)
 
   near2 : (k : ℕ) → k < length (second here) → near ≤ leftOf (cursorOf (ns2 here) k .piece)
   near2 k h = omega (arith, near-is, w .before .before .nearest2 .ensures k h)
@@ -150,10 +150,10 @@ module _ (s : tie.After-spell Inv-loop μ-loop) where
   added = s .before .before
 
   abbrev second-taken : tie.After-gather2 Inv-loop μ-loop
-  second-taken = added .before .before .before .before
+  second-taken = added .before .before .before .before .before
 
   abbrev first-taken : tie.After-gather Inv-loop μ-loop
-  first-taken = second-taken .before .before .before
+  first-taken = second-taken .before .before .before .before
 
   abbrev masked : tie.After-mask-before Inv-loop μ-loop
   masked = first-taken .before .before .before
@@ -206,48 +206,77 @@ full-requires c κs = search needs
 last-mask-requires : tie.Need-last-mask-requires Inv-loop μ-loop
 last-mask-requires c κs = search needs
 
+-- a query of a short list has room for the places of a column
+room : (list : List ℕ) (n m : ℕ) → length list ≤ n + 1 → n < mostValueColumn → m ≡ shortNumbers → placeNumbers * length list ≤ m
+room list n m h few e = omega arith
+
+slice-aggregate-open : tie.Need-slice-aggregate-open Inv-loop μ-loop
+slice-aggregate-open c = search needs
+
 open-requires : tie.Need-open-requires Inv-loop μ-loop
-open-requires c κs = (format-is c, (cs c .facts, cs c .first-listed))
+open-requires c κs =
+    let a = c .before in
+    let w = cs a in
+    (format-is a, (w .facts, (w .first-listed, room (now (call a .args .first)) _ _ (w .first-fits) (w .few) refl)))
+
+slice-aggregate-open-2 : tie.Need-slice-aggregate-open-2 Inv-loop μ-loop
+slice-aggregate-open-2 c = search needs
 
 open-requires-2 : tie.Need-open-requires-2 Inv-loop μ-loop
-open-requires-2 c κs = let a = c .before in (format-is a, (cs a .facts, cs a .second-listed))
+open-requires-2 c κs =
+    let a = c .before .before .before .before in
+    let w = cs a in
+    (format-is a, (w .facts, (w .second-listed, room (now (call a .args .second)) _ _ (w .second-fits) (w .few) refl)))
 
 start-requires : tie.Need-start-requires Inv-loop μ-loop
 start-requires c κs = search needs
 
 loop-holds : tie.Need-loop-holds Inv-loop μ-loop
 loop-holds c =
-    let a = c .before .before .before in
+    let a = c .before .before .before .before .before .before .before in
     let s = call a .args in
-    let e = c .before .before .«open» .ensures in
-    let f = c .before .open2 .ensures in (
+    let e = c .before .before .before .before .before .«open» .ensures in
+    let f = c .before .before .open2 .ensures in (
       passing-none (index a) (now (s .first)) (now (s .second)) (s .n) (now (s .starts)) (now (s .out)) (s .store)
-          _ _ _ (cs a) (record { standing = e .2; long = e .1 }) (record { standing = f .2; long = f .1 })
+          _ _ _ (cs a) (record { standing = e .1; long = e .0 }) (record { standing = f .1; long = f .0 })
           (c .start .ensures .0) (format-is a) (c .start .ensures .1),
       refl,
       record { long = refl; past = λ i h. zeros blockWords i },
       record { long = refl; past = λ i h. zeros blockWords i },
     )
 
+slice-aggregate-nearest : tie.Need-slice-aggregate-nearest Inv-loop μ-loop
+slice-aggregate-nearest c = search needs
+
 nearest-requires : tie.Need-nearest-requires Inv-loop μ-loop
-nearest-requires c κs = let i = c .before .before in (cs (read i) .first-listed .most, g i .first-walking .long)
+nearest-requires c κs =
+    let i = c .before in
+    let w = cs (read i) in
+    (w .first-listed .most, room (first i) _ _ (w .first-fits) (w .few) (g i .first-walking .long))
+
+slice-aggregate-nearest-2 : tie.Need-slice-aggregate-nearest-2 Inv-loop μ-loop
+slice-aggregate-nearest-2 c = search needs
 
 nearest-requires-2 : tie.Need-nearest-requires-2 Inv-loop μ-loop
 nearest-requires-2 c κs =
-    let i = c .before .before .before .before .before in
-    (cs (read i) .second-listed .most, g i .second-walking .long)
+    let i = c .before .before .before in
+    let w = cs (read i) in
+    (w .second-listed .most, room (second i) _ _ (w .second-fits) (w .few) (g i .second-walking .long))
 
 smaller-requires : tie.Need-smaller-requires Inv-loop μ-loop
 smaller-requires c κs = search needs
 
 choose-requires : tie.Need-choose-requires Inv-loop μ-loop
-choose-requires c κs = c .before .before .before .before .before .before .before .loop-test .taken
+choose-requires c κs = c .before .before .before .before .before .loop-test .taken
 
 add-mask-before : tie.Need-add-mask-before Inv-loop μ-loop
 add-mask-before c = omega (arith, end-fits c)
 
 mask-before-requires : tie.Need-mask-before-requires Inv-loop μ-loop
 mask-before-requires c κs = search needs
+
+slice-aggregate-gather : tie.Need-slice-aggregate-gather Inv-loop μ-loop
+slice-aggregate-gather c = search needs
 
 gather-requires : tie.Need-gather-requires Inv-loop μ-loop
 gather-requires c κs =
@@ -264,7 +293,7 @@ gather-requires c κs =
             (
               before (g i .first-walking) (s .facts) (s .first-listed) (m w) (ch w .within),
               (
-                g i .first-walking .long,
+                room (first i) _ _ (s .first-fits) (s .few) (g i .first-walking .long),
                 i .before .loop .inv .2 .long,
                 omega (arith, s .first-fits, s .few),
                 ch w .some,
@@ -277,9 +306,12 @@ gather-requires c κs =
       ),
     )
 
+slice-aggregate-gather-2 : tie.Need-slice-aggregate-gather-2 Inv-loop μ-loop
+slice-aggregate-gather-2 c = search needs
+
 gather-requires-2 : tie.Need-gather-requires-2 Inv-loop μ-loop
 gather-requires-2 c κs =
-    let w = c .before .before .before .before .before .before in
+    let w = c .before .before .before .before .before .before .before in
     let i = here w in
     let s = cs (a w) in (
       format-is (a w),
@@ -292,7 +324,7 @@ gather-requires-2 c κs =
             (
               before (g i .second-walking) (s .facts) (s .second-listed) (m w) (ch w .within),
               (
-                g i .second-walking .long,
+                room (second i) _ _ (s .second-fits) (s .few) (g i .second-walking .long),
                 i .before .loop .inv .3 .long,
                 omega (arith, s .second-fits, s .few),
                 ch w .some,
@@ -307,19 +339,19 @@ gather-requires-2 c κs =
 
 sum-requires : tie.Need-sum-requires Inv-loop μ-loop
 sum-requires c κs =
-    let t2 = c .before .before .before in
-    let t1 = t2 .before .before .before in
+    let t2 = c .before .before .before .before in
+    let t1 = t2 .before .before .before .before in
     let i = here (t1 .before .before .before .before) in
     (cs (read i) .few, t1 .gather .ensures .rows-long, t2 .gather2 .ensures .rows-long, i .before .loop .inv .1)
 
 add-spell : tie.Need-add-spell Inv-loop μ-loop
 add-spell c =
-    let w = c .before .before .before .before .before .before .before .before .before .before .before .before in
+    let w = c .before .before .before .before .before .before .before .before .before .before .before .before .before .before in
     omega (arith, cs (a w) .few)
 
 spell-requires : tie.Need-spell-requires Inv-loop μ-loop
 spell-requires c κs =
-    let w = c .before .before .before .before .before .before .before .before .before .before .before .before in
+    let w = c .before .before .before .before .before .before .before .before .before .before .before .before .before .before in
     (ch w .some, c .before .sum .ensures .long, omega (arith, cs (a w) .few), ch w .in-block)
 
 add-emit-all : tie.Need-add-emit-all Inv-loop μ-loop
@@ -368,7 +400,7 @@ same-length c = let l = c .before .loop in l .inv .0 .long
 
 returns : tie.Need-returns Inv-loop μ-loop
 returns c =
-    let a = c .before .before .before .before .before in
+    let a = c .before .before .before .before .before .before .before .before .before in
     passing-all (cs a) (c .before .loop .inv .0) (omega (arith, c .loop-test .left, total a))
 
 pub pass-spec : {M : Type 1} → statement M
@@ -382,17 +414,23 @@ pass-spec =
     segments-requires
     full-requires
     last-mask-requires
+    slice-aggregate-open
     open-requires
+    slice-aggregate-open-2
     open-requires-2
     start-requires
     loop-holds
+    slice-aggregate-nearest
     nearest-requires
+    slice-aggregate-nearest-2
     nearest-requires-2
     smaller-requires
     choose-requires
     add-mask-before
     mask-before-requires
+    slice-aggregate-gather
     gather-requires
+    slice-aggregate-gather-2
     gather-requires-2
     sum-requires
     add-spell

@@ -12,8 +12,8 @@ mul-at c = search needs
 mul-tag : tie.Need-mul-tag
 mul-tag c = search needs
 
-element-copy-out-tag : tie.Need-element-copy-out-tag
-element-copy-out-tag c = search needs
+shared-slice-read-tag : tie.Need-shared-slice-read-tag
+shared-slice-read-tag c = search needs
 
 add-x : tie.Need-add-x
 add-x c = search needs
@@ -21,8 +21,8 @@ add-x c = search needs
 mul-x : tie.Need-mul-x
 mul-x c = search needs
 
-element-copy-out-x : tie.Need-element-copy-out-x
-element-copy-out-x c = search needs
+shared-slice-read-x : tie.Need-shared-slice-read-x
+shared-slice-read-x c = search needs
 
 add-wide : tie.Need-add-wide
 add-wide c = search needs
@@ -30,8 +30,8 @@ add-wide c = search needs
 mul-wide : tie.Need-mul-wide
 mul-wide c = search needs
 
-element-copy-out-wide : tie.Need-element-copy-out-wide
-element-copy-out-wide c = search needs
+shared-slice-read-wide : tie.Need-shared-slice-read-wide
+shared-slice-read-wide c = search needs
 
 wide-requires : tie.Need-wide-requires
 wide-requires c κs = search needs
@@ -42,19 +42,19 @@ add-dirty c = search needs
 mul-dirty : tie.Need-mul-dirty
 mul-dirty c = search needs
 
-element-copy-out-dirty : tie.Need-element-copy-out-dirty
-element-copy-out-dirty c = search needs
+shared-slice-read-dirty : tie.Need-shared-slice-read-dirty
+shared-slice-read-dirty c = search needs
 
 returns : tie.Need-returns
 returns c =
     let w = c .before .before in
-    let s = w .before .before .before .before in
+    let s = w .before .before .before .before .before in
     on-dirty (now (s .args .numbers)) (s .args .i) (w .wide .result) (w .wide .ensures .0) (c .if1 .taken)
 
 returns-2 : tie.Need-returns-2
 returns-2 c =
     let w = c .before .before in
-    let s = w .before .before .before .before in
+    let s = w .before .before .before .before .before in
     on-clean (now (s .args .numbers)) (s .args .i) (w .wide .result) (w .wide .ensures .0) (c .if1 .left)
 
 pub cursor-at-spec : {M : Type 1} → statement M
@@ -63,16 +63,16 @@ cursor-at-spec =
     (tie.spec
     mul-at
     mul-tag
-    element-copy-out-tag
+    shared-slice-read-tag
     add-x
     mul-x
-    element-copy-out-x
+    shared-slice-read-x
     add-wide
     mul-wide
-    element-copy-out-wide
+    shared-slice-read-wide
     wide-requires
     add-dirty
     mul-dirty
-    element-copy-out-dirty
+    shared-slice-read-dirty
     returns
     returns-2)

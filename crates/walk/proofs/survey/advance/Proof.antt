@@ -28,7 +28,7 @@ nothing-requires c κs = search needs
 
 loop-holds : tie.Need-loop-holds Inv-loop μ-loop
 loop-holds c =
-    let a = c .before .before .before .args in
+    let a = c .before .before .before .before .args in
     let r = c .nothing in
     let ns = now (a .numbers) in
     let none = going-none (a .format) (now (a .index)) (now (a .list)) ns (a .n) (r .result) (r .ensures ns) in
@@ -44,7 +44,7 @@ move-place-requires : tie.Need-move-place-requires Inv-loop μ-loop
 move-place-requires c κs =
     let l = c .before .before .before .loop in
     let t = c .before .before .loop-test .taken in
-    let s = c .before .before .before .before .before .before .before in
+    let s = c .before .before .before .before .before .before .before .before in
     let g = l .inv .1 in
     let p = s .pre .1 .1 .1 in
     let a = s .args in
@@ -55,7 +55,7 @@ move-place-requires c κs =
       (
         s .pre .1 .1 .0,
         (
-          (p .0 .its (l .i) t, omega (arith, p .0 .most), g .long ∙ p .1 .0, p .1 .1, rw same (p .1 .2 (l .i) t .0)),
+          (p .0 .its (l .i) t, omega (arith, p .0 .most), omega (arith, g .long, p .1 .0, t), p .1 .1, rw same (p .1 .2 (l .i) t .0)),
           (rw same o, surveyed-room (l .numbers) (l .i) (l .s) (g .surveyed) (omega (arith, p .0 .most)) (g .low)),
         ),
       ),
@@ -69,18 +69,21 @@ loop-less c = search needs
 
 loop-again : tie.Need-loop-again Inv-loop μ-loop
 loop-again c =
-    let l = c .before .before .before .before .loop in
-    let a = c .before .before .before .before .before .before .before .before .args in
-    let r = c .move-place in (
+    let l = c .before .before .before .before .before .before .loop in
+    let a = c .before .before .before .before .before .before .before .before .before .before .before .args in
+    let r = c .before .before .move-place in (
       omega arith,
       going-more (a .format) (now (a .index)) (now (a .list)) (now (a .numbers)) (a .n) (l .numbers) (l .s) (l .i) (l .inv .1)
           (r .last .1 .1 .1 .0) (r .result) (r .ensures),
     )
 
+same-length : tie.Need-same-length Inv-loop μ-loop
+same-length c = c .before .loop .inv .1 .long
+
 returns : tie.Need-returns Inv-loop μ-loop
 returns c =
     let l = c .before .loop in
-    let b = c .before .before .before .before .before in
+    let b = c .before .before .before .before .before .before in
     let a = b .args in
     subst (λ (F : Format). MovedAll F (now (a .index)) (now (a .list)) (now (a .numbers)) (a .n) (l .numbers) (l .s)) (b .pre .0)
     (going-all (a .format) (now (a .index)) (now (a .list)) (now (a .numbers)) (a .n) (l .numbers) (l .s) (l .i) (l .inv .1)
@@ -100,4 +103,5 @@ advance-spec =
     add-i
     loop-less
     loop-again
+    same-length
     returns)

@@ -4,7 +4,6 @@ use mathlib.Core.Path.{_≡_, refl, sym, _∙_, subst}
 use Prim.Native.Nat.{ℕ, _-_, _≤_, _<_}
 use denote.Ref.{now}
 use lib.ListN.{length, getD}
-use Rattle.meaning.specs.Limits.{queryNumbers}
 use Rattle.meaning.specs.Piece.{NoneEmpty}
 use Rattle.meaning.specs.Format.{piecesOf}
 use Rattle.meaning.specs.declared.Format.{Format}
@@ -18,14 +17,14 @@ use Rattle.walk.proofs.survey.open.Statement.{statement}
 use Rattle.walk.proofs.survey.open.Tie as tie
 
 abbrev Inv-loop : tie.InvT-loop
-Inv-loop format index list q₀ i₀ q i =
-    (i ≤ length list) × (q .len ≡ length list) × (length (q .numbers) ≡ queryNumbers) × Standing format index list (q .numbers) i 0
+Inv-loop format index list numbers₀ i₀ numbers i =
+    (i ≤ length list) × (length numbers ≡ length numbers₀) × Standing format index list numbers i 0
 
 abbrev μ-loop : tie.MeasureT-loop
-μ-loop format index list q₀ i₀ q i = length list - i
+μ-loop format index list numbers₀ i₀ numbers i = length list - i
 
 loop-holds : tie.Need-loop-holds Inv-loop μ-loop
-loop-holds c = (omega arith, refl, refl, λ k h. absurd (omega arith))
+loop-holds c = (omega arith, refl, λ k h. absurd (omega arith))
 
 mul-body : tie.Need-mul-body Inv-loop μ-loop
 mul-body c = search needs
@@ -35,8 +34,8 @@ shared-slice-read-body c = search needs
 
 body-requires : tie.Need-body-requires Inv-loop μ-loop
 body-requires c κs =
-    let s = c .before .before .before .before .before in
-    (s .pre .1 .0 .head, (s .pre .1 .0 .entries, s .pre .1 .1 .its (c .before .before .loop .i) (c .before .loop-test .taken)))
+    let s = c .before .before .before .before .before .before in
+    (s .pre .1 .0 .head, (s .pre .1 .0 .entries, s .pre .1 .1 .0 .its (c .before .before .loop .i) (c .before .loop-test .taken)))
 
 -- no piece of a body that the list names is empty
 no-empty : (s : tie.Start Inv-loop μ-loop) (i : ℕ) → i < length (now (s .args .list))
@@ -44,13 +43,13 @@ no-empty : (s : tie.Start Inv-loop μ-loop) (i : ℕ) → i < length (now (s .ar
 no-empty s i h =
     let index = now (s .args .index) in
     let k = getD (now (s .args .list)) i 0 in
-    let some = facts-some (formatOf index) (rowCount index) (bodyAt index k) (s .pre .1 .0 .bodies k (s .pre .1 .1 .its i h)) in
+    let some = facts-some (formatOf index) (rowCount index) (bodyAt index k) (s .pre .1 .0 .bodies k (s .pre .1 .1 .0 .its i h)) in
     subst (λ (F : Format). NoneEmpty (piecesOf F (bodyAt index k))) (sym (s .pre .0)) some
 
 open-requires : tie.Need-open-requires Inv-loop μ-loop
 open-requires c κs =
     let l = c .before .before .before .loop in
-    let s = c .before .before .before .before .before .before in
+    let s = c .before .before .before .before .before .before .before in
     rw (c .body .ensures .0) (no-empty s (l .i) (c .before .before .loop-test .taken))
 
 set-cursor-requires : tie.Need-set-cursor-requires Inv-loop μ-loop
@@ -58,11 +57,12 @@ set-cursor-requires c κs =
     let o = c .before .«open» .ensures in
     let b = c .before .before .body .ensures .0 in
     let l = c .before .before .before .before .before .loop in
-    let s = c .before .before .before .before .before .before .before .before in
+    let s = c .before .before .before .before .before .before .before .before .before in
     let k = getD (now (s .args .list)) (l .i) 0 in
     let r = c .before .«open» .result in
     let low = next-low (s .args .format) (now (s .args .index)) k r (s .pre .1 .0 .head) (rw b at (o .in-order)) in
-    (omega arith, l .inv .2, low, o .in-order .value-low)
+    let t = c .before .before .before .before .loop-test .taken in
+    (omega (arith, t, s .pre .1 .1 .0 .most), omega (arith, t, l .inv .1, s .pre .1 .1 .1), low, o .in-order .value-low)
 
 add-i : tie.Need-add-i Inv-loop μ-loop
 add-i c = search needs
@@ -72,30 +72,32 @@ loop-less c = search needs
 
 loop-again : tie.Need-loop-again Inv-loop μ-loop
 loop-again c =
-    let p = c .set-cursor .ensures in
-    let o = c .before .before .«open» .ensures in
-    let b = c .before .before .before .body .ensures .0 in
-    let l = c .before .before .before .before .before .before .loop in
-    let s = c .before .before .before .before .before .before .before .before .before in
+    let u = c .before .before in
+    let p = u .set-cursor .ensures in
+    let o = u .before .before .«open» .ensures in
+    let b = u .before .before .before .body .ensures .0 in
+    let l = u .before .before .before .before .before .before .loop in
+    let s = u .before .before .before .before .before .before .before .before .before .before in
     let index = now (s .args .index) in
     let list = now (s .args .list) in
-    let r = c .before .before .«open» .result in
+    let r = u .before .before .«open» .result in
     let here = opened (s .args .format) (placeBody index list (l .i)) r (no-empty s (l .i) (omega arith)) (rw b at o) in (
       omega arith,
-      l .inv .1,
-      p .long ∙ l .inv .2,
-      standing-more (s .args .format) index list (l .q .numbers) (l .i) 0 r (c .set-cursor .last .0) (l .inv .3) p here,
+      p .long ∙ l .inv .1,
+      standing-more (s .args .format) index list (l .numbers) (l .i) 0 r (u .set-cursor .last .0) (l .inv .2) p here,
     )
+
+same-length : tie.Need-same-length Inv-loop μ-loop
+same-length c = c .before .loop .inv .1
 
 returns : tie.Need-returns Inv-loop μ-loop
 returns c =
     let l = c .before .loop in
-    let s = c .before .before .before .before in
+    let s = c .before .before .before .before .before in
     let index = now (s .args .index) in
     let list = now (s .args .list) in (
       l .inv .1,
-      l .inv .2,
-      subst (λ (F : Format). Standing F index list (l .q .numbers) (length list) 0) (s .pre .0) (λ k h. l .inv .3 k (omega arith)),
+      subst (λ (F : Format). Standing F index list (l .numbers) (length list) 0) (s .pre .0) (λ k h. l .inv .2 k (omega arith)),
     )
 
 pub open-spec : {M : Type 1} → statement M
@@ -113,4 +115,5 @@ open-spec =
     add-i
     loop-less
     loop-again
+    same-length
     returns)
