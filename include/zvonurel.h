@@ -64,9 +64,11 @@
  * beside them is 0, and no word of the buffer changes. A call that writes puts its words at the front of the buffer;
  * the words behind them keep their values. Compare answers field by field: a struct may have unused bytes at its end.
  *
- * ROOM. A buffer of ZV_SEGMENTS(rows) words is always long enough for plain words, one of ZV_MOST_BODY_WORDS(rows) for
- * a body, one of ZV_MOST_NEW_INDEX_WORDS(rows, bitmaps) for an index rewritten, and one of ZV_MOST_SUM_WORDS(rows,
- * slices) for a sum of columns. The last three are for EWAH; in WAH these may be longer or shorter, and have the sizes
+ * ROOM. A buffer of ZV_SEGMENTS(rows) words is always long enough for plain words, and one of ZV_MOST_BODY_WORDS(rows)
+ * for a body. An index that is written, rewritten or a sum of columns, may be too long for any buffer: with more than
+ * ZV_MOST_INDEX_WORDS words it is refused with ZV_NO_ROOM, however long the buffer is. For every other one a buffer of
+ * ZV_MOST_NEW_INDEX_WORDS(rows, bitmaps) words, for a sum of ZV_MOST_SUM_WORDS(rows, slices), is long enough; neither
+ * size is above ZV_MOST_INDEX_WORDS. These sizes are for EWAH; in WAH the words may be more or fewer, and the sizes are
  * ZV_WAH_MOST_BODY_WORDS, ZV_WAH_MOST_NEW_INDEX_WORDS and ZV_WAH_MOST_SUM_WORDS. A call with a buffer of length 0
  * measures: it is refused with ZV_NO_ROOM, and `word` is the words needed, unless none are, as with plain words or a
  * body of no rows. The pointer must still not be NULL.
@@ -107,10 +109,10 @@ extern "C" {
 /* Every limit and size, once. */
 
 /* The most rows of a bitmap, bitmaps of an index, words of an index, and numbers in a list. */
-#define ZV_MOST_ROWS 16777216u
-#define ZV_MOST_BITMAPS 64u
+#define ZV_MOST_ROWS 1073741824u
+#define ZV_MOST_BITMAPS 256u
 #define ZV_MOST_INDEX_WORDS 67108864u
-#define ZV_MOST_NAMED 64u
+#define ZV_MOST_NAMED 256u
 /* How many numbers a histogram has: one for each c from 0 to ZV_MOST_NAMED. */
 #define ZV_HISTOGRAM_COUNTS (ZV_MOST_NAMED + 1u)
 /* The fewest numbers that name a column, the most, and the most where only a value is asked. */
@@ -144,7 +146,7 @@ extern "C" {
 /*
  * Sizes that follow from a number of rows, and for an index from one of bitmaps or slices, each any unsigned 32-bit
  * one. They are computed in uint64_t, so that nothing wraps, and are constant where these numbers are.
- * ZV_MOST_BODY_WORDS and the two that are made of it evaluate `rows` twice.
+ * ZV_MOST_BODY_WORDS evaluates `rows` twice, and those of an index both of their numbers more than once.
  */
 
 /* The segments of that many rows in EWAH, which are also their plain words, whatever the format. */
@@ -156,15 +158,19 @@ extern "C" {
 #define ZV_MOST_BODY_WORDS(rows) (ZV_SEGMENTS(rows) + ZV_SEGMENTS(rows) / ZV_MOST_DIRTY + 1u)
 /* The same of a body in WAH, each word of which is one segment or more. It is 0 where there are no rows. */
 #define ZV_WAH_MOST_BODY_WORDS(rows) ZV_WAH_SEGMENTS(rows)
-/* No index of that many rows and bitmaps that a call writes has more words, be it rewritten or a sum: a buffer of so
- * many is never refused with ZV_NO_ROOM. */
-#define ZV_MOST_NEW_INDEX_WORDS(rows, bitmaps) \
-    (ZV_HEAD_WORDS + (uint64_t)(bitmaps) * (ZV_ENTRY_WORDS + ZV_MOST_BODY_WORDS(rows)))
+/* The words of an index of so many bitmaps, each of so many words, or ZV_MOST_INDEX_WORDS where it would have more. */
+#define ZV_INDEX_WORDS_WITHIN(bitmaps, words) \
+    (ZV_HEAD_WORDS + (uint64_t)(bitmaps) * (ZV_ENTRY_WORDS + (words)) < ZV_MOST_INDEX_WORDS \
+         ? ZV_HEAD_WORDS + (uint64_t)(bitmaps) * (ZV_ENTRY_WORDS + (words)) \
+         : (uint64_t)ZV_MOST_INDEX_WORDS)
+/* No index of that many rows and bitmaps that a call writes has more words, be it rewritten or a sum. A buffer of so
+ * many is as good as any longer one: where it is refused with ZV_NO_ROOM, more than ZV_MOST_INDEX_WORDS words are
+ * needed, and every buffer is. */
+#define ZV_MOST_NEW_INDEX_WORDS(rows, bitmaps) ZV_INDEX_WORDS_WITHIN(bitmaps, ZV_MOST_BODY_WORDS(rows))
 /* The same of an index in WAH. */
-#define ZV_WAH_MOST_NEW_INDEX_WORDS(rows, bitmaps) \
-    (ZV_HEAD_WORDS + (uint64_t)(bitmaps) * (ZV_ENTRY_WORDS + ZV_WAH_MOST_BODY_WORDS(rows)))
-/* No sum of two columns of that many rows, of which the wider has at most that many slices, has more words. It is an
- * index of the existence bitmap and one slice more than these. A list of n numbers names n - 1 slices. */
+#define ZV_WAH_MOST_NEW_INDEX_WORDS(rows, bitmaps) ZV_INDEX_WORDS_WITHIN(bitmaps, ZV_WAH_MOST_BODY_WORDS(rows))
+/* The same of a sum of two columns of that many rows, of which the wider has at most that many slices. It is an index
+ * of the existence bitmap and one slice more than these. A list of n numbers names n - 1 slices. */
 #define ZV_MOST_SUM_WORDS(rows, slices) ZV_MOST_NEW_INDEX_WORDS(rows, (uint64_t)(slices) + 2u)
 /* The same of columns of an index in WAH. */
 #define ZV_WAH_MOST_SUM_WORDS(rows, slices) ZV_WAH_MOST_NEW_INDEX_WORDS(rows, (uint64_t)(slices) + 2u)
@@ -173,7 +179,7 @@ extern "C" {
  * Numbers of refusal, with what `bitmap` and `word` are beside each. The first fault in this order is told: the
  * index's length (3), its head (1), word 0 (2), rows and N (3), room for the contents (1), the contents (4), the
  * bodies in order, each front to back (5, 6, 7; in WAH 10, 6, 7), the arguments (8), the slices of columns (11), the
- * buffer (9). A body alone is bitmap 0 with places counted in the body, and its rows are tested first (3). Plain
+ * room (9). A body alone is bitmap 0 with places counted in the body, and its rows are tested first (3). Plain
  * words: 3, then 8, 7 and 9.
  */
 
@@ -203,7 +209,8 @@ extern "C" {
  * ZV_LEAST_COLUMN numbers, or of more than ZV_MOST_COLUMN, ZV_MOST_VALUE_COLUMN where only a value is asked; a value
  * of a row that the existence bitmap has not. bitmap 0, word 0. */
 #define ZV_BAD_ARGUMENT 8u
-/* The answer does not fit into the buffer. bitmap 0; word: the words needed. */
+/* The answer does not fit into the buffer; or it is an index of more than ZV_MOST_INDEX_WORDS words, which no buffer
+ * helps. bitmap 0; word: the words needed. */
 #define ZV_NO_ROOM 9u
 /* A fill of a body in WAH counts no segments, whether any are left or not. Its bitmap, and the fill's place. */
 #define ZV_NO_SEGMENTS 10u
@@ -235,7 +242,8 @@ static inline const char *zv_refusal_text(uint32_t number)
         return "a bad argument: there is no such bitmap, row or set row, or the list, the threshold, the table or the "
                "number of plain words is not one that can be";
     case ZV_NO_ROOM:
-        return "the buffer is too short for the answer (word is how many words it needs)";
+        return "the answer has more words than the buffer, or, if it is an index, than an index may have (word is how "
+               "many)";
     case ZV_NO_SEGMENTS:
         return "the fill counts no segments";
     case ZV_STRAY_ROW:
@@ -401,10 +409,11 @@ zv_written zv_bitmap_to_ewah(const uint32_t *index, size_t index_words, uint32_t
 /* The rows of bitmap k as a body in WAH. 8: there is no bitmap k; 9. */
 zv_written zv_bitmap_to_wah(const uint32_t *index, size_t index_words, uint32_t k, uint32_t *out, size_t out_words);
 
-/* All bitmaps, in their order, as a new index in EWAH. 9. */
+/* All bitmaps, in their order, as a new index in EWAH. 9: the buffer is shorter, or the new index would have more than
+ * ZV_MOST_INDEX_WORDS words. */
 zv_written zv_index_to_ewah(const uint32_t *index, size_t index_words, uint32_t *out, size_t out_words);
 
-/* All bitmaps, in their order, as a new index in WAH. 9. */
+/* All bitmaps, in their order, as a new index in WAH. 9: the same. */
 zv_written zv_index_to_wah(const uint32_t *index, size_t index_words, uint32_t *out, size_t out_words);
 
 /* ---- two bitmaps of an index, or one, as a body in the index's format, in the form with the fewest words. 8: one is
@@ -452,7 +461,8 @@ zv_column_value zv_value(const uint32_t *index, size_t index_words, const uint32
 /* The sum of two columns, row by row, as a new index in the same format, which holds nothing else: the existence
  * bitmap as bitmap 0, then the slices, one more than the wider column has, empty ones included, each body in the form
  * with the fewest words. A row exists in the sum if it does in both. 0, 1 and so on, up to its last bitmap, name the
- * sum in the new index. 8; 11; 9. */
+ * sum in the new index. 8; 11; 9: the buffer is shorter, or the new index would have more than ZV_MOST_INDEX_WORDS
+ * words. */
 zv_written zv_sum(const uint32_t *index, size_t index_words, const uint32_t *first, size_t first_numbers,
                   const uint32_t *second, size_t second_numbers, uint32_t *out, size_t out_words);
 

@@ -51,8 +51,8 @@ static void one_body(void)
     NOT_WRITTEN(zv_compress(65, WORDS(plain), WORDS(out)), ZV_BAD_ARGUMENT, 0, 0);
 }
 
-/* 40 rows, all of them set: a run of ones over the last segment means its real rows, and is what is written; a dirty word may
- * say them too */
+/* 40 rows, all of them set: a run of ones over the last segment means its real rows, and is what is written; a dirty
+ * word may say them too */
 static void full_tail(void)
 {
     static const uint32_t run[] = {0x00000005};
@@ -102,16 +102,16 @@ static void pieces(void)
 static void long_pieces(void)
 {
     static const uint32_t two[] = {0x0001FFFE, 0x2},
-                          most[] = {0x1FFFF, 0x1FFFF, 0x1FFFF, 0x1FFFF, 0x1FFFF, 0x1FFFF, 0x1FFFF, 0x1FFFF, 0x11},
+                          nine[] = {0x1FFFF, 0x1FFFF, 0x1FFFF, 0x1FFFF, 0x1FFFF, 0x1FFFF, 0x1FFFF, 0x1FFFF, 0x11},
                           index[] = {1, 96, 3, 9, 1, 10, 4, 14, 1, 0x6, 0x00020000, 0x20, 0x00020002, 0x1, 0x7};
     static const piece of_two[] = {{2097119, 0}, {2097151, 0}},
-                       of_most[] = {{2097119, ~0u},  {4194239, ~0u},  {6291359, ~0u},  {8388479, ~0u}, {10485599, ~0u},
+                       of_nine[] = {{2097119, ~0u},  {4194239, ~0u},  {6291359, ~0u},  {8388479, ~0u}, {10485599, ~0u},
                                     {12582719, ~0u}, {14679839, ~0u}, {16776959, ~0u}, {16777215, ~0u}},
                        of_first[] = {{95, 0}}, of_second[] = {{31, 0x20}, {63, 0}, {95, 0x1}},
                        of_third[] = {{95, ~0u}};
 
     PIECES(zv_body_row, two, 2097152, of_two);
-    PIECES(zv_body_row, most, ZV_MOST_ROWS, of_most);
+    PIECES(zv_body_row, nine, 16777216, of_nine);
     PIECES(zv_row, index, 0, of_first);
     PIECES(zv_row, index, 1, of_second);
     PIECES(zv_row, index, 2, of_third);

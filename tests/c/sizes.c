@@ -19,21 +19,25 @@
 #define FULL_ROWS 1048544u
 #define PAST_FULL_ROWS 1048576u
 #define MOST_UINT32 4294967295u
+/* The most rows of which any sum of 32 slices keeps within an index; in WAH they are fewer. */
+#define SUM_ROWS 63159264u
+#define WAH_SUM_ROWS 61187428u
 
 HOLDS(full, FULL_ROWS == ZV_MOST_DIRTY * ZV_WORD_BITS);
 HOLDS(segments_need_no_variable, ZV_SEGMENTS(MOST_UINT32) == 134217728u);
 HOLDS(words_need_no_variable, ZV_MOST_BODY_WORDS(MOST_UINT32) == 134221825u);
 HOLDS(segments_are_64_bits, sizeof(ZV_SEGMENTS(1u)) == sizeof(uint64_t));
 HOLDS(words_are_64_bits, sizeof(ZV_MOST_BODY_WORDS(1u)) == sizeof(uint64_t));
-HOLDS(sums_need_no_variable, ZV_MOST_SUM_WORDS(MOST_UINT32, MOST_UINT32) == 576478357508591622u);
+HOLDS(sums_need_no_variable, ZV_MOST_SUM_WORDS(MOST_UINT32, MOST_UINT32) == ZV_MOST_INDEX_WORDS);
 HOLDS(sums_are_64_bits, sizeof(ZV_MOST_SUM_WORDS(1u, 1u)) == sizeof(uint64_t));
 HOLDS(wah_segments_need_no_variable, ZV_WAH_SEGMENTS(MOST_UINT32) == 138547333u);
 HOLDS(wah_words_need_no_variable, ZV_WAH_MOST_BODY_WORDS(MOST_UINT32) == 138547333u);
 HOLDS(wah_words_are_64_bits, sizeof(ZV_WAH_MOST_BODY_WORDS(1u)) == sizeof(uint64_t));
-HOLDS(wah_sums_need_no_variable, ZV_WAH_MOST_SUM_WORDS(MOST_UINT32, MOST_UINT32) == 595056272911503498u);
+HOLDS(wah_sums_need_no_variable, ZV_WAH_MOST_SUM_WORDS(MOST_UINT32, MOST_UINT32) == ZV_MOST_INDEX_WORDS);
 HOLDS(wah_sums_are_64_bits, sizeof(ZV_WAH_MOST_SUM_WORDS(1u, 1u)) == sizeof(uint64_t));
-HOLDS(indexes_need_no_variable, ZV_MOST_NEW_INDEX_WORDS(MOST_UINT32, MOST_UINT32) == 576478357240147968u);
-HOLDS(wah_indexes_need_no_variable, ZV_WAH_MOST_NEW_INDEX_WORDS(MOST_UINT32, MOST_UINT32) == 595056272634408828u);
+/* 4,295,098,467 words and 4,294,967,388, which 32 bits would have as 131,171 and 92 */
+HOLDS(indexes_do_not_wrap, ZV_MOST_NEW_INDEX_WORDS(MOST_UINT32, 32u) == ZV_MOST_INDEX_WORDS);
+HOLDS(wah_indexes_do_not_wrap, ZV_WAH_MOST_NEW_INDEX_WORDS(MOST_UINT32, 31u) == ZV_MOST_INDEX_WORDS);
 HOLDS(a_sum_is_an_index, ZV_MOST_NEW_INDEX_WORDS(33u, 3u) == ZV_MOST_SUM_WORDS(33u, 1u));
 HOLDS(a_wah_sum_is_an_index, ZV_WAH_MOST_NEW_INDEX_WORDS(33u, 3u) == ZV_WAH_MOST_SUM_WORDS(33u, 1u));
 HOLDS(an_argument_may_be_a_sum, ZV_SEGMENTS(1u + 31u) == 1u && ZV_MOST_BODY_WORDS(1u ? 33u : 0u) == 3u);
@@ -87,8 +91,11 @@ static void sizes(void)
         {33, 2, 3, 18, 173},
         {FULL_ROWS, 32767, 32769, 98316, 1114217},
         {PAST_FULL_ROWS, 32768, 32770, 98319, 1114251},
-        {ZV_MOST_ROWS, 524288, 524305, 1572924, 17826441},
-        {MOST_UINT32, 134217728, 134221825, 402665484, 4563542121},
+        {16777216, 524288, 524305, 1572924, 17826441},
+        {SUM_ROWS, 1973727, 1973788, 5921373, ZV_MOST_INDEX_WORDS - 1},
+        {SUM_ROWS + 1, 1973728, 1973789, 5921376, ZV_MOST_INDEX_WORDS},
+        {ZV_MOST_ROWS, 33554432, 33555457, ZV_MOST_INDEX_WORDS, ZV_MOST_INDEX_WORDS},
+        {MOST_UINT32, 134217728, 134221825, ZV_MOST_INDEX_WORDS, ZV_MOST_INDEX_WORDS},
     };
 
     for (size_t i = 0; i < sizeof(known) / sizeof(known[0]); i++) {
@@ -114,8 +121,11 @@ static void wah_sizes(void)
         {63, 3, 18, 173},
         {FULL_ROWS, 33824, 101481, 1150087},
         {PAST_FULL_ROWS, 33826, 101487, 1150155},
-        {ZV_MOST_ROWS, 541201, 1623612, 18400905},
-        {MOST_UINT32, 138547333, 415642008, 4710609393},
+        {16777216, 541201, 1623612, 18400905},
+        {WAH_SUM_ROWS, 1973788, 5921373, ZV_MOST_INDEX_WORDS - 1},
+        {WAH_SUM_ROWS + 1, 1973789, 5921376, ZV_MOST_INDEX_WORDS},
+        {ZV_MOST_ROWS, 34636834, ZV_MOST_INDEX_WORDS, ZV_MOST_INDEX_WORDS},
+        {MOST_UINT32, 138547333, ZV_MOST_INDEX_WORDS, ZV_MOST_INDEX_WORDS},
     };
 
     for (size_t i = 0; i < sizeof(known) / sizeof(known[0]); i++) {

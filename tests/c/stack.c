@@ -24,7 +24,8 @@
 #define UNTOLD 99u
 
 /* Bitmap k has a run of k segments, dirty words, a run of the other value, and a dirty word, which has a pad bit. */
-#define SEGMENTS 70u
+#define SEGMENTS (ZV_MOST_BITMAPS + 6u)
+#define LAST (ZV_MOST_BITMAPS - 1u)
 #define ROWS (SEGMENTS * ZV_WORD_BITS - 1u)
 #define FIRST_DIRTY 3u
 #define BODY_WORDS (1u + FIRST_DIRTY + 2u)
@@ -84,21 +85,21 @@ static union {
     X(written, zv_wah_body_to_wah, BODY, out, room)
 #define INDEX_CALLS(X) \
     X(checked, zv_check, INDEX) \
-    X(checked, zv_bitmap_refusal, INDEX, 63u) \
-    X(part, zv_bitmap, INDEX, 63u) \
-    X(flag, zv_row, INDEX, 63u, ROWS - 1u) \
-    X(number, zv_count, INDEX, 63u) \
-    X(number, zv_nth, INDEX, 63u, 40u) \
-    X(written, zv_expand_bitmap, INDEX, 63u, out, room) \
-    X(written, zv_bitmap_to_ewah, INDEX, 63u, out, room) \
-    X(written, zv_bitmap_to_wah, INDEX, 63u, out, room) \
+    X(checked, zv_bitmap_refusal, INDEX, LAST) \
+    X(part, zv_bitmap, INDEX, LAST) \
+    X(flag, zv_row, INDEX, LAST, ROWS - 1u) \
+    X(number, zv_count, INDEX, LAST) \
+    X(number, zv_nth, INDEX, LAST, 40u) \
+    X(written, zv_expand_bitmap, INDEX, LAST, out, room) \
+    X(written, zv_bitmap_to_ewah, INDEX, LAST, out, room) \
+    X(written, zv_bitmap_to_wah, INDEX, LAST, out, room) \
     X(written, zv_index_to_ewah, INDEX, out, room) \
     X(written, zv_index_to_wah, INDEX, out, room) \
-    X(written, zv_and, INDEX, 1u, 62u, out, room) \
-    X(written, zv_or, INDEX, 1u, 62u, out, room) \
-    X(written, zv_xor, INDEX, 1u, 62u, out, room) \
-    X(written, zv_and_not, INDEX, 1u, 62u, out, room) \
-    X(written, zv_not, INDEX, 63u, out, room) \
+    X(written, zv_and, INDEX, 1u, LAST - 1u, out, room) \
+    X(written, zv_or, INDEX, 1u, LAST - 1u, out, room) \
+    X(written, zv_xor, INDEX, 1u, LAST - 1u, out, room) \
+    X(written, zv_and_not, INDEX, 1u, LAST - 1u, out, room) \
+    X(written, zv_not, INDEX, LAST, out, room) \
     X(answered, zv_threshold, INDEX, WORDS(list), 20u, out, room) \
     X(answered, zv_symmetric, INDEX, WORDS(list), WORDS(table), out, room) \
     X(histogram, zv_histogram, INDEX, WORDS(list)) \
@@ -146,11 +147,11 @@ static void prepare(void)
 static void prepare_columns(void)
 {
     for (uint32_t i = 0; i < ZV_MOST_VALUE_COLUMN; i++) {
-        longest[i] = 63u;
+        longest[i] = LAST;
     }
     for (uint32_t i = 0; i < ZV_MOST_COLUMN; i++) {
         first[i] = 1u;
-        second[i] = 62u;
+        second[i] = LAST - 1u;
     }
 }
 

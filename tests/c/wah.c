@@ -132,14 +132,14 @@ static void pieces(void)
 /* one fill counts more segments than a marker does; in the second bitmap of an index rows 5 and 64 are set */
 static void long_pieces(void)
 {
-    static const uint32_t none_set[] = {0x80010843}, most[] = {0xC0084210, 0xC0000001},
+    static const uint32_t none_set[] = {0x80010843}, two[] = {0xC0084210, 0xC0000001},
                           index[] = {2, 96, 3, 9, 1, 10, 4, 14, 1, 0x80000004, 0x20, 0x80000001, 0x4, 0, 0xC0000004};
-    static const piece of_none_set[] = {{2097151, 0}}, of_most[] = {{16777199, ~0u}, {16777215, ~0u}},
+    static const piece of_none_set[] = {{2097151, 0}}, of_two[] = {{16777199, ~0u}, {16777215, ~0u}},
                        of_first[] = {{95, 0}}, of_second[] = {{30, 0x20}, {61, 0}, {92, 0x4}, {95, 0}},
                        of_third[] = {{95, ~0u}};
 
     PIECES(zv_wah_body_row, none_set, 2097152, of_none_set);
-    PIECES(zv_wah_body_row, most, ZV_MOST_ROWS, of_most);
+    PIECES(zv_wah_body_row, two, 16777216, of_two);
     PIECES(zv_row, index, 0, of_first);
     PIECES(zv_row, index, 1, of_second);
     PIECES(zv_row, index, 2, of_third);

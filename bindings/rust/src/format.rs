@@ -1,6 +1,7 @@
 //! The two formats, and the sizes that follow from one.
 
-use crate::{ENTRY_WORDS, HEAD_WORDS, INDEX_KIND, MOST_DIRTY, WAH_INDEX_KIND, WAH_SEGMENT_ROWS, WORD_BITS};
+use crate::{ENTRY_WORDS, HEAD_WORDS, INDEX_KIND, MOST_DIRTY, MOST_INDEX_WORDS};
+use crate::{WAH_INDEX_KIND, WAH_SEGMENT_ROWS, WORD_BITS};
 
 /// How the words of a body say which rows are set. All bodies of an index are in one format, and word 0 tells which.
 ///
@@ -100,21 +101,29 @@ impl Format {
     }
 
     /// Room for every index of that many rows and bitmaps that the library writes in this format, such as by
-    /// [`index_to_wah`](crate::index_to_wah).
+    /// [`index_to_wah`](crate::index_to_wah). It is never above [`MOST_INDEX_WORDS`], since no longer index is written:
+    /// a call that is refused such a buffer with 9 is refused any.
     ///
     /// ```
-    /// use zvonurel::Format;
+    /// use zvonurel::{Format, MOST_INDEX_WORDS, MOST_ROWS};
     ///
     /// assert_eq!(Format::Ewah.most_new_index_words(40, 2), 13);
     /// assert_eq!(Format::Wah.most_new_index_words(40, 2), 11);
+    /// assert_eq!(Format::Wah.most_new_index_words(MOST_ROWS, 2), MOST_INDEX_WORDS);
     /// ```
     #[must_use]
     pub const fn most_new_index_words(self, rows: u32, bitmaps: usize) -> usize {
-        HEAD_WORDS + bitmaps * (ENTRY_WORDS + self.most_body_words(rows))
+        let words = bitmaps.saturating_mul(ENTRY_WORDS + self.most_body_words(rows)).saturating_add(HEAD_WORDS);
+        if words < MOST_INDEX_WORDS {
+            words
+        } else {
+            MOST_INDEX_WORDS
+        }
     }
 
     /// Room for every sum of two columns of that many rows of an index in this format, of which the wider has at most
-    /// that many slices: [`sum`](crate::sum) is not refused such a buffer.
+    /// that many slices: [`sum`](crate::sum) is refused such a buffer only where the sum is longer than
+    /// [`MOST_INDEX_WORDS`], and then it is refused any.
     ///
     /// A list of n numbers names n - 1 slices. The sum is an index of the existence bitmap and one slice more.
     ///
@@ -126,6 +135,6 @@ impl Format {
     /// ```
     #[must_use]
     pub const fn most_sum_words(self, rows: u32, slices: usize) -> usize {
-        self.most_new_index_words(rows, slices + 2)
+        self.most_new_index_words(rows, slices.saturating_add(2))
     }
 }

@@ -69,9 +69,10 @@
 //! # Room
 //!
 //! A buffer of [`most_body_words`] words takes every body of so many rows, one of [`segments`] words every body's
-//! plain words, one of [`most_sum_words`] words every sum of columns. For bodies and indexes that are written in WAH,
-//! or in either, a [`Format`] has these sizes; of many rows WAH can need more words. A buffer of length 0 measures:
-//! the refusal is [`Refusal::NO_ROOM`], with the words needed, unless none are.
+//! plain words, one of [`most_sum_words`] words every sum of columns, but for a sum of more words than
+//! [`MOST_INDEX_WORDS`]: such an index is refused whatever the buffer, and so is one that is rewritten. For bodies and
+//! indexes that are written in WAH, or in either, a [`Format`] has these sizes; of many rows WAH can need more words. A
+//! buffer of length 0 measures: the refusal is [`Refusal::NO_ROOM`], with the words needed, unless none are.
 //!
 //! # Cost
 //!
@@ -490,8 +491,8 @@ fn index_to(format: Format, index: &[u32], out: &mut [u32]) -> Result<usize, Ref
 /// how many words. Each body is in the one form with the fewest words.
 ///
 /// # Errors
-/// 1 to 7, or 10, for the index's first fault; 9 for a short buffer. [`Format::most_new_index_words`]
-/// says how long is long enough.
+/// 1 to 7, or 10, for the index's first fault; 9 for a short buffer, or a new index of more than [`MOST_INDEX_WORDS`]
+/// words. [`Format::most_new_index_words`] says how long is long enough.
 ///
 /// ```
 /// // 40 rows in WAH, all of them set, and rows 0 and 39
@@ -509,8 +510,8 @@ pub fn index_to_ewah(index: &[u32], out: &mut [u32]) -> Result<usize, Refusal> {
 /// many words. Each body is in the one form with the fewest words.
 ///
 /// # Errors
-/// 1 to 7, or 10, for the index's first fault; 9 for a short buffer. [`Format::most_new_index_words`]
-/// says how long is long enough.
+/// 1 to 7, or 10, for the index's first fault; 9 for a short buffer, or a new index of more than [`MOST_INDEX_WORDS`]
+/// words. [`Format::most_new_index_words`] says how long is long enough.
 ///
 /// ```
 /// let index = [1, 40, 2, 7, 1, 8, 3, 0x5, 0x40000, 0x1, 0x80];
@@ -723,7 +724,7 @@ pub fn value(index: &[u32], column: &[u32], row: u32) -> Result<u64, Refusal> {
 /// # Errors
 /// 1 to 7, or 10, for the index's first fault; 8 for a list of fewer than [`LEAST_COLUMN`] numbers, more than
 /// [`MOST_COLUMN`] or one that is no bitmap's; 11 where a slice has a row that does not exist in its column; 9 for a
-/// short buffer.
+/// short buffer, or a sum of more than [`MOST_INDEX_WORDS`] words.
 ///
 /// ```
 /// // rows 0 to 3 have the values 1, 2, 3 and 0, and then rows 1 to 4 the values 1, 1, 0 and 1

@@ -3,16 +3,16 @@
 use crate::Format;
 
 /// The most rows that a bitmap can have.
-pub const MOST_ROWS: u32 = 16_777_216;
+pub const MOST_ROWS: u32 = 1_073_741_824;
 
 /// The most bitmaps that an index can have.
-pub const MOST_BITMAPS: u32 = 64;
+pub const MOST_BITMAPS: u32 = 256;
 
 /// The most words that an index can have.
 pub const MOST_INDEX_WORDS: usize = 67_108_864;
 
 /// The most numbers that a list can have.
-pub const MOST_NAMED: usize = 64;
+pub const MOST_NAMED: usize = 256;
 
 /// How many numbers a histogram has: one for each number of holders from 0 to [`MOST_NAMED`].
 pub const HISTOGRAM_COUNTS: usize = MOST_NAMED + 1;
@@ -91,7 +91,8 @@ pub const fn most_body_words(rows: u32) -> usize {
 }
 
 /// Room for every sum of two columns of that many rows of an index in EWAH, of which the wider has at most that many
-/// slices: [`sum`] is not refused such a buffer. In WAH it is [`Format::most_sum_words`] that says so.
+/// slices: [`sum`] is refused such a buffer only where the sum is longer than [`MOST_INDEX_WORDS`], and then it is
+/// refused any. In WAH it is [`Format::most_sum_words`] that says so.
 ///
 /// A list of n numbers names n - 1 slices. The sum is an index of the existence bitmap and one slice more.
 ///
@@ -99,6 +100,7 @@ pub const fn most_body_words(rows: u32) -> usize {
 ///
 /// ```
 /// assert_eq!(zvonurel::most_sum_words(8, 2), 19);
+/// assert_eq!(zvonurel::most_sum_words(zvonurel::MOST_ROWS, 32), zvonurel::MOST_INDEX_WORDS);
 /// ```
 #[must_use]
 pub const fn most_sum_words(rows: u32, slices: usize) -> usize {

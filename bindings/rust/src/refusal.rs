@@ -58,7 +58,8 @@ impl Refusal {
     pub const PAD_BIT: u32 = 7;
     /// A bad argument; `argument` says which.
     pub const BAD_ARGUMENT: u32 = 8;
-    /// The answer doesn't fit into the buffer; `word` is how many words it has.
+    /// The answer doesn't fit into the buffer; or it is an index of more than [`MOST_INDEX_WORDS`] words, which no
+    /// buffer helps. `word` is how many words it has.
     pub const NO_ROOM: u32 = 9;
     /// The fill at `word`, of a body in WAH, counts no segments.
     pub const NO_SEGMENTS: u32 = 10;
@@ -99,6 +100,10 @@ impl fmt::Display for Refusal {
                 Some(argument) => write!(f, "a bad argument: {argument}")?,
                 None => write!(f, "a bad argument")?,
             },
+            // of all answers an index alone can be so long
+            Refusal::NO_ROOM if word > MOST_INDEX_WORDS as u64 => {
+                write!(f, "the answer is an index of {word} words, and {MOST_INDEX_WORDS} are the most")?
+            }
             Refusal::NO_ROOM => write!(f, "the buffer is too short for an answer of {word} words")?,
             Refusal::NO_SEGMENTS => write!(f, "bitmap {bitmap}, word {word}: the fill counts no segments")?,
             Refusal::STRAY_ROW => {

@@ -118,15 +118,22 @@ fn sizes() {
     assert_eq!(sizes(33), (2, 3));
     assert_eq!(sizes(1_048_544), (32_767, 32_769));
     assert_eq!(sizes(1_048_576), (32_768, 32_770));
-    assert_eq!(sizes(MOST_ROWS), (524_288, 524_305));
+    assert_eq!(sizes(16_777_216), (524_288, 524_305));
+    assert_eq!(sizes(MOST_ROWS), (33_554_432, 33_555_457));
     assert_eq!(sizes(u32::MAX), (134_217_728, 134_221_825));
     let sums = |rows| (most_sum_words(rows, LEAST_COLUMN - 1), most_sum_words(rows, MOST_COLUMN - 1));
     assert_eq!(sums(0), (12, 105));
     assert_eq!(sums(1), (15, 139));
     assert_eq!(sums(33), (18, 173));
     assert_eq!(sums(1_048_576), (98_319, 1_114_251));
-    assert_eq!(sums(MOST_ROWS), (1_572_924, 17_826_441));
-    assert_eq!(sums(u32::MAX), (402_665_484, 4_563_542_121));
+    assert_eq!(sums(16_777_216), (1_572_924, 17_826_441));
+    // the most rows of which any sum keeps within an index, and no size above that
+    assert_eq!(sums(63_159_264), (5_921_373, MOST_INDEX_WORDS - 1));
+    assert_eq!(sums(63_159_265), (5_921_376, MOST_INDEX_WORDS));
+    for rows in [MOST_ROWS, u32::MAX] {
+        assert_eq!(sums(rows), (MOST_INDEX_WORDS, MOST_INDEX_WORDS));
+        assert_eq!(most_sum_words(rows, usize::MAX), MOST_INDEX_WORDS);
+    }
     // a body that needs them all: rows 0, 32, 64 and so on
     let mut body = vec![0; most_body_words(1_048_576)];
     assert_eq!(compress(1_048_576, &vec![1; 32_768], &mut body), Ok(32_770));
@@ -155,8 +162,11 @@ fn sizes_by_format() {
     assert_eq!(sizes(63), (3, [18, 173]));
     assert_eq!(sizes(1_048_544), (33_824, [101_481, 1_150_087]));
     assert_eq!(sizes(1_048_576), (33_826, [101_487, 1_150_155]));
-    assert_eq!(sizes(MOST_ROWS), (541_201, [1_623_612, 18_400_905]));
-    assert_eq!(sizes(u32::MAX), (138_547_333, [415_642_008, 4_710_609_393]));
+    assert_eq!(sizes(16_777_216), (541_201, [1_623_612, 18_400_905]));
+    assert_eq!(sizes(61_187_428), (1_973_788, [5_921_373, MOST_INDEX_WORDS - 1]));
+    assert_eq!(sizes(61_187_429), (1_973_789, [5_921_376, MOST_INDEX_WORDS]));
+    assert_eq!(sizes(MOST_ROWS), (34_636_834, [MOST_INDEX_WORDS; 2]));
+    assert_eq!(sizes(u32::MAX), (138_547_333, [MOST_INDEX_WORDS; 2]));
     let words = [Format::Ewah, Format::Wah].map(|format| (format.index_kind(), format.segment_rows()));
     assert_eq!(words, [(1, 32), (2, 31)]);
 }
@@ -284,7 +294,7 @@ fn builder_limits() {
     assert_eq!(full.add_plain(&[]).unwrap_err().numbers(), (Refusal::TOO_LARGE, 0, 2));
     assert_eq!(full.add_rows([]).unwrap_err().numbers(), (Refusal::TOO_LARGE, 0, 2));
     assert_eq!((before[2], full.build()), (MOST_BITMAPS, Ok(before.clone())));
-    // bodies may be wasteful, so that 64 of them pass the words of an index
+    // bodies may be wasteful, so that two of them pass the words of an index
     let idle = vec![0; MOST_INDEX_WORDS / 2];
     let mut long = IndexBuilder::new(0);
     assert_eq!((long.add_body(&idle), long.add_body(&idle)), (Ok(0), Ok(1)));
@@ -336,13 +346,16 @@ fn builder_refuses_columns() {
     // what is refused adds nothing, not even the bitmaps that there is room for
     assert!(builder.add_column(&values, 2).is_err());
     assert_eq!(builder.build(), Ok(vec![1, 3, 0]));
-    assert_eq!(builder.add_column(&widest, 32).unwrap().len(), MOST_COLUMN);
+    // seven of the widest, and one of 24 slices, are as many bitmaps as an index has
+    for k in 1..=7 {
+        assert_eq!(builder.add_column(&widest, 32).unwrap().last(), Some(&(33 * k - 1)));
+    }
     let before = builder.build();
-    for slices in [31, usize::MAX] {
+    for slices in [25, usize::MAX] {
         assert_eq!(builder.add_column(&widest, slices).unwrap_err().numbers(), (Refusal::TOO_LARGE, 0, 2));
         assert_eq!(builder.build(), before);
     }
-    assert_eq!(builder.add_column(&values, 30).unwrap().last(), Some(&(MOST_BITMAPS - 1)));
+    assert_eq!(builder.add_column(&values, 24).unwrap().last(), Some(&(MOST_BITMAPS - 1)));
     let mut long = IndexBuilder::new(MOST_ROWS + 1);
     assert_eq!(long.add_column(&[], 1).unwrap_err().numbers(), (Refusal::TOO_LARGE, 0, 1));
 }

@@ -214,11 +214,11 @@ fn long_bodies() {
     let ewah = written(|back| wah::to_ewah(&out, rows, back));
     assert_eq!(written(|back| to_wah(&ewah, rows, back)), out);
 
-    // all of the rows but the last two, in 541,200 segments and one of 16 rows
-    let most = [0xC000_0000 + 541_200, 0x3FFF];
+    // all of the rows but the last two, in 34,636,832 segments, one that lacks its last row, and one of one row
+    let most = [0xC000_0000 + 34_636_832, 0x3FFF_FFFF, 0x0];
     assert_eq!(wah::body_count(&most, MOST_ROWS), Ok(MOST_ROWS - 2));
     let ewah = written(|out| wah::to_ewah(&most, MOST_ROWS, out));
-    assert_eq!(ewah, [&[0x1FFFF; 8][..], &[0x2000F, 0x3FFF_FFFF]].concat());
+    assert_eq!(ewah, [&[0x1FFFF; 512][..], &[0x203FF, 0x3FFF_FFFF]].concat());
     assert_eq!(written(|out| to_wah(&ewah, MOST_ROWS, out)), most);
     let mut spells = wah::spells(&most, MOST_ROWS).unwrap();
     assert_eq!((spells.next(), spells.next()), (Some(Spell { first: 0, length: MOST_ROWS - 2 }), None));

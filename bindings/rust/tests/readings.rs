@@ -31,9 +31,9 @@ fn bodies() {
     body_of(96, &[0x20, 0, 0x1], &[0x20000, 0x20, 0x20002, 0x1]);
     body_of(2_097_152, &vec![0; 65_536], &[0x1FFFE, 0x2]);
     body_of(2_097_120, &vec![0; 65_535], &[0x1FFFE]);
-    let mut most = vec![0x1FFFE; 8];
-    most.push(0x10);
-    body_of(16_777_216, &vec![0; 524_288], &most);
+    let mut most = vec![0x1FFFE; 512];
+    most.push(0x400);
+    body_of(1_073_741_824, &vec![0; 33_554_432], &most);
     assert_eq!(told(check_body(&most, MOST_ROWS + 1)), Err((3, 0, 1)));
     // sound, and wasteful
     writes(&[!0, 0xFF], |out| expand(&[0x20003, 0xFF], 40, out));
@@ -79,8 +79,9 @@ fn pieces_of_bodies() {
     assert_eq!(of(100, &[0x3, 0x3, 0x5]), [(0, 31), (32, 63), (64, 99)]);
     assert_eq!(of(96, &[0, 1, 0x4, 1, 0, 0x20000, 0x20, 0]), [(0, 63), (64, 95)]);
     assert_eq!(of(2_097_152, &[0x1FFFE, 0x2]), [(0, 2_097_119), (2_097_120, 2_097_151)]);
-    let most = of(MOST_ROWS, &[&[0x1FFFF; 8][..], &[0x11]].concat());
-    assert_eq!((most.len(), most[7], most[8]), (9, (14_679_840, 16_776_959), (16_776_960, 16_777_215)));
+    let most = of(MOST_ROWS, &[&[0x1FFFF; 512][..], &[0x401]].concat());
+    let (full, last) = ((1_071_628_320, 1_073_725_439), (1_073_725_440, 1_073_741_823));
+    assert_eq!((most.len(), most[511], most[512]), (513, full, last));
 }
 
 #[test]
@@ -155,6 +156,9 @@ fn limits() {
 
     assert_eq!(histogram(&LOOPED, &[0; MOST_NAMED]).unwrap()[MOST_NAMED], 2);
     assert_eq!(told(histogram(&LOOPED, &[0; MOST_NAMED + 1])), Err(BAD));
+    let table = [0; HISTOGRAM_COUNTS + 1];
+    assert_eq!(symmetric(&LOOPED, &[0; MOST_NAMED], &table[1..], &mut [0; 1]).unwrap().words, 1);
+    assert_eq!(told(symmetric(&LOOPED, &[0; MOST_NAMED + 1], &table, &mut [0; 1])), Err(BAD));
 
     let body = |word: u32, segments: usize| {
         let mut out = vec![0; segments + 2];
@@ -214,8 +218,8 @@ fn sentences() {
         "the index has 8 words, too few for its head and its contents (refusal 1)"
     );
     assert_eq!(changed(0, 3), "word 0 is neither 1 nor 2, so this is no index (refusal 2)");
-    assert_eq!(changed(1, MOST_ROWS + 1), "there are more than 16777216 rows (refusal 3)");
-    assert_eq!(changed(2, MOST_BITMAPS + 1), "there are more than 64 bitmaps (refusal 3)");
+    assert_eq!(changed(1, MOST_ROWS + 1), "there are more than 1073741824 rows (refusal 3)");
+    assert_eq!(changed(2, MOST_BITMAPS + 1), "there are more than 256 bitmaps (refusal 3)");
     let first = "word 3: bitmap 0 has the wrong start, or there is no bitmap and the index goes on (refusal 4)";
     assert_eq!(changed(3, 8), first);
     assert_eq!(check(&[1, 0, 0, 0]).unwrap_err().to_string(), first);
@@ -259,7 +263,7 @@ fn bad_arguments() {
     }
     assert_eq!(said(not(&LOOPED, 3, out)), no_bitmap(3));
     assert_eq!(said(histogram(&LOOPED, &[])), "the list has no number");
-    assert_eq!(said(histogram(&LOOPED, &[9; 65])), "the list has 65 numbers, and 64 are the most");
+    assert_eq!(said(histogram(&LOOPED, &[9; 257])), "the list has 257 numbers, and 256 are the most");
     let name = "place 1 of the list has 3, and there are 3 bitmaps, counted from 0";
     assert_eq!(said(threshold(&LOOPED, &[0, 3, 4], 0, out)), name);
     assert_eq!(said(threshold(&LOOPED, &ALL, 0, out)), "the threshold is 0, and for this list it can be 1 to 3");

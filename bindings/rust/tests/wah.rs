@@ -52,10 +52,10 @@ fn bodies() {
     // rows 5 and 64
     body_of(96, &[0x20, 0, 0x1], &[0x20000, 0x20, 0x20002, 0x1], &[0x20, 0, 0x4, 0]);
     rewritten(2_097_152, &[0x1FFFE, 0x2], &[0x8001_0843]);
-    let mut most = vec![0x1FFFE; 8];
-    most.push(0x10);
-    body_of(MOST_ROWS, &vec![0; 524_288], &most, &[0x8008_4211]);
-    assert_eq!(told(wah::check_body(&[0x8008_4211], MOST_ROWS + 1)), Err((3, 0, 1)));
+    let mut most = vec![0x1FFFE; 512];
+    most.push(0x400);
+    body_of(MOST_ROWS, &vec![0; 33_554_432], &most, &[0x8210_8422]);
+    assert_eq!(told(wah::check_body(&[0x8210_8422], MOST_ROWS + 1)), Err((3, 0, 1)));
 }
 
 /// What is sound and wasteful is rewritten to the form with the fewest words.
@@ -107,7 +107,7 @@ fn pieces_of_bodies() {
     assert_eq!(of(92, &[0, 0x8000_0002]), [(0, 30), (31, 91)]);
     assert_eq!(of(96, &[0xC000_0002, 0x7FFF_FFFF, 0x5]), [(0, 61), (62, 92), (93, 95)]);
     assert_eq!(of(2_097_152, &[0x8001_0843]), [(0, 2_097_151)]);
-    assert_eq!(of(MOST_ROWS, &[0xC008_4210, 0x0]), [(0, 16_777_199), (16_777_200, 16_777_215)]);
+    assert_eq!(of(MOST_ROWS, &[0xC210_8421, 0x0]), [(0, 1_073_741_822), (1_073_741_823, 1_073_741_823)]);
 }
 
 #[test]
