@@ -2,6 +2,7 @@
 
 use std::panic::{catch_unwind, set_hook, take_hook, AssertUnwindSafe};
 use std::sync::atomic::{AtomicBool, Ordering::Relaxed};
+use std::time::Instant;
 
 use reference::{with_mistake, Mistake};
 use zvonurel::{Row, HISTOGRAM_COUNTS};
@@ -76,14 +77,26 @@ fn guarded(ask: impl FnOnce() -> Result<Value, Refused>) -> Result<Value, Refuse
 
 /// The library's outcome.
 pub fn ask_library(words: &[u32], question: &Question) -> Outcome {
+    timed_library(words, question).0
+}
+
+/// The same, and the seconds of the call.
+pub fn timed_library(words: &[u32], question: &Question) -> (Outcome, f64) {
     let mut buffer = pattern(question.room);
+    let begun = Instant::now();
     let result = guarded(|| library(words, question, &mut buffer[..question.room]).map_err(|r| r.numbers()));
-    Outcome { result, buffer }
+    (Outcome { result, buffer }, begun.elapsed().as_secs_f64())
 }
 
 /// The reference's outcome, with a mistake built in or without.
 pub fn ask_reference(words: &[u32], question: &Question, mistake: Option<Mistake>) -> Outcome {
+    timed_reference(words, question, mistake).0
+}
+
+/// The same, and the seconds that it took.
+pub fn timed_reference(words: &[u32], question: &Question, mistake: Option<Mistake>) -> (Outcome, f64) {
     let mut buffer = pattern(question.room);
+    let begun = Instant::now();
     let result = guarded(|| {
         let asked = match mistake {
             Some(mistake) => with_mistake(mistake, || second(words, question)),
@@ -93,7 +106,7 @@ pub fn ask_reference(words: &[u32], question: &Question, mistake: Option<Mistake
         buffer[..written.len()].copy_from_slice(&written);
         Ok(value)
     });
-    Outcome { result, buffer }
+    (Outcome { result, buffer }, begun.elapsed().as_secs_f64())
 }
 
 /// How many words the answer has; 0 if it is refused for another cause than room.

@@ -18,6 +18,9 @@ const FAR_LIST: usize = 300;
 const FAR_TABLE: usize = 400;
 const _: () = assert!(FAR_LIST > MOST_NAMED && FAR_TABLE > HISTOGRAM_COUNTS);
 
+/// One input in so many has a list of about the most numbers too, since it is slow.
+const LONG_LIST_IN: usize = 16;
+
 const PAIRS: [Call; 4] = [Call::And, Call::Or, Call::Xor, Call::AndNot];
 
 pub fn ask_all(session: &mut Session, input: &Input, random: &mut Random) {
@@ -285,7 +288,7 @@ impl Asker<'_> {
 
     fn lists(&mut self) {
         let most = match self.input.effort {
-            Effort::Full if self.random.one_in(5) => MOST_NAMED - 1,
+            Effort::Full if self.random.one_in(5) => 60,
             Effort::Few if self.input.bitmaps < 3 => 3,
             _ => 9,
         };
@@ -300,9 +303,11 @@ impl Asker<'_> {
             let all: Vec<u32> = (0..self.input.bitmaps).collect();
             self.good_list(&all);
         }
-        if self.random.one_in(4) && self.input.effort != Effort::Few {
-            let most = self.some_list(MOST_NAMED);
-            self.good_list(&most);
+        if self.random.one_in(LONG_LIST_IN) && self.input.effort != Effort::Few {
+            let some = self.random.between(MOST_NAMED / 2, MOST_NAMED);
+            let length = self.random.pick(&[MOST_NAMED, MOST_NAMED, MOST_NAMED - 1, some]);
+            let long = self.some_list(length);
+            self.good_list(&long);
         }
         let mut wrong = some.clone();
         let at = self.random.below(wrong.len());

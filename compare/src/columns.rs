@@ -87,12 +87,15 @@ fn some_width(random: &mut Random) -> usize {
     }
 }
 
-/// Two widths, often equal. With their existence bitmaps they fit one index.
+/// Two widths, often equal.
 fn some_widths(random: &mut Random) -> [usize; 2] {
     let first = some_width(random);
     let second = if random.one_in(3) { first } else { some_width(random) };
-    [first, second.min(MOST_BITMAPS as usize - 2 - first)]
+    [first, second]
 }
+
+// The widest two columns fit one index.
+const _: () = assert!(2 * MOST_SUMMED <= MOST_BITMAPS as usize);
 
 /// Few segments where there are many bitmaps.
 fn ordinary(format: Format, random: &mut Random) -> Shape {
@@ -143,10 +146,10 @@ fn at_a_limit(format: Format, random: &mut Random) -> Shape {
     Shape { format, grid: format, rows, stretches, loose: false, widths, effort: Effort::Few }
 }
 
-/// As many bitmaps as an index has, over many rows.
+/// Columns as wide as they can be, over many rows.
 fn tall(format: Format, random: &mut Random) -> Shape {
     let rows = random.between(LONG_ROWS.0, LONG_ROWS.1) as u32;
-    let widths = [MOST_SLICES, MOST_BITMAPS as usize - 2 - MOST_SLICES];
+    let widths = [MOST_SLICES, MOST_SLICES];
     let stretches = some_stretches(format.segments(rows), random);
     Shape { format, grid: format, rows, stretches, loose: random.one_in(3), widths, effort: Effort::Few }
 }

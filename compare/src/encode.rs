@@ -153,13 +153,14 @@ impl Segments {
         let words = self.as_runs();
         let (mut body, mut at) = (Vec::new(), 0);
         while at < words.len() {
-            let run = self.clean_run(&words[at..]);
+            // no further than a marker counts, and one more: else a long run is looked through for each marker
+            let run = self.clean_run(&words[at..words.len().min(at + MOST_CLEAN + 1)]);
             let clean = run.min(MOST_CLEAN);
             let value = clean > 0 && words[at] != 0;
             at += clean;
             let dirty = match run > clean {
                 true => 0,
-                false => self.mixed_run(&words[at..]).min(MOST_DIRTY),
+                false => self.mixed_run(&words[at..words.len().min(at + MOST_DIRTY)]),
             };
             body.push(marker(value, clean, dirty));
             body.extend(&self.words[at..at + dirty]);

@@ -12,7 +12,7 @@ use crate::question::{Call, Question};
 use crate::random::Random;
 use crate::samples::{Samples, SAMPLES, SLICES};
 use crate::session::Session;
-use crate::{corners, counting, pieces, tails};
+use crate::{corners, counting, lists, pieces, tails, too_long};
 
 fn index_input(format: Format, words: Vec<u32>, rows: u32, plain: Vec<Vec<u32>>) -> Input {
     let bitmaps = plain.len() as u32;
@@ -74,6 +74,7 @@ pub fn run(session: &mut Session) {
         column_lengths(session, samples);
         late_strays(session, samples);
     }
+    lists::run(session);
     corners::run(session);
     counting::run(session);
     pieces::run(session);
@@ -82,6 +83,7 @@ pub fn run(session: &mut Session) {
         edge_of_rows(session, format);
     }
     edge_of_length(session);
+    too_long::run(session);
 }
 
 // ---- columns ----

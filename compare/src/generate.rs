@@ -53,7 +53,7 @@ pub struct Make {
 }
 
 /// The fewest and the most rows of a long input.
-pub const LONG_ROWS: (usize, usize) = (100_000, 400_000);
+pub const LONG_ROWS: (usize, usize) = (25_000, 100_000);
 
 /// The input of a case.
 pub fn generate(random: &mut Random, long: bool) -> Input {
@@ -85,13 +85,18 @@ pub fn generate(random: &mut Random, long: bool) -> Input {
     made(random, Make { form, format, style, effort }, rows, bitmaps)
 }
 
+/// More bitmaps than this are many.
+const MANY: usize = 64;
+
+/// Few mostly; seldom many, and as many as there can be.
 fn some_bitmaps(random: &mut Random) -> usize {
     let most = MOST_BITMAPS as usize;
-    match random.below(40) {
-        0 => 0,
-        1..=22 => random.between(1, 4),
-        23..=35 => random.between(5, 12),
-        36..=38 => random.between(13, most - 1),
+    match random.below(160) {
+        0..=3 => 0,
+        4..=91 => random.between(1, 4),
+        92..=143 => random.between(5, 12),
+        144..=157 => random.between(13, MANY),
+        158 => random.between(MANY + 1, most - 1),
         _ => most,
     }
 }
@@ -100,6 +105,7 @@ fn some_bitmaps(random: &mut Random) -> usize {
 fn some_rows(random: &mut Random, bitmaps: usize) -> u32 {
     let most = match random.below(20) {
         0..=3 => 40,
+        _ if bitmaps > MANY => 150,
         4..=12 => 200,
         13..=17 => 700,
         18 => 2_000,

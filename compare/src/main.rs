@@ -11,6 +11,8 @@ mod encode;
 mod fixed;
 mod generate;
 mod library;
+mod limits;
+mod lists;
 mod pieces;
 mod places;
 mod program;
@@ -24,6 +26,7 @@ mod shrink;
 mod tail;
 mod tails;
 mod tear;
+mod too_long;
 mod walk;
 
 use std::process::ExitCode;
@@ -41,6 +44,7 @@ use crate::shrink::shrink;
 
 const HELP: &str = "\
 compare SEED CASES [--mutate] [--long] [--only CASE] [--program PATH]
+compare --limits
 
 Makes CASES indexes and bodies, in EWAH or in WAH, and indexes of columns beside
 some of them, always the same for one SEED, asks every question of the library
@@ -52,11 +56,14 @@ refusal never reached.
 
 --mutate     builds one mistake after another into the reference; each has to
              show as a difference within CASES cases, or in the fixed ones
---long       indexes with the most bitmaps and some hundred thousand rows (some
+--long       indexes with the most bitmaps and some ten thousand rows (some
              seconds each)
 --only CASE  this one case alone, without the fixed ones and the table
 --program PATH  gives the cases' indexes to the program at PATH, and compares
-             what it writes with the reference";
+             what it writes with the reference
+--limits     instead of cases: bodies of the most rows, lists of the most numbers
+             over them, and indexes as long as they may be and longer, with the
+             seconds of both and the peak of memory (minutes, gigabytes)";
 
 struct Options {
     seed: u64,
@@ -97,15 +104,18 @@ fn options() -> Option<Options> {
 }
 
 fn main() -> ExitCode {
-    let Some(options) = options() else {
+    ask::tell_own_panics();
+    let good = if std::env::args().skip(1).eq(["--limits"]) {
+        limits::run()
+    } else if let Some(options) = options() {
+        match (&options.program, options.mutate) {
+            (Some(path), _) => program::run(path, options.seed, options.cases),
+            (None, true) => mutate(&options),
+            (None, false) => compare(&options),
+        }
+    } else {
         println!("{HELP}");
         return ExitCode::from(2);
-    };
-    ask::tell_own_panics();
-    let good = match (&options.program, options.mutate) {
-        (Some(path), _) => program::run(path, options.seed, options.cases),
-        (None, true) => mutate(&options),
-        (None, false) => compare(&options),
     };
     match good {
         true => ExitCode::SUCCESS,
@@ -166,13 +176,22 @@ fn compare(options: &Options) -> bool {
     options.only || readings::run() & session.reached.print()
 }
 
+/// The first case that shows this mistake.
+fn shown(session: &mut Session, mistake: Mistake, options: &Options) -> Option<String> {
+    if too_long::MISTAKES.contains(&mistake) {
+        too_long::run(session);
+        return session.difference.as_ref().map(|_| "fixed".to_string());
+    }
+    let case = first_difference(session, options).map(|case| case.to_string());
+    case.or_else(|| in_fixed(session, options))
+}
+
 /// Every mistake of the reference has to be noticed.
 fn mutate(options: &Options) -> bool {
     let mut all = true;
     for &mistake in Mistake::ALL {
         let mut session = Session::new(Some(mistake));
-        let shown = first_difference(&mut session, options).map(|case| case.to_string());
-        match shown.or_else(|| in_fixed(&mut session, options)) {
+        match shown(&mut session, mistake, options) {
             Some(case) => {
                 let difference = session.difference.expect("there is one");
                 let call = difference.question.call;

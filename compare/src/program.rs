@@ -6,7 +6,7 @@ use std::process::{Command, Stdio};
 use std::time::Instant;
 
 use zvonurel::Format::{self, Ewah, Wah};
-use zvonurel::{Refusal, MOST_ROWS};
+use zvonurel::{Refusal, MOST_BITMAPS, MOST_ROWS};
 
 use crate::counting::mixed_words;
 use crate::encode::{entry_place, fill, full, index_in, last_mask, marker, one_run};
@@ -62,9 +62,27 @@ fn padded(format: Format, bytes: usize) -> Vec<u8> {
     }
 }
 
-/// All rows of the longest bitmap there can be.
+/// As many rows as are listed: those of the longest bitmap would be gigabytes of text.
+const LISTED_ROWS: u32 = 16_777_216;
+
+/// All rows of a long bitmap.
 fn all_rows(format: Format) -> Vec<u8> {
-    question(1, &single(format, MOST_ROWS, &one_run(format, true, format.segments(MOST_ROWS))))
+    question(1, &single(format, LISTED_ROWS, &one_run(format, true, format.segments(LISTED_ROWS))))
+}
+
+/// The longest bitmap there can be, with no row and with the last one alone; and a row more.
+fn most_rows(format: Format) -> [Vec<u8>; 3] {
+    let before = format.segments(MOST_ROWS) - 1;
+    let last = 1 << ((MOST_ROWS - 1) as usize % format.segment_rows());
+    let none = one_run(format, false, before + 1);
+    let one = [one_run(format, false, before), dirty(format, &[last])].concat();
+    let over = question(1, &single(format, MOST_ROWS + 1, &none));
+    [question(1, &single(format, MOST_ROWS, &none)), question(1, &single(format, MOST_ROWS, &one)), over]
+}
+
+/// So many bitmaps, that all have row 3 of 5, and a threshold that just so many reach.
+fn every_bitmap(format: Format, bitmaps: u32) -> Vec<u8> {
+    question(bitmaps, &index_in(format, 5, &vec![dirty(format, &[0x8]); bitmaps as usize]))
 }
 
 /// Dirty words under one marker, or literals.
@@ -124,6 +142,8 @@ fn fixed_in(samples: &Samples) -> Vec<Vec<u8>> {
     inputs.extend([MOST_BYTES - WORD_BYTES, MOST_BYTES].map(|bytes| padded(format, bytes)));
     inputs.extend([MOST_BYTES - 1, MOST_BYTES - 2].map(|n| padded(format, MOST_BYTES)[..n].to_vec()));
     inputs.push(all_rows(format));
+    inputs.extend(most_rows(format));
+    inputs.extend([MOST_BITMAPS, MOST_BITMAPS + 1].map(|bitmaps| every_bitmap(format, bitmaps)));
     inputs.extend(tails(format));
     inputs.extend([63, 64, 65, 127, 128, 129, 511, 512, 513, 1_024, 16_000].map(|count| mixed(format, count)));
     inputs

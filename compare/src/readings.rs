@@ -91,10 +91,10 @@ impl Readings {
     fn long_bodies(&mut self) {
         self.body(2_097_152, &[], &[0x1_FFFE, 0x2]);
         self.body(2_097_120, &[], &[0x1_FFFE]);
-        let mut most = vec![0x1_FFFE; 8];
-        most.push(0x10);
-        self.body(16_777_216, &[], &most);
-        let check = Question::lone(Call::CheckBody, Ewah, 16_777_217);
+        let mut most = vec![0x1_FFFE; 512];
+        most.push(0x400);
+        self.body(1_073_741_824, &[], &most);
+        let check = Question::lone(Call::CheckBody, Ewah, 1_073_741_825);
         self.reading(&most, &check, Err((3, 0, 1)), &[]);
         let every = |rows: u32| (0..rows).step_by(32).collect::<Vec<u32>>();
         let mut dirty = vec![0xFFFE_0000];
@@ -174,7 +174,7 @@ impl Readings {
             (9, &all(9), &[0x1FF]),
             (36, &[31, 32, 33, 34, 35], &[0, 0x1F]),
             (2_031_616, &[], &[0x8001_0000]),
-            (16_777_216, &[], &[0x8008_4211]),
+            (1_073_741_824, &[], &[0x8210_8422]),
         ];
         for (rows, set, body) in bodies {
             self.body_in(Wah, rows, set, body);
@@ -192,7 +192,7 @@ impl Readings {
             (40, &[0, 0x7FFF_FFFF], (7, 0, 1)),
             (40, &[0, 0x200], (7, 0, 1)),
             (0, &[0], (6, 0, 0)),
-            (16_777_217, &[0x8008_4211], (3, 0, 1)),
+            (1_073_741_825, &[0x8210_8422], (3, 0, 1)),
         ];
         for (rows, body, refused) in bodies {
             self.reading(body, &Question::lone(Call::CheckBody, Wah, rows), Err(refused), &[]);

@@ -271,10 +271,10 @@ static void most_bitmaps(format f)
 
 /* ---- a sum that is longer than an index may be */
 
-/* 2^26 rows, of which every other one is set: 2,097,152 segments in EWAH, all dirty, under 65 markers, and 2,164,803
- * literals in WAH. */
+/* 2^26 rows, sixteen set and sixteen not in turns: 2,097,152 segments in EWAH, all dirty, under 65 markers, and
+ * 2,164,803 literals in WAH. */
 #define LONG_ROWS 67108864u
-#define ALTERNATE 0x55555555u
+#define IN_TURNS 0x0000FFFFu
 /* Named by 33 numbers, it is existence and 32 slices. The sum with itself is twice each value: the lowest slice is
  * empty, which takes 33 markers or one fill, and the other 32 slices and existence are that bitmap. Before them are
  * the head and 34 entries, 71 words. So in EWAH 71 + 33 * 2,097,217 + 33 words are needed, and in WAH 71 +
@@ -298,7 +298,7 @@ static void long_sum(format f, size_t body_words, uint64_t need, uint64_t room)
 
     SAME("memory", plain != NULL && sum != NULL && index != NULL, 1);
     for (size_t i = 0; i < ZV_SEGMENTS(LONG_ROWS); i++) {
-        plain[i] = ALTERNATE;
+        plain[i] = IN_TURNS;
     }
     for (size_t i = 0; i < start; i++) {
         index[i] = head[i];

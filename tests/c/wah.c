@@ -189,7 +189,7 @@ static void rewriting(void)
         /* rows 5 and 64 */
         {96, 3, 4, 4, {0x20, 0, 0x1}, {0x00020000, 0x20, 0x00020002, 0x1}, {0x20, 0, 0x4, 0}},
         {2097152, 0, 2, 1, {0}, {0x0001FFFE, 0x2}, {0x80010843}},
-        {ZV_MOST_ROWS, 0, 9, 1, {0},
+        {16777216, 0, 9, 1, {0},
          {0x1FFFE, 0x1FFFE, 0x1FFFE, 0x1FFFE, 0x1FFFE, 0x1FFFE, 0x1FFFE, 0x1FFFE, 0x10}, {0x80084211}},
     };
 
