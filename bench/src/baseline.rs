@@ -62,7 +62,7 @@ pub fn row_by_row(data: &Data, ask: Ask, out: &mut Plain) {
 // ---- a counter for each row of a segment ----
 
 /// Large enough for the longest list.
-type Counter = u8;
+type Counter = u16;
 const _: () = assert!(MOST_NAMED <= Counter::MAX as usize);
 
 /// Adds up each segment in small counters.

@@ -2,7 +2,7 @@
 
 use std::hint::black_box;
 
-use zvonurel::{most_sum_words, Refusal, MOST_BITMAPS, MOST_ROWS};
+use zvonurel::{most_sum_words, Refusal, MOST_COLUMN, MOST_ROWS};
 
 use crate::column_baseline::{sum_words, SLICES, SUMS};
 use crate::column_inputs::{plain_words, Columns, Shape};
@@ -48,7 +48,7 @@ pub fn one(call: &str, shape: &str, rows: &str, slices: &str, repeats: &str) -> 
     let named = Call::named(call)?;
     let shape = Shape::ALL.into_iter().find(|s| s.name() == shape)?;
     let rows: u32 = rows.parse().ok().filter(|r| (1..=MOST_ROWS).contains(r))?;
-    let slices: usize = slices.parse().ok().filter(|n| (1..MOST_BITMAPS as usize / 2).contains(n))?;
+    let slices: usize = slices.parse().ok().filter(|n| (1..MOST_COLUMN).contains(n))?;
     let repeats: u32 = repeats.parse().ok()?;
     let data = Columns::new(shape, rows, slices);
     let mut out = buffer(&data);

@@ -1,6 +1,7 @@
 //! The inputs: the same words in every run.
 
 use zvonurel::{most_body_words, segments, IndexBuilder, ENTRY_WORDS, HEAD_WORDS, MOST_BITMAPS, MOST_ROWS, WORD_BITS};
+use zvonurel::{CLEAN_SHIFT, DIRTY_SHIFT, MOST_CLEAN, MOST_DIRTY};
 
 #[derive(Debug, Clone, Copy, PartialEq, Eq)]
 pub enum Kind {
@@ -62,7 +63,7 @@ pub struct Data {
     pub kind: Kind,
     pub rows: u32,
     pub bitmaps: usize,
-    /// The plain words of all bitmaps, one bitmap behind the other.
+    /// The plain words of the bitmaps that plain programs are to work on, one bitmap behind the other.
     plain: Vec<u32>,
     /// The index of them all.
     pub index: Vec<u32>,
@@ -74,13 +75,21 @@ pub struct Data {
 }
 
 impl Data {
+    /// With the plain words of all bitmaps.
     pub fn new(kind: Kind, rows: u32, bitmaps: usize) -> Data {
+        Data::keeping(bitmaps, kind, rows, bitmaps)
+    }
+
+    /// With the plain words of the first `kept` bitmaps: of many long ones they would fill the memory.
+    pub fn keeping(kept: usize, kind: Kind, rows: u32, bitmaps: usize) -> Data {
         let mut plain = Vec::new();
         let mut builder = IndexBuilder::new(rows);
         for k in 0..bitmaps {
-            let words = bitmap(kind, rows, 1_000 + k as u64);
-            builder.add_plain(&words).expect("plain words of so many rows");
-            plain.extend(words);
+            let body = canonical_body(kind, rows, 1_000 + k as u64);
+            builder.add_body(&body).expect("a body of so many rows");
+            if k < kept {
+                plain.extend(plain_words(&body, rows));
+            }
         }
         let t = match bitmaps {
             TANKS => ENOUGH,
@@ -89,7 +98,7 @@ impl Data {
         Data {
             kind,
             rows,
-            index: builder.build().expect("no more bitmaps than an index can have"),
+            index: builder.build().expect("no more bitmaps and words than an index can have"),
             bitmaps,
             plain,
             list: (0..bitmaps as u32).collect(),
@@ -147,12 +156,17 @@ fn entry_place(k: usize) -> usize {
     HEAD_WORDS + ENTRY_WORDS * k
 }
 
+/// The bits of the last plain word that are rows.
+fn last_mask(rows: u32) -> u32 {
+    match rows as usize % WORD_BITS {
+        0 => u32::MAX,
+        used => (1 << used) - 1,
+    }
+}
+
 /// Clears the bits behind the last row.
 pub fn mask_last(words: &mut [u32], rows: u32) {
-    let used = rows as usize % WORD_BITS;
-    if used > 0 {
-        words[segments(rows) - 1] &= (1 << used) - 1;
-    }
+    words[segments(rows) - 1] &= last_mask(rows);
 }
 
 /// How many segments stay the same next, and how many mixed ones come behind them.
@@ -166,17 +180,50 @@ pub fn run_and_mixed(kind: Kind, random: &mut Random, segments: usize) -> (usize
 
 /// Plain words of one bitmap.
 pub fn bitmap(kind: Kind, rows: u32, seed: u64) -> Vec<u32> {
+    plain_words(&canonical_body(kind, rows, seed), rows)
+}
+
+fn plain_words(body: &[u32], rows: u32) -> Vec<u32> {
+    let mut plain = vec![0; segments(rows)];
+    zvonurel::expand(body, rows, &mut plain).expect("a sound body");
+    plain
+}
+
+fn marker(value: u32, clean: usize, dirty: usize) -> u32 {
+    value | (clean as u32) << CLEAN_SHIFT | (dirty as u32) << DIRTY_SHIFT
+}
+
+/// One bitmap's body, made of its runs and mixed segments, so that it takes no room for the rows of a run.
+fn canonical_body(kind: Kind, rows: u32, seed: u64) -> Vec<u32> {
     let segments = segments(rows);
     let mut random = Random(seed);
-    let mut words = Vec::with_capacity(segments);
-    while words.len() < segments {
+    let (mut body, mut left, mut ends_mixed) = (Vec::new(), segments, false);
+    while left > 0 {
         let (run, mixed) = run_and_mixed(kind, &mut random, segments);
-        let value = if random.next().is_multiple_of(2) { 0 } else { u32::MAX };
-        let run = run.min(segments - words.len());
-        words.extend(std::iter::repeat_n(value, run));
-        let mixed = mixed.min(segments - words.len());
-        words.extend((0..mixed).map(|_| random.mixed()));
+        let value = u32::from(!random.next().is_multiple_of(2));
+        let run = run.min(left);
+        let mixed = mixed.min(left - run);
+        for part in parts(run, MOST_CLEAN) {
+            body.push(marker(value, part, 0));
+        }
+        for part in parts(mixed, MOST_DIRTY) {
+            body.push(marker(0, 0, part));
+            body.extend((0..part).map(|_| random.mixed()));
+        }
+        left -= run + mixed;
+        ends_mixed = mixed > 0;
     }
-    mask_last(&mut words, rows);
-    words
+    if ends_mixed {
+        let last = body.len() - 1;
+        body[last] &= last_mask(rows);
+    }
+    let mut canonical = vec![0; body.len() + 1];
+    let words = zvonurel::to_ewah(&body, rows, &mut canonical).expect("a sound body, and no longer one");
+    canonical.truncate(words);
+    canonical
+}
+
+/// So many in full parts, and what is left.
+fn parts(count: usize, most: usize) -> impl Iterator<Item = usize> {
+    (0..count).step_by(most).map(move |done| most.min(count - done))
 }

@@ -9,6 +9,7 @@ mod columns;
 mod counting;
 mod growth;
 mod inputs;
+mod limits;
 mod ones;
 mod rows;
 mod timing;
@@ -16,6 +17,8 @@ mod wah;
 
 use std::hint::black_box;
 use std::process::ExitCode;
+
+use zvonurel::{MOST_BITMAPS, MOST_ROWS};
 
 use crate::baseline::Plain;
 use crate::calls::{baselines, measured_call, plain_answer, Call, CALLS};
@@ -40,6 +43,8 @@ bench --columns  the calls on columns alone
 bench --counting body_count and body_nth alone, beside more programs; exit
                  code 1 if bit by bit takes less than twice as long
 bench --wah      questions on WAH beside the same on EWAH, and rewriting
+bench --limits   {MOST_BITMAPS} bitmaps; and {MOST_ROWS} rows, quiet, in both formats,
+                 the library alone
 bench --one CALL KIND ROWS BITMAPS REPEATS
                  one call so many times, nothing else timed
 bench --one COLUMN-CALL COLUMN-KIND ROWS SLICES REPEATS
@@ -84,8 +89,15 @@ fn main() -> ExitCode {
     let args: Vec<String> = std::env::args().skip(1).collect();
     let args: Vec<&str> = args.iter().map(String::as_str).collect();
     match args[..] {
-        [] => table(&ROWS, &BITMAPS),
-        ["--quick"] => table(&[QUICK_ROWS], &[QUICK_BITMAPS]),
+        [] => {
+            table(&ROWS, &BITMAPS);
+            columns::table();
+        }
+        ["--quick"] => {
+            table(&[QUICK_ROWS], &[QUICK_BITMAPS]);
+            columns::table();
+        }
+        ["--limits"] => limits::table(),
         ["--columns"] => columns::table(),
         ["--counting"] => {
             if !counting::table() {
@@ -113,7 +125,7 @@ fn buffer(data: &Data) -> Vec<u32> {
 fn one(call: &str, kind: &str, rows: &str, bitmaps: &str, repeats: &str) -> Option<()> {
     let call = Call::named(call)?;
     let (kind, rows, bitmaps, repeats) = inputs::arguments([kind, rows, bitmaps, repeats], 2)?;
-    let data = Data::new(kind, rows, bitmaps);
+    let data = Data::keeping(1, kind, rows, bitmaps);
     let mut out = buffer(&data);
     for _ in 0..repeats {
         let result = measured_call(call, &data, black_box(&mut out));
@@ -148,7 +160,6 @@ fn table(rows: &[u32], bitmaps: &[usize]) {
         }
     }
     growth(&figures);
-    columns::table();
 }
 
 /// Times one call and its plain programs, and prints the line.

@@ -36,7 +36,7 @@ fn measured_call(call: Call, index: &[u32], rows: u32) {
     black_box(told.expect("a sound question"));
 }
 
-fn index_in(format: Format, data: &Data) -> Vec<u32> {
+pub fn index_in(format: Format, data: &Data) -> Vec<u32> {
     let mut index = vec![0; format.most_new_index_words(data.rows, data.bitmaps)];
     let words = match format {
         Format::Ewah => zvonurel::index_to_ewah(&data.index, &mut index),
@@ -50,7 +50,7 @@ fn index_in(format: Format, data: &Data) -> Vec<u32> {
 pub fn one(call: &str, kind: &str, rows: &str, bitmaps: &str, repeats: &str) -> Option<()> {
     let (named, format) = named(call)?;
     let (kind, rows, bitmaps, repeats) = inputs::arguments([kind, rows, bitmaps, repeats], 1)?;
-    let index = index_in(format, &Data::new(kind, rows, bitmaps));
+    let index = index_in(format, &Data::keeping(0, kind, rows, bitmaps));
     for _ in 0..repeats {
         measured_call(named, &index, rows);
     }

@@ -2,16 +2,17 @@
 
 use std::hint::black_box;
 
-use zvonurel::{Format, IndexBuilder, Refusal, MOST_ROWS};
+use zvonurel::{Format, Refusal};
 
 use crate::baseline::Plain;
 use crate::calls::{self, baselines, plain_answer};
 use crate::inputs::{self, Data, Kind, TANKS};
+use crate::rows;
 use crate::timing::best_seconds;
 
 /// The rows that are asked, and those that are rewritten.
 const ROWS: u32 = 1_000_000;
-const REWRITTEN: u32 = MOST_ROWS;
+const REWRITTEN: u32 = 16_777_216;
 
 #[derive(Debug, Clone, Copy, PartialEq, Eq)]
 enum Call {
@@ -66,12 +67,12 @@ struct Both {
 
 impl Both {
     fn new(kind: Kind, rows: u32, bitmaps: usize) -> Both {
-        let ewah = Data::new(kind, rows, bitmaps);
-        let mut builder = IndexBuilder::with_format(rows, Format::Wah);
-        for k in 0..bitmaps {
-            builder.add_plain(ewah.plain(k)).expect("plain words of so many rows");
-        }
-        Both { ewah, wah: builder.build().expect("no more bitmaps than an index can have") }
+        Both::of(Data::new(kind, rows, bitmaps))
+    }
+
+    fn of(ewah: Data) -> Both {
+        let wah = rows::index_in(Format::Wah, &ewah);
+        Both { ewah, wah }
     }
 
     /// Room for any answer of these rows.
@@ -113,7 +114,7 @@ fn measured_call(call: Call, both: &Both, out: &mut [u32]) -> Result<u64, Refusa
 pub fn one(call: &str, kind: &str, rows: &str, bitmaps: &str, repeats: &str) -> Option<()> {
     let named = Call::named(call)?;
     let (kind, rows, bitmaps, repeats) = inputs::arguments([kind, rows, bitmaps, repeats], 1)?;
-    let both = Both::new(kind, rows, bitmaps);
+    let both = Both::of(Data::keeping(1, kind, rows, bitmaps));
     let mut out = both.buffer();
     for _ in 0..repeats {
         let result = measured_call(named, &both, black_box(&mut out));

@@ -45,19 +45,23 @@ fn ask(session: &mut Session, mut draft: Draft, pads: usize) {
 
 /// Rows and a walk, of the body alone and in an index, behind a bitmap of runs alone.
 fn ask_body(session: &mut Session, format: Format, rows: u32, body: &[u32]) {
-    if session.difference.is_some() {
-        return;
-    }
-    let alone = |call: Call| Question::lone(call, format, rows);
-    let second = |call: Call| Question::new(call).list(&[1]);
+    let index = ask_rows(session, format, rows, body);
+    session.ask(body, Question::lone(Call::BodyWalk, format, rows).number(rows));
+    session.ask(&index, Question::new(Call::Walk).list(&[1]).number(rows));
+}
+
+/// The rows alone, of both; the index.
+fn ask_rows(session: &mut Session, format: Format, rows: u32, body: &[u32]) -> Vec<u32> {
+    let alone = Question::lone(Call::BodyRow, format, rows);
     let index = index_in(format, rows, &[&one_run(format, true, format.segments(rows)), body]);
-    let pieces = pieces(body, &alone(Call::BodyRow)).expect("a sound body");
-    for row in rows_asked(&pieces, rows) {
-        session.ask(body, alone(Call::BodyRow).number(row));
-        session.ask(&index, second(Call::Row).number(row));
+    if session.difference.is_none() {
+        let pieces = pieces(body, &alone).expect("a sound body");
+        for row in rows_asked(&pieces, rows) {
+            session.ask(body, alone.clone().number(row));
+            session.ask(&index, Question::new(Call::Row).list(&[1]).number(row));
+        }
     }
-    session.ask(body, alone(Call::BodyWalk).number(rows));
-    session.ask(&index, second(Call::Walk).number(rows));
+    index
 }
 
 /// Every two of these beside each other: runs of either value, of no segments, one or two, with no word behind them, a
@@ -121,13 +125,14 @@ fn many_pieces(session: &mut Session, format: Format) {
     ask(session, Draft::new(format).then(true, 2, most).then(false, 3, more), 0);
 }
 
-/// The most rows there can be, and one less, in as few pieces as they can be, and with the last segment by itself.
+/// The most rows there can be, and one less, in as few pieces as they can be, and with the last segment by itself. One
+/// of them is walked, since a walk is slow here.
 fn most_rows(session: &mut Session, format: Format) {
+    let body = one_run(format, true, format.segments(MOST_ROWS));
+    session.ask(&body, Question::lone(Call::BodyWalk, format, MOST_ROWS).number(MOST_ROWS));
     for rows in [MOST_ROWS - 1, MOST_ROWS] {
-        let body = one_run(format, true, format.segments(rows));
-        session.ask(&body, Question::lone(Call::BodyWalk, format, rows).number(rows));
-        session.ask(&body, Question::lone(Call::BodyRow, format, rows).number(rows - 1));
+        let [before, last] = [format.segments(rows) - 1, 1].map(|segments| one_run(format, false, segments));
+        ask_rows(session, format, rows, &one_run(format, true, format.segments(rows)));
+        ask_rows(session, format, rows, &[before, last].concat());
     }
-    let [before, last] = [format.segments(MOST_ROWS) - 1, 1].map(|segments| one_run(format, false, segments));
-    ask_body(session, format, MOST_ROWS, &[before, last].concat());
 }

@@ -15,15 +15,13 @@ use crate::session::Session;
 pub const MISTAKES: [Mistake; 4] =
     [Mistake::SumByBufferAlone, Mistake::RewriteByBufferAlone, Mistake::LongestIndexRefused, Mistake::LongNeedCut];
 
-/// The cheapest of them, as fixed cases.
+/// The cheapest of them, as fixed cases, with buffers that would do.
 pub fn run(session: &mut Session) {
     let cases: [fn() -> Long; 3] = [|| sum(Ewah), || many_to_wah(false), || many_to_wah(true)];
     for case in cases {
         if session.difference.is_none() {
             let long = case();
-            for room in [0, long.need + 9] {
-                session.ask(&long.index, long.question.clone().room(room));
-            }
+            session.ask(&long.index, long.question.clone().room(long.need + 9));
         }
     }
 }
