@@ -217,7 +217,7 @@ fn canonical_body(kind: Kind, rows: u32, seed: u64) -> Vec<u32> {
         let last = body.len() - 1;
         body[last] &= last_mask(rows);
     }
-    let mut canonical = vec![0; body.len() + 1];
+    let mut canonical = vec![0; body.len()];
     let words = zvonurel::to_ewah(&body, rows, &mut canonical).expect("a sound body, and no longer one");
     canonical.truncate(words);
     canonical
