@@ -152,7 +152,7 @@ impl Bodies {
         for list in [&[1, 2, 3][..], &most] {
             let of = |call: Call| Question::new(call).list(list).room(2 * index.len());
             let length = list.len() as u32;
-            for t in [1, length / 2, length / 2 + 1, length] {
+            for t in [1, length / 2 + 1, length] {
                 let name = format!("  threshold {t} of {length}");
                 limits.ask(&name, &index, of(Call::Threshold).number(t)).ok();
             }
