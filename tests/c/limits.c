@@ -307,7 +307,7 @@ static void long_sum(format f, size_t body_words, uint64_t need, uint64_t room)
     FINE(told);
     SAME("the words of the bitmap", told.words, body_words);
     SAME("whether a sum is too long", room == ZV_MOST_INDEX_WORDS && room < need, 1);
-    const size_t rooms[] = {0, (size_t)room, (size_t)need, longer};
+    const size_t rooms[] = {(size_t)room, longer};
     for (size_t i = 0; i < sizeof(rooms) / sizeof(rooms[0]); i++) {
         told = zv_sum(index, start + body_words, WORDS(column), WORDS(column), sum, rooms[i]);
         REFUSED(told, ZV_NO_ROOM, 0, need);
