@@ -35,7 +35,7 @@ pub struct Long {
 }
 
 impl Long {
-    /// No buffer, one of a word less than is needed, of as many as an index may have, of those needed, and a longer one.
+    /// No buffer, one a word short, one of as many words as an index may have, of just those needed, and a longer one.
     pub fn rooms(&self) -> Vec<usize> {
         let mut rooms = vec![0, self.need - 1, MOST_INDEX_WORDS, self.need, self.need + 9];
         rooms.dedup();

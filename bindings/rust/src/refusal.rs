@@ -44,7 +44,8 @@ impl Refusal {
     pub const TOO_SHORT: u32 = 1;
     /// Word 0 of the index is neither [`INDEX_KIND`] nor [`WAH_INDEX_KIND`].
     pub const NOT_AN_INDEX: u32 = 2;
-    /// More than [`MOST_INDEX_WORDS`] words (`word` 0), [`MOST_ROWS`] rows (`word` 1) or [`MOST_BITMAPS`] bitmaps (`word` 2).
+    /// More than [`MOST_INDEX_WORDS`] words (`word` 0), [`MOST_ROWS`] rows (`word` 1) or [`MOST_BITMAPS`] bitmaps
+    /// (`word` 2).
     pub const TOO_LARGE: u32 = 3;
     /// The contents name a wrong start or length, at `word`, or the index goes on behind the last body, which ends at
     /// `word`.
