@@ -105,7 +105,7 @@ extern "C" {
 #define ZV_VERSION_MAJOR 0
 #define ZV_VERSION_MINOR 3
 #define ZV_VERSION_PATCH 0
-#define ZV_VERSION "0.3.0"
+#define ZV_VERSION "0.4.0"
 
 /* Every limit and size, once. */
 

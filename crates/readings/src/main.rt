@@ -85,7 +85,7 @@ fn filled(x: u32) -> [u32; 32770]
 
 // The most rows: a run of 512 segments, 512 runs of 65,535, and a last marker.
 fn most_rows(rows: u32, last: u32) {
-    let mut index = filled(0x0001_FFFF);
+    let mut index: [u32; 519] = [0x0001_FFFF; 519];
     let mut out = filled(0);
     index[0] = 1;
     index[1] = rows;
@@ -94,7 +94,7 @@ fn most_rows(rows: u32, last: u32) {
     index[4] = 514;
     index[5] = 0x0000_0401;
     index[518] = last;
-    let written = zvonurel::xor(&index[0..519], 0, 0, &mut out);
+    let written = zvonurel::xor(&index, 0, 0, &mut out);
     reading(rows, written, &out, 510, 513);
 }
 
