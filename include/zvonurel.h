@@ -103,7 +103,7 @@ extern "C" {
 
 /* The version of the header and its library. */
 #define ZV_VERSION_MAJOR 0
-#define ZV_VERSION_MINOR 3
+#define ZV_VERSION_MINOR 4
 #define ZV_VERSION_PATCH 0
 #define ZV_VERSION "0.4.0"
 

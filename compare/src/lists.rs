@@ -10,7 +10,7 @@ use crate::session::Session;
 const ROWS: u32 = 80;
 
 /// By how many of the bitmaps rows are held: none, about each power of two, and all.
-const HELD: [usize; 13] = [0, 1, 2, 3, 63, 64, 65, 127, 128, 129, 254, MOST_NAMED - 1, MOST_NAMED];
+const HELD: [usize; 16] = [0, 1, 2, 3, 15, 16, 17, 63, 64, 65, 127, 128, 129, 254, MOST_NAMED - 1, MOST_NAMED];
 
 /// A list of all bitmaps is as long as a list can be.
 const _: () = assert!(MOST_BITMAPS as usize == MOST_NAMED);
@@ -44,16 +44,19 @@ fn index_of(format: Format, bitmaps: u32) -> Vec<u32> {
     index_in(format, ROWS, &bodies)
 }
 
-/// All bitmaps, forwards and backwards; without the last; some again and again.
+/// All bitmaps, forwards and backwards; without the last; some again and again; and lists about as long as what is
+/// kept apart for short ones.
 fn good_lists() -> Vec<Vec<u32>> {
     let all: Vec<u32> = (0..MOST_BITMAPS).collect();
-    vec![
+    let short = [15, 16, 17, 63, 64, 65].map(|length| all[..length].to_vec());
+    let long = vec![
         all.clone(),
         all.iter().rev().copied().collect(),
         all[..MOST_NAMED - 1].to_vec(),
         all.iter().map(|k| k % 7).collect(),
         vec![MOST_BITMAPS - 1; MOST_NAMED],
-    ]
+    ];
+    [long, short.to_vec()].concat()
 }
 
 /// Every question on it, with the numbers about which rows are held.

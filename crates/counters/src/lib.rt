@@ -9,11 +9,14 @@ ghost use Rattle.meaning.specs.Limits.{mostNamed, histogramCounts, counterPlane
 ghost use Rattle.meaning.specs.Rows.{countBelow};
 ghost use Rattle.meaning.specs.Segment.{bitAt, isSet};
 ghost use Rattle.counters.specs.Counters.{countAt};
-use meaning::FEW_COUNTED;
-use meaning::FEW_PLANES;
 use meaning::HISTOGRAM_COUNTS;
 use meaning::PLANES;
 use words::bits;
+
+// The planes that few dirty words are compared in, and how many those are: all that so many planes count.
+const FEW_PLANES: usize = 4;
+
+const FEW_COUNTED: u32 = 15;
 
 // One more for each row of a word: a carry goes up the planes until it is empty.
 pub fn add(planes: [u32; PLANES], x: u32) -> [u32; PLANES]

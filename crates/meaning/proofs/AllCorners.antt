@@ -11,6 +11,7 @@ use Rattle.meaning.specs.Rows.{bit}
 use Rattle.meaning.specs.Refusal.{Outcome, refused, answer}
 use Rattle.meaning.specs.Ewah.{pieces, ewahFault}
 use Rattle.meaning.specs.Wah.{wahFault}
+use Rattle.meaning.specs.NewIndex.{indexRoom}
 use Rattle.meaning.specs.Rewriting.{rewrite, rewriteBitmap, rewriteIndex}
 use Rattle.meaning.specs.Answer.{checkBody, bodyRow, bodyCount, bodyNth, expand, compress, check, bitmapRefusal, bitmap, partOf, row, notOf, threshold, symmetric, histogram, histogramReported}
 use Rattle.meaning.specs.declared.Format.the-variants.{Ewah, Wah}
@@ -130,6 +131,11 @@ indexes =
     ∷ isRefused (bitmapRefusal (1 ∷ 4 ∷ 0 ∷ 9 ∷ []) 0) 4 0 3
     ∷ same (partOf (bitmap looped 1)) (0x00020000 ∷ 0xE ∷ [])
     ∷ same (partOf (bitmap looped 3)) []
+    -- an index takes no more of a buffer than it may have words
+    ∷ eqb (indexRoom 0) 0
+    ∷ eqb (indexRoom 67108863) 67108863
+    ∷ eqb (indexRoom 67108864) 67108864
+    ∷ eqb (indexRoom 67108865) 67108864
     -- lists, T and tables
     ∷ isRefused (threshold looped [] 1 9) 8 0 0
     ∷ isRefused (threshold looped (3 ∷ []) 1 9) 8 0 0
@@ -296,5 +302,5 @@ unfolding every wahs isNumber isSound isRefused isAnswer checkBody bodyCount bod
 wahs-hold = refl
 
 pub indexes-hold : every indexes ≡ true
-unfolding every indexes isSound isRefused isAnswer same check bitmapRefusal bitmap partOf notOf threshold symmetric histogram histogramReported ewahFault
+unfolding every indexes indexRoom isSound isRefused isAnswer same check bitmapRefusal bitmap partOf notOf threshold symmetric histogram histogramReported ewahFault
 indexes-hold = refl

@@ -1,7 +1,7 @@
 -- An index that is assembled of bodies is sound if they are, and its bitmaps are they; so a new index is sound, and its
 -- bitmaps are its sets, in canonical form.
 -- Assumes nothing.
-use Prim.Native.Nat.{ℕ, zero, suc, _+_, _*_, _/_, _≤_, _<_}
+use Prim.Native.Nat.{ℕ, zero, suc, _+_, _*_, _/_, _≤_, _<_, min}
 use mathlib.Core.Bool.{Bool, cond}
 use mathlib.Core.Path.{_≡_, refl, sym, ap, ap₂, _∙_, subst}
 use mathlib.Core.List.{List, [], _∷_, _++_, map, append-assoc, append-nil}
@@ -19,8 +19,8 @@ use Rattle.meaning.specs.Index.{formatOf, rowCount, bitmapCount, entryPl
 use Rattle.meaning.specs.Question.{totalWords}
 use Rattle.meaning.specs.NewIndex.{entriesOf, joined, contentsEnd, assembled, indexOf, indexRoom, writeIndex}
 use Rattle.meaning.specs.Laws.{SoundFacts, IndexFacts}
-use Rattle.meaning.specs.ColumnLaws.{none, NewIndex, NewIndexHolds}
-use Rattle.meaning.proofs.Outcomes.{fits-answer, fits-within}
+use Rattle.meaning.specs.ColumnLaws.{none, NewIndex, NewIndexHolds, NewIndexRoomHolds}
+use Rattle.meaning.proofs.Outcomes.{fits-yes, fits-no, fits-answer, fits-within}
 use Rattle.meaning.proofs.Enough.{most-words}
 use Rattle.meaning.proofs.Formats.{sound-means, canonical-sound, canonical-rows}
 use Rattle.meaning.proofs.IndexSound.{index-means}
@@ -305,3 +305,15 @@ pub new-index-holds : NewIndexHolds
 new-index-holds F R ps room out h n e =
     let w = written-index F R ps room out e in
     subst (NewIndex F R ps) (sym (w .0)) (is-new F R ps h n (w .1))
+
+-- and where they are written
+pub new-index-room-holds : NewIndexRoomHolds
+unfolding writeIndex indexRoom
+new-index-room-holds F R ps room =
+    let ws = indexOf F R ps in
+    let most = min room mostIndexWords in
+    record {
+      too-long = λ h. fits-no most ws (omega arith);
+      no-room = λ h. fits-no most ws (omega arith);
+      written = λ h l. fits-yes most ws (omega arith);
+    }

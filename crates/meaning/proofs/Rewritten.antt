@@ -1,7 +1,7 @@
 -- Rewriting keeps the rows, and back again gives the canonical form: `RewriteLaws` holds.
 -- Assumes nothing.
 use Prim.Native.Nat.{ℕ, zero, suc, _≤_}
-use mathlib.Core.Path.{_≡_, refl, sym, ap, _∙_, subst}
+use mathlib.Core.Path.{_≡_, refl, ap, _∙_}
 use native.Mathlib.Omega.{arith}
 use lib.ListN.{length}
 use mathlib.Core.List.{List}
@@ -11,7 +11,6 @@ use Rattle.meaning.specs.Format.{rowsOf, canonical}
 use Rattle.meaning.specs.declared.Format.{Format}
 use Rattle.meaning.specs.Index.{rowCount, bitmapCount, rowsAt, indexFault}
 use Rattle.meaning.specs.Answer.{write, checkBody, bitmapRefusal, check}
-use Rattle.meaning.specs.NewIndex.{writeIndex}
 use Rattle.meaning.specs.ColumnLaws.{NewIndex}
 use Rattle.meaning.specs.Laws.{Answers}
 use Rattle.meaning.specs.Rewriting.{rewrite, rewriteBitmap, setsFrom, rewriteIndex, RewriteLaws}

@@ -1,4 +1,4 @@
--- What holds of new indexes and of columns, for a reader to find in one place. `NewIndexHolds` is proved in
+-- What holds of new indexes and of columns, for a reader to find in one place. `NewIndexHolds` and `NewIndexRoomHolds` are proved in
 -- `proofs/NewIndexes`, `StrayLaws` in `StraysFound`; `DigitLaws`, `OrderLaws` and `SumLaws` in `ColumnsHold`.
 -- Assumes nothing.
 use Prim.Native.Nat.{ℕ, suc, _+_, _-_, _%_, _^_, _≤_, _<_}
@@ -8,7 +8,7 @@ use mathlib.Core.Logic.{_↔_}
 use mathlib.Core.List.{List}
 use lib.Dec.{leb}
 use lib.ListN.{length, getD}
-use Rattle.meaning.specs.Limits.{mostRows, mostBitmaps, mostColumn, mostValueColumn}
+use Rattle.meaning.specs.Limits.{mostRows, mostBitmaps, mostIndexWords, mostColumn, mostValueColumn}
 use Rattle.meaning.specs.Segment.{tabulate}
 use Rattle.meaning.specs.Refusal.{refused, answer, sound, refuseIf}
 use Rattle.meaning.specs.Format.{canonical, Canonical}
@@ -40,6 +40,17 @@ abbrev pub NewIndexHolds : Type 0
 NewIndexHolds =
     (F : Format) (R : ℕ) (ps : List (ℕ → Bool)) (room : ℕ) (index : List ℕ) → R ≤ mostRows → length ps ≤ mostBitmaps
     → writeIndex F R ps room ≡ answer index → NewIndex F R ps index
+
+-- it is written exactly where it fits the buffer and has no more words than an index may have: one that is too long is 9 in every
+-- buffer, with its words (request 6)
+pub record NewIndexRoom (F : Format) (R : ℕ) (ps : List (ℕ → Bool)) (room : ℕ) : Type 0 where
+  pub too-long : mostIndexWords < length (indexOf F R ps) → writeIndex F R ps room ≡ refused 9 0 (length (indexOf F R ps))
+  pub no-room : room < length (indexOf F R ps) → writeIndex F R ps room ≡ refused 9 0 (length (indexOf F R ps))
+  pub written : length (indexOf F R ps) ≤ room → length (indexOf F R ps) ≤ mostIndexWords
+      → writeIndex F R ps room ≡ answer (indexOf F R ps)
+
+abbrev pub NewIndexRoomHolds : Type 0
+NewIndexRoomHolds = (F : Format) (R : ℕ) (ps : List (ℕ → Bool)) (room : ℕ) → NewIndexRoom F R ps room
 
 -- ---- digits
 
@@ -123,7 +134,8 @@ abbrev pub sumIndex : (index first second : List ℕ) → List ℕ
 sumIndex index first second = indexOf (formatOf index) (rowCount index) (pairColumn index sumValue (suc (wider first second)) first second)
 
 -- of a sum: the index's own faults; on a sound index a bad list, whatever strays; a stray, in the first column before the
--- second, and whatever the room; 9 with the words needed, if there is less room or an index may not have so many; and else the answer
+-- second, and whatever the room; 9 with the words needed, if there is less room or an index may not have so many; and else the
+-- answer
 pub record SumOrder (index first second : List ℕ) (room : ℕ) : Type 0 where
   pub faulty : (number bitmap word : ℕ) → check index ≡ refused number bitmap word
       → sum index first second room ≡ refused number bitmap word

@@ -42,21 +42,11 @@ counterPlanes = 9
 abbrev pub mostCounted : ℕ
 mostCounted = 2 ^ counterPlanes - 1
 
--- the numbers that a query keeps for each place, and in all
+-- the numbers that a query keeps for each place
 abbrev pub placeNumbers : ℕ
 placeNumbers = 4
 
-abbrev pub queryNumbers : ℕ
-queryNumbers = placeNumbers * mostNamed
-
--- for short lists: the planes that few dirty words are compared in, and how many those are; the places of a query of its own, and
--- its numbers
-abbrev pub fewPlanes : ℕ
-fewPlanes = 4
-
-abbrev pub fewCounted : ℕ
-fewCounted = 2 ^ fewPlanes - 1
-
+-- for short lists: the places of a query of their own, and its numbers
 abbrev pub shortNamed : ℕ
 shortNamed = 64
 

@@ -36,8 +36,8 @@ fn words(body: &[u32], from: usize, to: usize) {
 }
 
 // How many rows are set in a body.
-fn set(body: &[u32], rows: u32) {
-    match zvonurel::body_count(Format::Ewah, body, rows) {
+fn set(format: Format, body: &[u32], rows: u32) {
+    match zvonurel::body_count(format, body, rows) {
         Number::Is(count) => number(b", set ", wide(count)),
         Number::Refused(r) => refusal(r),
     }
@@ -45,7 +45,7 @@ fn set(body: &[u32], rows: u32) {
 
 // What a call wrote: the number of words, the words from one place to another, and how many rows are set when they are
 // read again.
-fn reading(rows: u32, written: Written, out: &[u32], from: usize, to: usize) {
+fn reading(format: Format, rows: u32, written: Written, out: &[u32], from: usize, to: usize) {
     number(b"rows ", wide(rows));
     match written {
         Written::Words(n) => {
@@ -54,7 +54,7 @@ fn reading(rows: u32, written: Written, out: &[u32], from: usize, to: usize) {
             io::write_all(1, b":");
             if n <= out.len() {
                 words(&out[0..n], from, to);
-                set(&out[0..n], rows);
+                set(format, &out[0..n], rows);
             }
         }
         Written::Refused(r) => refusal(r),
@@ -64,10 +64,10 @@ fn reading(rows: u32, written: Written, out: &[u32], from: usize, to: usize) {
 
 // No row is set in the XOR of a bitmap with itself. The bitmap has every row, in runs that are not in canonical form:
 // the call has to part them anew. (Plain words would need a large array.)
-fn none_set(rows: u32, index: &[u32]) {
+fn none_set(format: Format, rows: u32, index: &[u32]) {
     let mut out: [u32; 16] = [0; 16];
     let written = zvonurel::xor(index, 0, 0, &mut out);
-    reading(rows, written, &out, 0, 16);
+    reading(format, rows, written, &out, 0, 16);
 }
 
 // An index whose bitmap is a run of 8 segments, and eight runs of 65,535.
@@ -95,7 +95,7 @@ fn most_rows(rows: u32, last: u32) {
     index[5] = 0x0000_0401;
     index[518] = last;
     let written = zvonurel::xor(&index, 0, 0, &mut out);
-    reading(rows, written, &out, 510, 513);
+    reading(Format::Ewah, rows, written, &out, 510, 513);
 }
 
 // Rows 0, 32, 64 and so on: n mixed segments. (A range up to a large literal, in place of n, costs the prover by its
@@ -106,20 +106,36 @@ fn every_32nd(rows: u32, n: usize, from: usize, to: usize)
     let plain = filled(1);
     let mut out = filled(0);
     let written = zvonurel::compress(Format::Ewah, rows, &plain[0..n], &mut out);
-    reading(rows, written, &out, from, to);
+    reading(Format::Ewah, rows, written, &out, from, to);
 }
 
 fn main() {
     // Runs of 1 and 65,535 segments; of 0 and 65,535.
-    none_set(2097152, &[1, 2097152, 1, 5, 2, 0x0000_0003, 0x0001_FFFF]);
-    none_set(2097120, &[1, 2097120, 1, 5, 2, 0x0000_0001, 0x0001_FFFF]);
+    none_set(
+        Format::Ewah,
+        2097152,
+        &[1, 2097152, 1, 5, 2, 0x0000_0003, 0x0001_FFFF],
+    );
+    none_set(
+        Format::Ewah,
+        2097120,
+        &[1, 2097120, 1, 5, 2, 0x0000_0001, 0x0001_FFFF],
+    );
     sixteen_million(16777216);
     // The last marker is empty; with one row more it has the last segment, so that nothing but the rows is wrong.
     most_rows(1073741824, 0x0000_0000);
     most_rows(1073741825, 0x0000_0002);
     // In WAH one fill has them all.
-    none_set(1073741824, &[2, 1073741824, 1, 5, 1, 0xC210_8422]);
-    none_set(1073741825, &[2, 1073741825, 1, 5, 1, 0xC210_8422]);
+    none_set(
+        Format::Wah,
+        1073741824,
+        &[2, 1073741824, 1, 5, 1, 0xC210_8422],
+    );
+    none_set(
+        Format::Wah,
+        1073741825,
+        &[2, 1073741825, 1, 5, 1, 0xC210_8422],
+    );
     every_32nd(1048544, 32767, 0, 2);
     every_32nd(1048576, 32768, 32768, 32770);
     // Plain words are refused for too many rows before their own number is.

@@ -56,7 +56,7 @@ pub record CursorAt (F : Format) (b : List ℕ) (o : ℕ) (c : Cursor) : Type 0 
   pub ahead : Ahead F b o (piecesFrom F b c)
   pub at-end : leftOf (c .piece) ≡ 0 → piecesFrom F b c ≡ []
 
--- every number of the list names a bitmap, and there are at most as many as a query has places
+-- every number of the list names a bitmap, and there are at most as many as a list may have
 pub record Listed (index list : List ℕ) : Type 0 where
   pub most : length list ≤ mostNamed
   pub its : (i : ℕ) → i < length list → getD list i 0 < bitmapCount index

@@ -1,6 +1,6 @@
 -- `walk::survey::advance` meets its contract. The invariant: the first i cursors went on, and the survey is theirs.
 -- Assumes nothing.
-use mathlib.Core.Path.{_≡_, sym, _∙_, subst}
+use mathlib.Core.Path.{_≡_, sym, subst}
 use Prim.Native.Nat.{_-_, _≤_}
 use native.Mathlib.Nat.{le-refl}
 use denote.Ref.{now}
