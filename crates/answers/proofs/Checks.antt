@@ -4,7 +4,7 @@ use Prim.Native.Nat.{ℕ}
 use native.Mathlib.Omega.{arith}
 use mathlib.Core.Path.{_≡_, sym, ap, _∙_}
 use Rattle.meaning.specs.Refusal.{Outcome, Verdict, sound, _then_}
-use Rattle.meaning.proofs.Outcomes.{then-sound}
+use Rattle.laws.proofs.Outcomes.{then-sound}
 use Rattle.answers.specs.declared.refusal.Refusal.{Refusal}
 use Rattle.answers.specs.declared.refusal.Checked.{Checked}
 use Rattle.answers.specs.declared.refusal.Checked.the-variants.{Sound, Refused}

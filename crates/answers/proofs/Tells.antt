@@ -8,7 +8,7 @@ use lib.ListN.{length, drop}
 use lib.Seq.{take-at}
 use Rattle.meaning.specs.Refusal.{Outcome, Verdict, refused, answer, _then_}
 use Rattle.meaning.specs.Answer.{fits, bufferAfter, wordsReported}
-use Rattle.meaning.proofs.Outcomes.{fits-yes, fits-no, then-sound}
+use Rattle.laws.proofs.Outcomes.{fits-yes, fits-no, then-sound}
 use Rattle.answers.specs.declared.refusal.Refusal.{Refusal}
 use Rattle.answers.specs.declared.refusal.Checked.{Checked}
 use Rattle.answers.specs.declared.refusal.Checked.the-variants as checked

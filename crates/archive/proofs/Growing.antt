@@ -12,7 +12,7 @@ use lib.Seq.{getD-set-same, getD-set-other, getD-append-add, getD-take, getD-dro
 use lib.Seq.{drop-append-add, drop-append-seam, drop-drop, drop-set-lt}
 use Rattle.meaning.specs.Limits.{mostIndexWords}
 use Rattle.meaning.specs.Index.{rowCount, bitmapCount, entryPlace, startOf, lengthOf, bodyPlace, bodyAt}
-use Rattle.meaning.specs.Laws.{IndexFacts}
+use Rattle.laws.specs.Laws.{IndexFacts}
 use Rattle.contents.proofs.Places.{body-length}
 use Rattle.archive.specs.Anew.{Begun}
 

@@ -15,11 +15,12 @@ use Rattle.meaning.specs.declared.Format.{Format}
 use Rattle.meaning.specs.Index.{formatOf, rowCount, bitmapCount, entryPlace, bodyPlace, bodyAt, rowsAt}
 use Rattle.meaning.specs.NewIndex.{contentsEnd, indexRoom, writeIndex}
 use Rattle.meaning.specs.Rewriting.{setsFrom}
-use Rattle.meaning.specs.Laws.{SoundFacts, IndexFacts}
-use Rattle.meaning.specs.ColumnLaws.{none, NewIndex}
-use Rattle.meaning.proofs.IndexSound.{index-means}
-use Rattle.meaning.proofs.NewIndexes.{mostBodyWords, count-is, next-place, last-place, place-low, length-low, is-new as new-index}
-use Rattle.meaning.proofs.Rewritten.{sets-length}
+use Rattle.laws.specs.Laws.{SoundFacts, IndexFacts}
+use Rattle.meaning.specs.Rows.{none}
+use Rattle.laws.specs.ColumnLaws.{NewIndex}
+use Rattle.laws.proofs.IndexSound.{index-means}
+use Rattle.laws.proofs.NewIndexes.{mostBodyWords, count-is, next-place, last-place, place-low, length-low, is-new as new-index}
+use Rattle.laws.proofs.Rewritten.{sets-length}
 use Rattle.answers.specs.declared.refusal.Refusal.{Refusal}
 use Rattle.answers.specs.declared.answer.Written.the-variants as written
 use Rattle.answers.specs.Told.{refusal, Wrote}

@@ -7,7 +7,7 @@ ghost use Prim.Native.Nat.{_+_, _≤_, _<_};
 ghost use lib.ListN.{length, drop};
 ghost use Rattle.meaning.specs.Format.{canonical};
 ghost use Rattle.meaning.specs.Index.{rowCount, bitmapCount, bodyPlace, rowsAt};
-ghost use Rattle.meaning.specs.Laws.{IndexFacts};
+ghost use Rattle.laws.specs.Laws.{IndexFacts};
 ghost use Rattle.meaning.specs.NewIndex.{indexRoom, writeIndex};
 ghost use Rattle.meaning.specs.Rewriting.{setsFrom};
 ghost use Rattle.answers.specs.Told.{Wrote};

@@ -11,7 +11,7 @@ use Rattle.meaning.specs.Format.{rowsOf}
 use Rattle.meaning.specs.declared.Format.{Format}
 use Rattle.meaning.specs.Index.{formatOf, rowCount, bitmapCount, bodyAt, rowsAt}
 use Rattle.meaning.specs.Answer.{badBitmap}
-use Rattle.meaning.specs.Laws.{SoundFacts, IndexFacts}
+use Rattle.laws.specs.Laws.{SoundFacts, IndexFacts}
 
 module _ (index : List ℕ) (k n : ℕ) (is : n ≡ bitmapCount index) where
   pub number-bad : n ≤ k → refused 8 0 0 ≡ refuseIf (badBitmap index k) 8 0 0 sound

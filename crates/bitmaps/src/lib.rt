@@ -6,7 +6,7 @@ ghost use Rattle.meaning.specs.Limits.{headWords};
 ghost use Rattle.meaning.specs.Rows.{countBelow};
 ghost use Rattle.meaning.specs.Refusal.{sound, refuseIf};
 ghost use Rattle.meaning.specs.Index.{formatOf, rowCount, bitmapCount, bodyAt, rowsAt};
-ghost use Rattle.meaning.specs.Laws.{IndexFacts};
+ghost use Rattle.laws.specs.Laws.{IndexFacts};
 ghost use Rattle.meaning.specs.Answer as meaning;
 ghost use Rattle.answers.specs.Told.{verdictOf, flagOf, numberOf, Wrote};
 use answers::answer;

@@ -6,7 +6,7 @@ ghost use Rattle.meaning.specs.Limits.{mostRows, mostSegments};
 ghost use Rattle.meaning.specs.Rows.{countBelow};
 ghost use Rattle.meaning.specs.Segment.{ones, isSet};
 ghost use Rattle.meaning.specs.Ewah.{ewahRows};
-ghost use Rattle.meaning.specs.Laws.{EwahFacts};
+ghost use Rattle.laws.specs.Laws.{EwahFacts};
 use ewah::marker;
 use ewah_count::count::count_run;
 use ewah_count::count::pads_set;

@@ -12,7 +12,7 @@ use Rattle.meaning.specs.Limits.{blockSegments}
 use Rattle.meaning.specs.Segment.{fill}
 use Rattle.meaning.specs.Format.{width, segmentsOf}
 use Rattle.meaning.specs.declared.Format.{Format}
-use Rattle.meaning.specs.Ahead.{Ahead}
+use Rattle.laws.specs.Ahead.{Ahead}
 use Rattle.ewah.specs.declared.cursor.Cursor.{Cursor}
 use Rattle.ewah.specs.declared.cursor.Piece.the-variants.{Clean, Dirty}
 use Rattle.ewah.specs.Cursors.{InOrder, leftOf, piecesFrom}

@@ -8,7 +8,7 @@ use lib.ListN.{length, getD}
 use Rattle.meaning.specs.Limits.{blockSegments}
 use Rattle.meaning.specs.Format.{segmentsOf}
 use Rattle.meaning.specs.declared.Format.{Format}
-use Rattle.meaning.specs.Ahead.{Ahead}
+use Rattle.laws.specs.Ahead.{Ahead}
 use Rattle.ewah.specs.declared.cursor.Cursor.{Cursor}
 use Rattle.ewah.specs.Cursors.{piecesFrom}
 use Rattle.bodies.specs.Walks.{Passes}

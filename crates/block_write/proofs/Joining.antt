@@ -10,7 +10,7 @@ use Rattle.meaning.specs.Limits.{mostDirty}
 use Rattle.meaning.specs.Segment.{mixed}
 use Rattle.meaning.specs.Ewah.{marker}
 use Rattle.meaning.specs.Canonical.{Draft, blank, draft, body, put}
-use Rattle.meaning.proofs.Runs.{mixed-in}
+use Rattle.laws.proofs.Runs.{mixed-in}
 use Rattle.ewah_write.specs.declared.writer.Writer.{Writer}
 use Rattle.ewah_write.specs.Drafts.{Tracks, RoomFor, Grown, Drawn, Pushed}
 use Rattle.ewah_write.proofs.Pushing.{redrawn, room-then}

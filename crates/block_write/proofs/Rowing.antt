@@ -13,7 +13,7 @@ use Rattle.meaning.specs.Segment.{Segment, mixed, kind, allSet}
 use Rattle.meaning.specs.Format.{width}
 use Rattle.meaning.specs.declared.Format.{Format}
 use Rattle.meaning.specs.declared.Format.the-variants.{Ewah}
-use Rattle.meaning.proofs.Segments.{map-append}
+use Rattle.laws.proofs.Segments.{map-append}
 use Rattle.ewah_write.specs.declared.writer.Writer.{Writer}
 use Rattle.body_write.specs.Bodies.{Growing, RoomFor, Grown, Emitted}
 use Rattle.body_write.proofs.Joined.{still-growing, room-first, room-rest}

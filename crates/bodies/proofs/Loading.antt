@@ -13,12 +13,12 @@ use Rattle.meaning.specs.Wah.{isFill, pieceOf, wahPieces}
 use Rattle.meaning.specs.Format.{piecesOf}
 use Rattle.meaning.specs.declared.Format.{Format}
 use Rattle.meaning.specs.declared.Format.the-variants.{Ewah, Wah}
-use Rattle.meaning.specs.Ahead.{restOf}
+use Rattle.laws.specs.Ahead.{restOf}
 use Rattle.ewah.specs.declared.cursor.Cursor.{Cursor}
 use Rattle.ewah.specs.declared.cursor.Piece as code
 use Rattle.ewah.specs.declared.cursor.Piece.the-variants.{Clean, Dirty}
 use Rattle.ewah.specs.Cursors.{Stands, HeldIn, mostDue, leftOf, pieceThen, piecesFrom}
-use Rattle.meaning.proofs.Decoded.{pieces-some}
+use Rattle.laws.proofs.Decoded.{pieces-some}
 use Rattle.ewah.proofs.Pieces.{cons-at}
 use Rattle.wah.specs.declared.word.Fill.{Fill}
 use Rattle.wah.specs.Words.{FieldsOf}

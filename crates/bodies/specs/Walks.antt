@@ -9,7 +9,7 @@ use Rattle.meaning.specs.Piece.{Piece, cleanRun, dirtyWord}
 use Rattle.meaning.specs.Wah.{pieceOf}
 use Rattle.meaning.specs.Format.{width}
 use Rattle.meaning.specs.declared.Format.{Format}
-use Rattle.meaning.specs.Ahead.{Ahead}
+use Rattle.laws.specs.Ahead.{Ahead}
 use Rattle.ewah.specs.declared.cursor.Piece as code
 use Rattle.ewah.specs.declared.cursor.Piece.the-variants.{Clean, Dirty}
 use Rattle.ewah.specs.declared.cursor.Cursor.{Cursor}

@@ -8,7 +8,7 @@ ghost use Rattle.meaning.specs.Piece.{NoneEmpty};
 ghost use Rattle.meaning.specs.Wah.{wahPieces};
 ghost use Rattle.meaning.specs.Format.{width, piecesOf};
 ghost use Rattle.meaning.specs.declared.Format.the-variants.{Wah};
-ghost use Rattle.meaning.specs.Ahead.{restOf, advanced};
+ghost use Rattle.laws.specs.Ahead.{restOf, advanced};
 ghost use Rattle.ewah.specs.Cursors.{Stands, InOrder, ValueLow, mostDue, leftOf, piecesFrom};
 ghost use Rattle.bodies.specs.Walks.{PieceIs, wordOf, spanOf, behind, Passes};
 use ewah::cursor;

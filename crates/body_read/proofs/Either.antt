@@ -8,7 +8,7 @@ use Rattle.meaning.specs.Wah.{wahRows}
 use Rattle.meaning.specs.Format.{rowsOf}
 use Rattle.meaning.specs.declared.Format.{Format}
 use Rattle.meaning.specs.declared.Format.the-variants.{Ewah, Wah}
-use Rattle.meaning.specs.Laws.{SoundFacts}
+use Rattle.laws.specs.Laws.{SoundFacts}
 
 -- the facts of the format that it is
 pub facts-as : (F : Format) (R : ℕ) (b : List ℕ) (G : Format) → F ≡ G → SoundFacts F R b → SoundFacts G R b

@@ -4,7 +4,7 @@ ghost use Prim.Native.Nat.{_≤_};
 ghost use Rattle.meaning.specs.Limits.{mostRows};
 ghost use Rattle.meaning.specs.Rows.{countBelow};
 ghost use Rattle.meaning.specs.Format.{rowsOf};
-ghost use Rattle.meaning.specs.Laws.{SoundFacts};
+ghost use Rattle.laws.specs.Laws.{SoundFacts};
 use meaning::Format;
 
 // How many of a body's rows are set.

@@ -3,7 +3,7 @@ ghost use mathlib.Core.Path.{_≡_};
 ghost use Prim.Native.Nat.{_≤_};
 ghost use Rattle.meaning.specs.Limits.{mostRows};
 ghost use Rattle.meaning.specs.Format.{rowsOf};
-ghost use Rattle.meaning.specs.Laws.{SoundFacts};
+ghost use Rattle.laws.specs.Laws.{SoundFacts};
 ghost use Rattle.meaning.specs.Answer.{askNth};
 ghost use Rattle.answers.specs.Told.{foundOf};
 use answers::answer::Found;

@@ -4,7 +4,7 @@ ghost use Prim.Native.Nat.{ℕ, _≤_, _<_};
 ghost use Rattle.meaning.specs.Limits.{mostRows};
 ghost use Rattle.meaning.specs.Format.{rowsOf};
 ghost use Rattle.meaning.specs.Extent.{rowAnswer};
-ghost use Rattle.meaning.specs.Laws.{SoundFacts};
+ghost use Rattle.laws.specs.Laws.{SoundFacts};
 use meaning::Format;
 use meaning::Row;
 

@@ -13,7 +13,7 @@ use Rattle.meaning.specs.Wah.{wahDraft, runWords, wahBody, wahPut, wahOf}
 use Rattle.meaning.specs.Format.{width, mostRun, wordsOf}
 use Rattle.meaning.specs.declared.Format.{Format}
 use Rattle.meaning.specs.declared.Format.the-variants.{Ewah, Wah}
-use Rattle.meaning.proofs.Least.{puts-grow}
+use Rattle.laws.proofs.Least.{puts-grow}
 use Rattle.ewah_write.specs.declared.writer.Writer.{Writer}
 use Rattle.wah_write.proofs.Runs as runs
 use Rattle.body_write.specs.Bodies.{soFar, Stands}

@@ -8,7 +8,7 @@ use lib.ListN.{length}
 use Rattle.meaning.specs.Segment.{Segment}
 use Rattle.meaning.specs.Canonical.{blank, body, put, ewahOf}
 use Rattle.meaning.specs.declared.Format.the-variants.{Ewah}
-use Rattle.meaning.proofs.Least.{puts-add}
+use Rattle.laws.proofs.Least.{puts-add}
 use Rattle.ewah_write.specs.declared.writer.Writer.{Writer}
 use Rattle.ewah_write.specs.Drafts as drafts
 use Rattle.ewah_write.proofs.Growing.{used-is}

@@ -12,8 +12,8 @@ use Rattle.meaning.specs.Limits.{mostSegments}
 use Rattle.meaning.specs.Segment.{Segment, segmentCount, lastRows, rowsIn}
 use Rattle.meaning.specs.Format.{width, wordsOf}
 use Rattle.meaning.specs.declared.Format.{Format}
-use Rattle.meaning.proofs.Cut.{rows-inside, rows-end}
-use Rattle.meaning.proofs.Formats.{width-pos}
+use Rattle.laws.proofs.Cut.{rows-inside, rows-end}
+use Rattle.laws.proofs.Formats.{width-pos}
 use Rattle.ewah_write.specs.declared.writer.Writer.{Writer}
 use Rattle.body_write.specs.Bodies.{soFar, Stands, Growing, RoomFor, Emitted, Written, UpTo}
 use Rattle.body_write.proofs.Bodies.{words-none, words-all, words-grow, used-is}

@@ -14,13 +14,13 @@ use Rattle.meaning.specs.Rows.{bit, countBelow}
 use Rattle.meaning.specs.Refusal.{refused, sound}
 use Rattle.meaning.specs.Index.{formatOf, rowCount, rowsAt, bodyAt}
 use Rattle.meaning.specs.declared.Format.{Format}
-use Rattle.meaning.specs.Laws.{SoundFacts}
+use Rattle.laws.specs.Laws.{SoundFacts}
 use Rattle.meaning.specs.Answer.{named}
 use Rattle.meaning.specs.Column.{valueOf}
 use Rattle.meaning.specs.Columns.{existing, slicesOf, valueAt, strayRows, straysIn, strays}
-use Rattle.meaning.specs.Demands.{IsNth}
-use Rattle.meaning.proofs.Outcomes.{refuse-no, refuse-yes}
-use Rattle.meaning.proofs.Counted.{count-none, nth-below, nth-eq}
+use Rattle.laws.specs.Demands.{IsNth}
+use Rattle.laws.proofs.Outcomes.{refuse-no, refuse-yes}
+use Rattle.laws.proofs.Counted.{count-none, nth-below, nth-eq}
 use Rattle.ewah.proofs.Pieces.{cons-at}
 use Rattle.column.specs.declared.outside.Found.{Found}
 use Rattle.column.specs.Outside.{outside, NoneBelow, Lowest, FoundIn}

@@ -11,8 +11,8 @@ use lib.ListN.{length}
 use Rattle.meaning.specs.Piece.{NoneEmpty}
 use Rattle.meaning.specs.Format.{width, piecesOf, segmentsOf}
 use Rattle.meaning.specs.declared.Format.{Format}
-use Rattle.meaning.specs.Ahead.{Ahead}
-use Rattle.meaning.proofs.Walked.{ahead-start}
+use Rattle.laws.specs.Ahead.{Ahead}
+use Rattle.laws.proofs.Walked.{ahead-start}
 use Rattle.ewah.specs.declared.cursor.Cursor.{Cursor}
 use Rattle.ewah.specs.declared.cursor.Piece as code
 use Rattle.ewah.specs.declared.cursor.Piece.the-variants.{Clean, Dirty}

@@ -13,11 +13,11 @@ use Rattle.meaning.specs.Segment.{isSet, bitAt, fill, allSet}
 use Rattle.meaning.specs.Format.{width, segmentsOf, rowsOf}
 use Rattle.meaning.specs.declared.Format.{Format}
 use Rattle.meaning.specs.Question.{difference}
-use Rattle.meaning.specs.Demands.{Words}
-use Rattle.meaning.specs.Ahead.{Ahead}
-use Rattle.meaning.proofs.Counting.{zero-clear, full-set}
-use Rattle.meaning.proofs.Formats.{width-pos, width-le, segments-below}
-use Rattle.meaning.proofs.RowWords.{has-at}
+use Rattle.laws.specs.Demands.{Words}
+use Rattle.laws.specs.Ahead.{Ahead}
+use Rattle.laws.proofs.Counting.{zero-clear, full-set}
+use Rattle.laws.proofs.Formats.{width-pos, width-le, segments-below}
+use Rattle.laws.proofs.RowWords.{has-at}
 use Rattle.ewah.specs.declared.cursor.Cursor.{Cursor}
 use Rattle.ewah.specs.declared.cursor.Piece as code
 use Rattle.ewah.specs.declared.cursor.Piece.the-variants.{Clean, Dirty}

@@ -11,10 +11,10 @@ use lib.Pow.{pow-mono}
 use Rattle.meaning.specs.Limits.{mostSegments, wordBits}
 use Rattle.meaning.specs.Rows.{countBelow, nthBelow}
 use Rattle.meaning.specs.Segment.{isSet, bitAt}
-use Rattle.meaning.specs.Demands.{IsNth}
-use Rattle.meaning.proofs.Counted.{nth-holds}
-use Rattle.meaning.proofs.Counting.{zero-clear, count-add}
-use Rattle.meaning.proofs.RowWords.{word-by-bits}
+use Rattle.laws.specs.Demands.{IsNth}
+use Rattle.laws.proofs.Counted.{nth-holds}
+use Rattle.laws.proofs.Counting.{zero-clear, count-add}
+use Rattle.laws.proofs.RowWords.{word-by-bits}
 use Rattle.words.proofs.BitLaws.{and-not-set, count-set}
 use Rattle.column.specs.Outside.{OverBits, Spells, NoneBelow, Lowest}
 

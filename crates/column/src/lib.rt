@@ -5,7 +5,7 @@ ghost use Prim.Native.Nat.{ℕ, _≤_, _<_};
 ghost use lib.ListN.{length, getD};
 ghost use Rattle.meaning.specs.Rows.{bit};
 ghost use Rattle.meaning.specs.Index.{formatOf, rowCount, bitmapCount, rowsAt};
-ghost use Rattle.meaning.specs.Laws.{IndexFacts};
+ghost use Rattle.laws.specs.Laws.{IndexFacts};
 ghost use Rattle.meaning.specs.Limits.{leastColumn, mostValueColumn};
 ghost use Rattle.meaning.specs.Columns as meaning;
 ghost use Rattle.answers.specs.Told.{verdictOf};

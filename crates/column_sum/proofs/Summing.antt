@@ -16,9 +16,9 @@ use Rattle.meaning.specs.Question.{totalWords}
 use Rattle.meaning.specs.NewIndex.{contentsEnd, entriesOf, indexOf}
 use Rattle.meaning.specs.Column.{columnOf, sumValue}
 use Rattle.meaning.specs.Columns.{pairColumn}
-use Rattle.meaning.specs.ColumnLaws.{none}
-use Rattle.meaning.proofs.NewIndexes.{canonical-words, length-is, total-more, at-map}
-use Rattle.meaning.proofs.ColumnValues.{slices-length}
+use Rattle.meaning.specs.Rows.{none}
+use Rattle.laws.proofs.NewIndexes.{canonical-words, length-is, total-more, at-map}
+use Rattle.laws.proofs.ColumnValues.{slices-length}
 use Rattle.ewah_write.proofs.Pushing.{drop-more}
 use Rattle.new_index.specs.Writers.{writerOf, region, Laid}
 use Rattle.new_index.specs.Layouts.{StartsOf, Headed}

@@ -11,14 +11,14 @@ use lib.ListN.{length, getD, drop}
 use Rattle.meaning.specs.Limits.{leastColumn, mostColumn, mostValueColumn}
 use Rattle.meaning.specs.Refusal.{Outcome, answer, refuseIf, _then_}
 use Rattle.meaning.specs.Index.{formatOf, rowCount, bitmapCount}
-use Rattle.meaning.specs.Laws.{IndexFacts}
+use Rattle.laws.specs.Laws.{IndexFacts}
 use Rattle.meaning.specs.NewIndex.{indexOf, indexRoom, writeIndex}
 use Rattle.meaning.specs.Column.{sumValue}
 use Rattle.meaning.specs.Answer.{anyBad}
 use Rattle.meaning.specs.Columns.{sliceCount, wider, existing, badColumn, badRow, strays, valueAt, askValue, pairColumn, askPair, askSum}
-use Rattle.meaning.proofs.Tests.{or-false}
-use Rattle.meaning.proofs.Demanded.{good-each}
-use Rattle.meaning.proofs.ColumnsHold.{column-length}
+use Rattle.laws.proofs.Tests.{or-false}
+use Rattle.laws.proofs.Demanded.{good-each}
+use Rattle.laws.proofs.ColumnsHold.{column-length}
 use Rattle.answers.specs.declared.refusal.Refusal.{Refusal}
 use Rattle.answers.specs.declared.answer.Written.the-variants as written
 use Rattle.answers.specs.Told.{refusedBy, refusal, Wrote}

@@ -5,7 +5,7 @@ ghost use lib.ListN.{length};
 ghost use mathlib.Core.Bool.{false};
 ghost use Rattle.meaning.specs.Limits.{headWords, mostColumn, mostValueColumn};
 ghost use Rattle.meaning.specs.Index.{formatOf, rowCount};
-ghost use Rattle.meaning.specs.Laws.{IndexFacts};
+ghost use Rattle.laws.specs.Laws.{IndexFacts};
 ghost use Rattle.meaning.specs.NewIndex.{writeIndex};
 ghost use Rattle.meaning.specs.Column.{sumValue};
 ghost use Rattle.meaning.specs.Refusal.{_then_};

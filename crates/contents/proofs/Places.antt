@@ -7,7 +7,7 @@ use native.Mathlib.Omega.{arith}
 use lib.ListN.{length, take, drop, length-drop}
 use lib.Seq.{length-take-le}
 use Rattle.meaning.specs.Index.{bitmapCount, entryPlace, startOf, lengthOf, bodyPlace, bodyAt}
-use Rattle.meaning.specs.Laws.{HeadFacts, EntryFacts}
+use Rattle.laws.specs.Laws.{HeadFacts, EntryFacts}
 
 -- an entry lies within the index
 pub entry-within : (index : List ℕ) (k : ℕ) → HeadFacts index → k < bitmapCount index → entryPlace index k + 1 < length index

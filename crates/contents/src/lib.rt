@@ -6,7 +6,7 @@ ghost use lib.ListN.{length};
 ghost use Rattle.meaning.specs.Limits.{mostBitmaps, headWords, mostContents, wordBytes};
 ghost use Rattle.meaning.specs.Format.{kindOf};
 ghost use Rattle.meaning.specs.Index.{formatOf, rowCount, bitmapCount, entryPlace, startOf, lengthOf, bodyAt};
-ghost use Rattle.meaning.specs.Laws.{HeadFacts, EntryFacts};
+ghost use Rattle.laws.specs.Laws.{HeadFacts, EntryFacts};
 ghost use Rattle.meaning.specs.NewIndex.{indexRoom};
 use meaning::ENTRY_WORDS;
 use meaning::EWAH_KIND;

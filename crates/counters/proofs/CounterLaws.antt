@@ -15,8 +15,8 @@ use native.Mathlib.Omega.{arith}
 use borrow.Author.Tests.{ne-eqb}
 use Rattle.meaning.specs.Rows.{bit}
 use Rattle.meaning.specs.Segment.{bitAt, isSet}
-use Rattle.meaning.proofs.RowWords.{bit-le}
-use Rattle.meaning.proofs.Counting.{zero-clear, full-set}
+use Rattle.laws.proofs.RowWords.{bit-le}
+use Rattle.laws.proofs.Counting.{zero-clear, full-set}
 use Rattle.counters.specs.Counters.{countAt}
 use Rattle.words.proofs.BitLaws.{bit-set, bit-lt, half-sum, and-table, or-table}
 use Rattle.words.proofs.Tests.{same-leb, same-eqb}

@@ -13,8 +13,8 @@ use Rattle.meaning.specs.Ewah.{pieces}
 use Rattle.meaning.specs.Wah.{wahPieces}
 use Rattle.meaning.specs.declared.Format.{Format}
 use Rattle.meaning.specs.declared.Format.the-variants.{Ewah, Wah}
-use Rattle.meaning.specs.Ahead.{restOf}
-use Rattle.meaning.proofs.Decoded.{pieces-some}
+use Rattle.laws.specs.Ahead.{restOf}
+use Rattle.laws.proofs.Decoded.{pieces-some}
 use Rattle.ewah.specs.declared.marker.Marker.{Marker}
 use Rattle.ewah.specs.declared.cursor.Piece.the-variants.{Clean, Dirty}
 use Rattle.ewah.specs.Markers.{FieldsOf}

@@ -12,7 +12,7 @@ use lib.Seq.{drop-cons, getD-drop, drop-drop}
 use Rattle.meaning.specs.Segment.{overPad, segmentCount}
 use Rattle.meaning.specs.Refusal.{sound, refuseIf}
 use Rattle.meaning.specs.Ewah.{cleanOf, dirtyOf, faultFrom}
-use Rattle.meaning.proofs.Walk.{skip-dirty, over-none}
+use Rattle.laws.proofs.Walk.{skip-dirty, over-none}
 use Rattle.words.proofs.Segmented.{some-rows}
 use Rattle.ewah.specs.Checking.{Passed, Faulty, Stepped}
 use Rattle.ewah.specs.declared.check.Step.{Step}

@@ -9,7 +9,7 @@ use Rattle.meaning.specs.Piece.{Piece, dirtyWord, runThen, NoneEmpty}
 use Rattle.meaning.specs.Format.{mostRun}
 use Rattle.meaning.specs.declared.Format.{Format}
 use Rattle.meaning.specs.declared.Format.the-variants.{Ewah, Wah}
-use Rattle.meaning.specs.Ahead.{restOf}
+use Rattle.laws.specs.Ahead.{restOf}
 use Rattle.ewah.specs.declared.cursor.Piece as code
 use Rattle.ewah.specs.declared.cursor.Piece.the-variants.{Clean, Dirty}
 use Rattle.ewah.specs.declared.cursor.Cursor.{Cursor}

@@ -9,7 +9,7 @@ use borrow.Author.Tests.{eq-eqb, ne-eqb}
 use Rattle.meaning.specs.Segment.{segmentCount}
 use Rattle.meaning.specs.Piece.{Piece, dirtyWord, lastDirty}
 use Rattle.meaning.specs.Ewah.{pieces, valueOf, cleanOf, dirtyOf}
-use Rattle.meaning.proofs.Decoded.{last-run, last-behind}
+use Rattle.laws.proofs.Decoded.{last-run, last-behind}
 use Rattle.ewah.proofs.Pieces.{cons-at}
 use Rattle.ewah_count.specs.Pads.{padsSet}
 

@@ -18,18 +18,18 @@ use Rattle.meaning.specs.Piece.{lastDirty}
 use Rattle.meaning.specs.Format.{rowsOf}
 use Rattle.meaning.specs.declared.Format.the-variants.{Ewah}
 use Rattle.meaning.specs.Ewah.{pieces, segments, ewahRows}
-use Rattle.meaning.specs.Laws.{EwahFacts}
-use Rattle.meaning.proofs.Walk.{At, Step, at-start, at-end}
-use Rattle.meaning.proofs.Asked.{rows-count, ones-step}
-use Rattle.meaning.proofs.Counting.{ones-append, ones-take-le}
-use Rattle.meaning.proofs.Decoded.{pieces-none}
-use Rattle.meaning.proofs.Parts.{part-is}
-use Rattle.meaning.proofs.RowWords.{segments-few}
+use Rattle.laws.specs.Laws.{EwahFacts}
+use Rattle.laws.proofs.Walk.{At, Step, at-start, at-end}
+use Rattle.laws.proofs.Asked.{rows-count, ones-step}
+use Rattle.laws.proofs.Counting.{ones-append, ones-take-le}
+use Rattle.laws.proofs.Decoded.{pieces-none}
+use Rattle.laws.proofs.Parts.{part-is}
+use Rattle.laws.proofs.RowWords.{segments-few}
 use Rattle.ewah.specs.Markers.{FieldsOf}
 use Rattle.ewah.specs.declared.marker.Marker.{Marker}
 use Rattle.ewah.proofs.MarkerStep.{read-step}
 use Rattle.ewah_count.specs.Pads.{padsSet}
-use Rattle.meaning.proofs.Pads.{pads-none, pads-all}
+use Rattle.laws.proofs.Pads.{pads-none, pads-all}
 use Rattle.ewah_count.proofs.LastSegment.{behind-words, last-word, behind-run, pads-clean, pads-dirty}
 
 -- where there are no dirty words, none of their bits are set

@@ -6,7 +6,7 @@ ghost use Rattle.meaning.specs.Limits.{mostRows, mostSegments, mostClean};
 ghost use Rattle.meaning.specs.Rows.{countBelow};
 ghost use Rattle.meaning.specs.Segment.{ones, fill};
 ghost use Rattle.meaning.specs.Ewah.{ewahRows};
-ghost use Rattle.meaning.specs.Laws.{EwahFacts};
+ghost use Rattle.laws.specs.Laws.{EwahFacts};
 ghost use Rattle.ewah_count.specs.Pads.{padsSet};
 use ewah::marker;
 use popcount::BLOCK;

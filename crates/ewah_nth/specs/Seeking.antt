@@ -5,7 +5,7 @@ use mathlib.Core.Path.{_≡_}
 use mathlib.Core.List.{List}
 use lib.ListN.{length}
 use Rattle.meaning.specs.Segment.{hasRow, ones}
-use Rattle.meaning.specs.Demands.{IsNth}
+use Rattle.laws.specs.Demands.{IsNth}
 use Rattle.ewah_nth.specs.declared.nth.Sought.{Sought}
 use Rattle.ewah_nth.specs.declared.nth.Sought.the-variants.{Here, Ahead}
 

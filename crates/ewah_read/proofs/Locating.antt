@@ -8,8 +8,8 @@ use native.Mathlib.Omega.{arith}
 use Rattle.meaning.specs.Segment.{fill}
 use Rattle.meaning.specs.Ewah.{segments, pieces, dueAfter}
 use Rattle.meaning.specs.Extent.{spanAt}
-use Rattle.meaning.proofs.Walk.{At, Step, at-start}
-use Rattle.meaning.proofs.Spans.{AtMarker, at-marker}
+use Rattle.laws.proofs.Walk.{At, Step, at-start}
+use Rattle.laws.proofs.Spans.{AtMarker, at-marker}
 use Rattle.ewah.specs.Markers.{FieldsOf}
 use Rattle.ewah.specs.declared.marker.Marker.{Marker}
 use Rattle.ewah.proofs.MarkerStep.{read-step}

@@ -6,7 +6,7 @@ ghost use lib.ListN.{length, drop, replicate};
 ghost use Rattle.meaning.specs.Limits.{mostRows};
 ghost use Rattle.meaning.specs.Segment.{fill, segmentCount, fromRows};
 ghost use Rattle.meaning.specs.Ewah.{segments, ewahRows, dueAfter};
-ghost use Rattle.meaning.specs.Laws.{EwahFacts};
+ghost use Rattle.laws.specs.Laws.{EwahFacts};
 use ewah::marker;
 use words::bits;
 use words::rows;

@@ -6,7 +6,7 @@ ghost use Rattle.meaning.specs.Limits.{mostRows};
 ghost use Rattle.meaning.specs.Ewah.{segments, pieces, dueAfter};
 ghost use Rattle.meaning.specs.Format.{rowsOf};
 ghost use Rattle.meaning.specs.Extent.{rowAnswer};
-ghost use Rattle.meaning.specs.Laws.{EwahFacts};
+ghost use Rattle.laws.specs.Laws.{EwahFacts};
 ghost use Rattle.meaning.specs.declared.Format.the-variants.{Ewah};
 ghost use Rattle.extent.specs.Place.{PlaceOf};
 use ewah::marker;

@@ -12,9 +12,9 @@ use lib.ListN.{length, replicate, length-append}
 use Rattle.meaning.specs.Limits.{mostClean, mostDirty}
 use Rattle.meaning.specs.Segment.{clean, mixed, kind}
 use Rattle.meaning.specs.Canonical.{Draft, blank, draft, body}
-use Rattle.meaning.proofs.Segments.{both}
-use Rattle.meaning.proofs.Least.{size, size-draft, taken}
-use Rattle.meaning.proofs.Runs.{room, longer, longer-length, run-within, run-over, mixed-in, mixed-new}
+use Rattle.laws.proofs.Segments.{both}
+use Rattle.laws.proofs.Least.{size, size-draft, taken}
+use Rattle.laws.proofs.Runs.{room, longer, longer-length, run-within, run-over, mixed-in, mixed-new}
 use Rattle.ewah_write.specs.declared.writer.Writer.{Writer}
 use Rattle.ewah.specs.Markers.{InRange}
 use Rattle.ewah_write.specs.Drafts.{Same, Tracks, Grown, freeOf}

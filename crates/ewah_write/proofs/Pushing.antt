@@ -12,8 +12,8 @@ use Rattle.meaning.specs.Limits.{mostClean, mostDirty}
 use Rattle.meaning.specs.Segment.{Segment, clean, mixed}
 use Rattle.meaning.specs.Ewah.{marker}
 use Rattle.meaning.specs.Canonical.{Draft, blank, draft, body, put}
-use Rattle.meaning.proofs.Least.{taken, puts-grow}
-use Rattle.meaning.proofs.Runs.{room, longer, longer-length, run-within, run-over, mixed-in, mixed-new}
+use Rattle.laws.proofs.Least.{taken, puts-grow}
+use Rattle.laws.proofs.Runs.{room, longer, longer-length, run-within, run-over, mixed-in, mixed-new}
 use Rattle.ewah.specs.declared.marker.Marker.{Marker}
 use Rattle.ewah_write.specs.declared.writer.Writer.{Writer}
 use Rattle.ewah_write.specs.Drafts.{Tracks, RoomFor, Grown, Drawn, Pushed, freeOf}

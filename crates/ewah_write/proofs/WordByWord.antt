@@ -7,10 +7,10 @@ use native.Mathlib.Omega.{arith}
 use lib.ListN.{length, getD}
 use Rattle.meaning.specs.Segment.{kind, kinds, lastRows}
 use Rattle.meaning.specs.Canonical.{body, put, ewahOf}
-use Rattle.meaning.specs.Demands.{PlainRows}
-use Rattle.meaning.proofs.Segments.{kinds-length}
-use Rattle.meaning.proofs.Cut.{rows-inside, rows-end}
-use Rattle.meaning.proofs.Prefixes.{upTo, upTo-word, upTo-all}
+use Rattle.laws.specs.Demands.{PlainRows}
+use Rattle.laws.proofs.Segments.{kinds-length}
+use Rattle.laws.proofs.Cut.{rows-inside, rows-end}
+use Rattle.laws.proofs.Prefixes.{upTo, upTo-word, upTo-all}
 
 pub no-words : (R : ℕ) (xs : List ℕ) → length xs ≡ 0 → [] ≡ ewahOf (kinds 32 R xs)
 unfolding kinds ewahOf body

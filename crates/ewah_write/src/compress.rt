@@ -5,7 +5,7 @@ ghost use Prim.Native.Nat.{_-_, _≤_};
 ghost use lib.ListN.{length, drop, getD};
 ghost use Rattle.meaning.specs.Segment.{kind, kinds, lastRows};
 ghost use Rattle.meaning.specs.Canonical.{ewahOf};
-ghost use Rattle.meaning.specs.Demands.{PlainRows};
+ghost use Rattle.laws.specs.Demands.{PlainRows};
 use crate::writer;
 use words::bits;
 use words::rows;

@@ -13,9 +13,9 @@ use Rattle.meaning.specs.Format.{width, piecesOf, segmentsOf, rowsOf}
 use Rattle.meaning.specs.declared.Format.{Format}
 use Rattle.meaning.specs.declared.Row.{Row}
 use Rattle.meaning.specs.Extent.{Span, spanAt, extentOf, answerWith, rowAnswer}
-use Rattle.meaning.specs.Laws.{SoundFacts}
-use Rattle.meaning.proofs.Spans.{spanOf, own-within}
-use Rattle.meaning.proofs.Formats.{width-pos, width-le, spells, facts-count, segments-most}
+use Rattle.laws.specs.Laws.{SoundFacts}
+use Rattle.laws.proofs.Spans.{spanOf, own-within}
+use Rattle.laws.proofs.Formats.{width-pos, width-le, spells, facts-count, segments-most}
 use Rattle.extent.specs.Place.{PlaceOf}
 use Rattle.extent.specs.declared.Place.{Place}
 

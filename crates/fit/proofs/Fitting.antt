@@ -12,12 +12,12 @@ use Rattle.meaning.specs.Format.{canonical}
 use Rattle.meaning.specs.declared.Format.{Format}
 use Rattle.meaning.specs.Index.{formatOf, rowCount, lengthOf, bodyAt}
 use Rattle.meaning.specs.Question.{held, totalWords, stretches}
-use Rattle.meaning.specs.Ahead.{answerRows}
+use Rattle.laws.specs.Ahead.{answerRows}
 use Rattle.meaning.specs.Answer.{named, namedBodies}
-use Rattle.meaning.specs.Laws.{EntryFacts}
-use Rattle.meaning.proofs.Demanded.{named-is, twice-stretches}
-use Rattle.meaning.proofs.IndexSound.{index-means}
-use Rattle.meaning.proofs.Stretches.{stretches-le}
+use Rattle.laws.specs.Laws.{EntryFacts}
+use Rattle.laws.proofs.Demanded.{named-is, twice-stretches}
+use Rattle.laws.proofs.IndexSound.{index-means}
+use Rattle.laws.proofs.Stretches.{stretches-le}
 use Rattle.contents.proofs.Places.{body-length}
 use Rattle.merge.specs.declared.evaluate.Operation.{Operation}
 use Rattle.merge.specs.Operations.{chosen}

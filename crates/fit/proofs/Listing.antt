@@ -12,10 +12,10 @@ use lib.Seq.{drop-cons, take-at}
 use Rattle.meaning.specs.Limits.{mostNamed}
 use Rattle.meaning.specs.Refusal.{Outcome, refused, answer}
 use Rattle.meaning.specs.Index.{bitmapCount}
-use Rattle.meaning.specs.Laws.{IndexFacts}
+use Rattle.laws.specs.Laws.{IndexFacts}
 use Rattle.meaning.specs.Answer.{badBitmap, anyBad, badList, namedBodies, fits, bufferAfter, wordsReported, stretchesReported}
-use Rattle.meaning.proofs.Demanded.{good-list}
-use Rattle.meaning.proofs.Outcomes.{fits-yes, fits-no}
+use Rattle.laws.proofs.Demanded.{good-list}
+use Rattle.laws.proofs.Outcomes.{fits-yes, fits-no}
 use Rattle.answers.specs.declared.refusal.Refusal.{Refusal}
 use Rattle.answers.specs.Told.{refusedBy, refusal, answeredOf, wordsIn, stretchesIn, Reported}
 use Rattle.merge.specs.declared.evaluate.Operation.{Operation}

@@ -6,7 +6,7 @@ ghost use Prim.Native.Nat.{ℕ, _≤_};
 ghost use lib.ListN.{length};
 ghost use Rattle.meaning.specs.Limits.{mostNamedWords};
 ghost use Rattle.meaning.specs.Question.{totalWords};
-ghost use Rattle.meaning.specs.Laws.{IndexFacts};
+ghost use Rattle.laws.specs.Laws.{IndexFacts};
 ghost use Rattle.meaning.specs.Answer as meaning;
 ghost use Rattle.walk.specs.Queries.{Listed};
 ghost use Rattle.merge.specs.Merges.{Walkable, Mergeable, answerBody};

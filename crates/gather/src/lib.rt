@@ -6,7 +6,7 @@ ghost use Prim.Native.Nat.{ℕ, _≤_, _<_};
 ghost use lib.ListN.{length};
 ghost use Rattle.meaning.specs.Limits.{mostNamed, mostValueColumn, blockSegments, blockWords};
 ghost use Rattle.meaning.specs.Index.{formatOf, bitmapCount, bodyAt};
-ghost use Rattle.meaning.specs.Laws.{HeadFacts, EntryFacts};
+ghost use Rattle.laws.specs.Laws.{HeadFacts, EntryFacts};
 ghost use Rattle.ewah.specs.Cursors.{leftOf};
 ghost use Rattle.walk.specs.Queries.{cursorOf, PlaceIn, PlacesIn, Listed};
 ghost use Rattle.gather.specs.Gathered.{StandsBefore, StandingBefore, PlaceTaken, Gathered};

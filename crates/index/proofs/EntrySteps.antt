@@ -8,7 +8,7 @@ use borrow.Author.Tests.{lt-ltb, le-ltb, eq-eqb, ne-eqb}
 use lib.Dec.{ltb}
 use lib.ListN.{length}
 use Rattle.meaning.specs.Limits.{mostRows}
-use Rattle.meaning.specs.Laws.{HeadFacts, EntryFacts}
+use Rattle.laws.specs.Laws.{HeadFacts, EntryFacts}
 use Rattle.meaning.specs.Refusal.{Verdict, refused, sound, refuseIf, _then_}
 use Rattle.meaning.specs.Format.{bodyFault}
 use Rattle.meaning.specs.declared.Format.{Format}

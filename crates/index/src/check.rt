@@ -7,7 +7,7 @@ ghost use Rattle.meaning.specs.Refusal.{_then_};
 ghost use Rattle.meaning.specs.Format.{bodyFault};
 ghost use Rattle.meaning.specs.Index.{isKind, formatOf, rowCount, bitmapCount, entryPlace, startOf, bodyAt};
 ghost use Rattle.meaning.specs.Index.{headFault, entriesFault, bodiesFault, indexFault};
-ghost use Rattle.meaning.specs.Laws.{HeadFacts, EntryFacts};
+ghost use Rattle.laws.specs.Laws.{HeadFacts, EntryFacts};
 ghost use Rattle.answers.specs.Told.{verdictOf};
 ghost use Rattle.index.specs.Entries.{Stepped, refusal};
 use answers::refusal::Checked;

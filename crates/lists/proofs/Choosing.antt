@@ -14,9 +14,9 @@ use Rattle.meaning.specs.Refusal.{Outcome, answer, refuseIf}
 use Rattle.meaning.specs.Format.{rowsOf, canonical}
 use Rattle.meaning.specs.Index.{formatOf, rowCount, rowsAt}
 use Rattle.meaning.specs.Question.{held, atLeast, byTable, histogramOf}
-use Rattle.meaning.specs.Ahead.{answerRows}
+use Rattle.laws.specs.Ahead.{answerRows}
 use Rattle.meaning.specs.Answer.{named, rightRows, badEntry, write, fits, histogramReported}
-use Rattle.meaning.proofs.Demanded.{named-is}
+use Rattle.laws.proofs.Demanded.{named-is}
 use Rattle.answers.specs.declared.refusal.Refusal.{Refusal}
 use Rattle.answers.specs.Told.{refusedBy, refusal, Reported, histogramTold, Counted}
 use Rattle.merge.specs.declared.evaluate.Operation.the-variants as operation

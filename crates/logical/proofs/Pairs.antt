@@ -12,10 +12,10 @@ use Rattle.meaning.specs.Refusal.{Outcome, refused, refuseIf}
 use Rattle.meaning.specs.Format.{canonical}
 use Rattle.meaning.specs.Index.{formatOf, rowCount, rowsAt}
 use Rattle.meaning.specs.Question.{held, intersection, union, symmetricDifference, difference, complement}
-use Rattle.meaning.specs.Ahead.{answerRows}
+use Rattle.laws.specs.Ahead.{answerRows}
 use Rattle.meaning.specs.Answer.{badBitmap, anyBad, named, write, fits}
-use Rattle.meaning.proofs.Demanded.{named-is, good-each}
-use Rattle.meaning.proofs.Formats.{canonical-ext}
+use Rattle.laws.proofs.Demanded.{named-is, good-each}
+use Rattle.laws.proofs.Formats.{canonical-ext}
 use Rattle.merge.specs.declared.evaluate.Operation.{Operation}
 use Rattle.merge.specs.declared.evaluate.Operation.the-variants as operation
 use Rattle.merge.specs.Operations.{chosen}

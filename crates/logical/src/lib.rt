@@ -9,7 +9,7 @@ ghost use Rattle.meaning.specs.Limits.{mostNamed};
 ghost use Rattle.meaning.specs.Refusal.{Outcome, refuseIf};
 ghost use Rattle.meaning.specs.Index.{formatOf, rowCount};
 ghost use Rattle.meaning.specs.Question.{held, intersection, union, symmetricDifference, difference};
-ghost use Rattle.meaning.specs.Laws.{IndexFacts};
+ghost use Rattle.laws.specs.Laws.{IndexFacts};
 ghost use Rattle.meaning.specs.Answer as meaning;
 ghost use Rattle.merge.specs.Operations.{chosen};
 ghost use Rattle.answers.specs.Told.{Wrote, Reported};

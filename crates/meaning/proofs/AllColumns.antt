@@ -1,4 +1,4 @@
--- The readings of columns hold. Files are proved in the order of their names, so a wrong definition is refused here first.
+-- The readings of columns hold.
 -- Assumes nothing.
 use mathlib.Core.Path.{_≡_, refl}
 use mathlib.Core.Bool.{true}

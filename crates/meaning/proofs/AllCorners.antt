@@ -1,15 +1,17 @@
 -- Corner cases of the definitions, read by hand off paper 01 and requests 3 to 6: zero rows, the last segment, empty bodies and indexes, the limits, faults that come together.
--- Files are proved in the order of their names, so a wrong definition is refused here or in `AllReadings` before a law's proof is.
+-- No law is known here: a wrong definition is refused by a case, or by a reading of `AllReadings` or `AllColumns`.
 -- Assumes nothing.
 use Prim.Native.Nat.{ℕ}
 use mathlib.Core.Bool.{Bool, true, false, _&&_}
 use mathlib.Core.Path.{_≡_, refl}
 use mathlib.Core.List.{List, [], _∷_, _++_}
 use lib.Dec.{eqb}
-use lib.ListN.{replicate}
+use lib.ListN.{getD, replicate}
 use Rattle.meaning.specs.Rows.{bit}
+use Rattle.meaning.specs.Segment.{clean, mixed}
 use Rattle.meaning.specs.Refusal.{Outcome, refused, answer}
 use Rattle.meaning.specs.Ewah.{pieces, ewahFault}
+use Rattle.meaning.specs.Canonical.{draft, body, put}
 use Rattle.meaning.specs.Wah.{wahFault}
 use Rattle.meaning.specs.NewIndex.{indexRoom}
 use Rattle.meaning.specs.Rewriting.{rewrite, rewriteBitmap, rewriteIndex}
@@ -91,6 +93,14 @@ bodies =
     ∷ isRefused (compress Ewah 40 (1 ∷ []) 9) 8 0 0
     ∷ isRefused (compress Ewah 40 (1 ∷ 2 ∷ 0x100 ∷ []) 9) 8 0 0
     ∷ isRefused (compress Ewah 40 (1 ∷ 0x100 ∷ []) 0) 7 0 1
+    ∷ []
+
+-- what a marker can count, which nothing written here reaches: a run that it can't count on goes on in the next, and it takes the
+-- last dirty word
+pub limits : List Bool
+limits =
+    same (body (put (draft [] 0 65535 []) (clean 0))) (0x0001FFFE ∷ 0x00000002 ∷ [])
+    ∷ eqb (getD (body (put (draft [] 0 0 (replicate 32766 5)) (mixed 5))) 0 0) 0xFFFE0000
     ∷ []
 
 -- 40 rows: all of them as one run, none, and all of them with a dirty word at the end
@@ -304,3 +314,7 @@ wahs-hold = refl
 pub indexes-hold : every indexes ≡ true
 unfolding every indexes indexRoom isSound isRefused isAnswer same check bitmapRefusal bitmap partOf notOf threshold symmetric histogram histogramReported ewahFault
 indexes-hold = refl
+
+pub limits-hold : every limits ≡ true
+unfolding every limits same body put
+limits-hold = refl

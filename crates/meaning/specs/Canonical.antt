@@ -1,5 +1,5 @@
 -- The canonical form of a set of rows as an EWAH body: section "Settled form" of paper 01, whose term for it is settled form.
--- It is made segment by segment; `Paragraph` has the section's own account, by longest runs, and a law says that both agree.
+-- It is made segment by segment; `Paragraph` of `laws` has the section's own account, by longest runs, and a law says that both agree.
 -- Assumes nothing.
 use Prim.Native.Nat.{ℕ, suc}
 use mathlib.Core.Bool.{cond, _&&_}

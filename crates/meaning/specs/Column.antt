@@ -5,7 +5,7 @@ use Prim.Native.Nat.{ℕ, zero, suc, _+_, _*_}
 use mathlib.Core.Bool.{Bool, _&&_}
 use mathlib.Core.List.{List, [], _∷_}
 use Rattle.meaning.specs.Rows.{bit}
-use Rattle.meaning.specs.Segment.{isSet}
+use Rattle.meaning.specs.Segment.{isSet, tabulate}
 
 -- ---- a column's values
 
@@ -33,6 +33,10 @@ slicesFrom exists value i (suc n) = slice exists value i ∷ slicesFrom exists v
 unfoldable pub columnOf : (exists : ℕ → Bool) (value : ℕ → ℕ) (n : ℕ) → List (ℕ → Bool)
 unfolding slicesFrom
 columnOf exists value n = exists ∷ slicesFrom exists value 0 n
+
+-- the list that names the whole of such a column: 0, 1, .. , n
+abbrev pub whole : (n : ℕ) → List ℕ
+whole n = tabulate (suc n) (λ i. i)
 
 -- ---- what an operation makes of two values, x and y, of a row; n is the number of slices of its answer, of which a sum makes no use
 

@@ -11,7 +11,8 @@ use Rattle.meaning.specs.Answer.{bufferAfter, wordsReported, partOf, che
 use Rattle.meaning.specs.NewIndex.{indexOf}
 use Rattle.meaning.specs.declared.Format.the-variants.{Ewah}
 use Rattle.meaning.specs.Columns.{value, sum}
-use Rattle.meaning.specs.ColumnLaws.{none, whole}
+use Rattle.meaning.specs.Column.{whole}
+use Rattle.meaning.specs.Rows.{none}
 use Rattle.meaning.specs.Readings.{same, isSound, isRefused, isAnswer, isNumber}
 
 -- ---- what a reading can say

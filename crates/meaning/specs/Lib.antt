@@ -15,13 +15,6 @@ pub mod Answer
 pub mod NewIndex
 pub mod Column
 pub mod Columns
-pub mod Demands
-pub mod Paragraph
-pub mod Laws
 pub mod Rewriting
-pub mod PieceLaws
-pub mod ColumnLaws
 pub mod Readings
 pub mod ColumnReadings
--- for contracts between the crates
-pub mod Ahead

@@ -3,16 +3,13 @@
 -- Assumes nothing.
 use Prim.Native.Nat.{ℕ, zero, suc}
 use mathlib.Core.Bool.{Bool}
-use mathlib.Core.Path.{_≡_}
 use mathlib.Core.List.{List, [], _∷_}
-use Rattle.meaning.specs.Refusal.{Outcome, answer, _then_}
-use Rattle.meaning.specs.Format.{rowsOf, canonical}
+use Rattle.meaning.specs.Refusal.{Outcome, _then_}
+use Rattle.meaning.specs.Format.{rowsOf}
 use Rattle.meaning.specs.declared.Format.{Format}
 use Rattle.meaning.specs.Index.{rowCount, bitmapCount, rowsAt}
 use Rattle.meaning.specs.Answer.{write, checkBody, check, bitmapRefusal}
 use Rattle.meaning.specs.NewIndex.{writeIndex}
-use Rattle.meaning.specs.Laws.{Answers}
-use Rattle.meaning.specs.ColumnLaws.{NewIndex}
 
 -- `rewrite`: a body of R rows and of format F, in the format G. 3, then its own faults, then 9
 unfoldable pub rewrite : (F G : Format) (R : ℕ) (body : List ℕ) (room : ℕ) → Outcome (List ℕ)
@@ -35,13 +32,3 @@ module _ (index : List ℕ) where
   unfoldable pub rewriteIndex : (G : Format) (room : ℕ) → Outcome (List ℕ)
   unfolding check _then_ writeIndex rowCount setsFrom bitmapCount
   rewriteIndex G room = check index then writeIndex G (rowCount index) (setsFrom 0 (bitmapCount index)) room
-
--- proved in `proofs/Rewritten`: what is written has the same rows, in canonical form; and what is written back is the canonical form of what there was
-pub record RewriteLaws : Type 0 where
-  pub keeps : (F G : Format) (R : ℕ) (body : List ℕ) (room : ℕ) (b : List ℕ) → rewrite F G R body room ≡ answer b → Answers G R (rowsOf F body) b
-  pub back : (F G : Format) (R : ℕ) (body : List ℕ) (room room′ : ℕ) (b c : List ℕ) → rewrite F G R body room ≡ answer b → rewrite G F R b room′ ≡ answer c
-      → c ≡ canonical F R (rowsOf F body)
-  pub of-bitmap : (index : List ℕ) (k : ℕ) (G : Format) (room : ℕ) (b : List ℕ) → rewriteBitmap index k G room ≡ answer b → Answers G (rowCount index) (rowsAt index k) b
-  -- a whole index: the new one is sound, of the format G, and its bitmaps are the old one's
-  pub of-index : (index : List ℕ) (G : Format) (room : ℕ) (b : List ℕ) → rewriteIndex index G room ≡ answer b
-      → NewIndex G (rowCount index) (setsFrom index 0 (bitmapCount index)) b

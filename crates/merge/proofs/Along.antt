@@ -11,10 +11,10 @@ use Rattle.meaning.specs.Segment.{segmentCount, lastRows, rowsIn, allSet, bitAt
 use Rattle.meaning.specs.Format.{width, mostRun}
 use Rattle.meaning.specs.declared.Format.{Format}
 use Rattle.meaning.specs.Index.{formatOf, rowCount}
-use Rattle.meaning.specs.Laws.{SoundFacts}
-use Rattle.meaning.specs.Ahead.{StretchAt}
-use Rattle.meaning.proofs.Formats.{segments-most}
-use Rattle.meaning.proofs.Sums.{sum-le, sum-add, sum-mono}
+use Rattle.laws.specs.Laws.{SoundFacts}
+use Rattle.laws.specs.Ahead.{StretchAt}
+use Rattle.laws.proofs.Formats.{segments-most}
+use Rattle.laws.proofs.Sums.{sum-le, sum-add, sum-mono}
 use Rattle.ewah.specs.declared.cursor.Piece as code
 use Rattle.ewah.specs.declared.cursor.Piece.the-variants.{Clean, Dirty}
 use Rattle.ewah.specs.Cursors.{ValueLow, leftOf}

@@ -8,9 +8,9 @@ use native.Mathlib.Omega.{arith}
 use Rattle.meaning.specs.Segment.{Segment, kind, allSet, rowsIn, isSet}
 use Rattle.meaning.specs.Format.{width}
 use Rattle.meaning.specs.declared.Format.{Format}
-use Rattle.meaning.proofs.Formats.{width-pos, width-le}
-use Rattle.meaning.proofs.Cut.{rows-some, rows-le}
-use Rattle.meaning.proofs.Evaluated.{run-zeros, run-ones, low-word}
+use Rattle.laws.proofs.Formats.{width-pos, width-le}
+use Rattle.laws.proofs.Cut.{rows-some, rows-le}
+use Rattle.laws.proofs.Evaluated.{run-zeros, run-ones, low-word}
 use Rattle.counters.specs.Counters.{countAt}
 use Rattle.walk.specs.declared.survey.Survey.{Survey}
 use Rattle.merge.specs.declared.evaluate.Operation.{Operation}

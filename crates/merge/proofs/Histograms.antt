@@ -18,12 +18,12 @@ use Rattle.meaning.specs.Format.{width, rowsOf}
 use Rattle.meaning.specs.declared.Format.{Format}
 use Rattle.meaning.specs.Index.{formatOf, rowCount}
 use Rattle.meaning.specs.Question.{histogramOf}
-use Rattle.meaning.specs.Ahead.{StretchAt, answerRows}
-use Rattle.meaning.proofs.Formats.{width-pos, width-le}
-use Rattle.meaning.proofs.Counting.{count-ext, count-le, count-all}
-use Rattle.meaning.proofs.RowWords.{length-tabulate, getD-tabulate, begins, rows-fit}
-use Rattle.meaning.proofs.Cut.{rows-le}
-use Rattle.meaning.proofs.Evaluated.{mask-bit, count-cut, count-in, count-out, count-mixed}
+use Rattle.laws.specs.Ahead.{StretchAt, answerRows}
+use Rattle.laws.proofs.Formats.{width-pos, width-le}
+use Rattle.laws.proofs.Counting.{count-ext, count-le, count-all}
+use Rattle.laws.proofs.RowWords.{length-tabulate, getD-tabulate, begins, rows-fit}
+use Rattle.laws.proofs.Cut.{rows-le}
+use Rattle.laws.proofs.Evaluated.{mask-bit, count-cut, count-in, count-out, count-mixed}
 use Rattle.counters.specs.Counters.{countAt}
 use Rattle.walk.specs.declared.survey.Survey.{Survey}
 use Rattle.walk.specs.Surveys.{MovedAll}

@@ -12,9 +12,9 @@ use Rattle.meaning.specs.Format.{width, wordsOf}
 use Rattle.meaning.specs.declared.Format.{Format}
 use Rattle.meaning.specs.Index.{formatOf, rowCount}
 use Rattle.meaning.specs.Question.{endsAt, stretches}
-use Rattle.meaning.specs.Ahead.{answerSegments}
-use Rattle.meaning.proofs.Evaluated.{answer-length, answer-canonical}
-use Rattle.meaning.proofs.Counting.{count-le}
+use Rattle.laws.specs.Ahead.{answerSegments}
+use Rattle.laws.proofs.Evaluated.{answer-length, answer-canonical}
+use Rattle.laws.proofs.Counting.{count-le}
 use Rattle.ewah_write.specs.declared.writer.Writer.{Writer}
 use Rattle.body_write.specs.Bodies.{Stands, Growing, RoomFor, Emitted, UpTo}
 use Rattle.body_write.proofs.UpTo.{up-none, up-growing, up-room, up-more, up-used, up-all}

@@ -15,13 +15,13 @@ use Rattle.meaning.specs.declared.Format.{Format}
 use Rattle.meaning.specs.declared.Format.the-variants.{Ewah, Wah}
 use Rattle.meaning.specs.Question.{held, endsAt, isIn, endsFrom}
 use Rattle.meaning.specs.Index.{bodyAt}
-use Rattle.meaning.specs.Laws.{SoundFacts}
-use Rattle.meaning.specs.Ahead.{Ahead, restOf, heldAt, StretchAt}
-use Rattle.meaning.proofs.Formats.{width-pos, width-le, facts-count}
-use Rattle.meaning.proofs.RowWords.{has-at}
-use Rattle.meaning.proofs.Sums.{sum-ext, sum-add, held-map}
-use Rattle.meaning.proofs.Even.{bit-fill}
-use Rattle.meaning.proofs.Walked.{ahead-run, ahead-dirty, no-end, an-end, ends-none, ends-some, count-stretch}
+use Rattle.laws.specs.Laws.{SoundFacts}
+use Rattle.laws.specs.Ahead.{Ahead, restOf, heldAt, StretchAt}
+use Rattle.laws.proofs.Formats.{width-pos, width-le, facts-count}
+use Rattle.laws.proofs.RowWords.{has-at}
+use Rattle.laws.proofs.Sums.{sum-ext, sum-add, held-map}
+use Rattle.laws.proofs.Even.{bit-fill}
+use Rattle.laws.proofs.Walked.{ahead-run, ahead-dirty, no-end, an-end, ends-none, ends-some, count-stretch}
 use Rattle.ewah.specs.declared.cursor.Cursor.{Cursor}
 use Rattle.ewah.specs.declared.cursor.Piece as code
 use Rattle.ewah.specs.declared.cursor.Piece.the-variants.{Clean, Dirty}

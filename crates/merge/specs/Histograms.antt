@@ -10,7 +10,7 @@ use Rattle.meaning.specs.Rows.{countBelow}
 use Rattle.meaning.specs.Segment.{allSet, rowsIn}
 use Rattle.meaning.specs.Format.{width}
 use Rattle.meaning.specs.declared.Format.{Format}
-use Rattle.meaning.specs.Ahead.{StretchAt, answerRows}
+use Rattle.laws.specs.Ahead.{StretchAt, answerRows}
 use Rattle.counters.specs.Counters.{countAt}
 use Rattle.walk.specs.declared.survey.Survey.{Survey}
 

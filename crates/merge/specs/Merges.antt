@@ -10,8 +10,8 @@ use Rattle.meaning.specs.Limits.{histogramCounts}
 use Rattle.meaning.specs.Format.{canonical}
 use Rattle.meaning.specs.Index.{formatOf, rowCount, bodyAt}
 use Rattle.meaning.specs.Question.{stretches}
-use Rattle.meaning.specs.Laws.{IndexFacts}
-use Rattle.meaning.specs.Ahead.{answerRows}
+use Rattle.laws.specs.Laws.{IndexFacts}
+use Rattle.laws.specs.Ahead.{answerRows}
 use Rattle.walk.specs.Queries.{Listed}
 use Rattle.merge.specs.declared.evaluate.Operation.{Operation}
 use Rattle.merge.specs.declared.engine.Merged.{Merged}

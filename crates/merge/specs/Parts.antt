@@ -7,7 +7,7 @@ use lib.ListN.{take, drop, replicate}
 use Rattle.meaning.specs.Segment.{Segment, clean, kind, allSet, rowsIn}
 use Rattle.meaning.specs.Format.{width, mostRun}
 use Rattle.meaning.specs.declared.Format.{Format}
-use Rattle.meaning.specs.Ahead.{StretchAt, answerSegments}
+use Rattle.laws.specs.Ahead.{StretchAt, answerSegments}
 use Rattle.counters.specs.Counters.{countAt}
 use Rattle.walk.specs.declared.survey.Survey.{Survey}
 use Rattle.merge.specs.declared.evaluate.Operation.{Operation}

@@ -13,7 +13,7 @@ use Rattle.meaning.specs.Format.{kindOf}
 use Rattle.meaning.specs.declared.Format.{Format}
 use Rattle.meaning.specs.Question.{totalWords}
 use Rattle.meaning.specs.NewIndex.{entriesOf, joined, contentsEnd, assembled}
-use Rattle.meaning.proofs.NewIndexes.{entries-length, entries-start, entries-words, joined-more, total-more, length-is}
+use Rattle.laws.proofs.NewIndexes.{entries-length, entries-start, entries-words, joined-more, total-more, length-is}
 use Rattle.new_index.specs.Writers.{writerOf, region}
 use Rattle.new_index.specs.Layouts.{Headed}
 

@@ -10,7 +10,7 @@ use lib.ListN.{length, getD}
 use lib.Pow.{pow-pos, pow-mono}
 use native.Mathlib.Nat.{mod-lt, pow-suc, zero-mul}
 use native.Mathlib.Omega.{arith}
-use Rattle.meaning.specs.Rows.{bit, sumBelow}
+use Rattle.meaning.specs.Rows.{bit, sumBelow, none}
 use Rattle.meaning.specs.Segment.{Segment, clean, kind, kinds, rowsIn, bitAt, isSet, segmentCount, fromRows}
 use Rattle.meaning.specs.Format.{width, segmentsOf}
 use Rattle.meaning.specs.declared.Format.{Format}
@@ -18,17 +18,16 @@ use Rattle.meaning.specs.Index.{formatOf, rowCount, rowsAt}
 use Rattle.meaning.specs.Question.{intersection}
 use Rattle.meaning.specs.Answer.{named}
 use Rattle.meaning.specs.Column.{valueOf, slice, columnOf, sumValue}
-use Rattle.meaning.specs.ColumnLaws.{none}
 use Rattle.meaning.specs.Columns.{existing, slicesOf, valueAt, pairColumn}
-use Rattle.meaning.proofs.RowWords.{word-by-bits, from-bit, from-below, from-length}
-use Rattle.meaning.proofs.Segments.{kinds-length}
-use Rattle.meaning.proofs.Cut.{kinds-at, rows-le}
-use Rattle.meaning.proofs.Formats.{width-pos}
-use Rattle.meaning.proofs.Evaluated.{mask-bit}
-use Rattle.meaning.proofs.Sums.{sum-zero, sum-first}
-use Rattle.meaning.proofs.Counting.{zero-clear}
-use Rattle.meaning.proofs.ColumnValues.{slices-at}
-use Rattle.meaning.proofs.ColumnsHold.{named-at, named-length}
+use Rattle.laws.proofs.RowWords.{word-by-bits, from-bit, from-below, from-length}
+use Rattle.laws.proofs.Segments.{kinds-length}
+use Rattle.laws.proofs.Cut.{kinds-at, rows-le}
+use Rattle.laws.proofs.Formats.{width-pos}
+use Rattle.laws.proofs.Evaluated.{mask-bit}
+use Rattle.laws.proofs.Sums.{sum-zero, sum-first}
+use Rattle.laws.proofs.Counting.{zero-clear}
+use Rattle.laws.proofs.ColumnValues.{slices-at}
+use Rattle.laws.proofs.ColumnsHold.{named-at, named-length}
 use Rattle.words.proofs.BitLaws.{bit-set, and-set}
 use Rattle.walk.specs.Queries.{placeBody}
 use Rattle.merge.proofs.Stretched.{row-bit}

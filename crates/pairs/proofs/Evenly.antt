@@ -16,10 +16,10 @@ use Rattle.meaning.specs.Format.{width, segmentsOf, rowsOf}
 use Rattle.meaning.specs.declared.Format.{Format}
 use Rattle.meaning.specs.Index.{formatOf}
 use Rattle.meaning.specs.Column.{sumValue}
-use Rattle.meaning.proofs.RowWords.{word-by-bits, eqb-bit}
-use Rattle.meaning.proofs.Formats.{width-pos}
-use Rattle.meaning.proofs.Sums.{sum-ext}
-use Rattle.meaning.proofs.Counting.{zero-clear, full-set}
+use Rattle.laws.proofs.RowWords.{word-by-bits, eqb-bit}
+use Rattle.laws.proofs.Formats.{width-pos}
+use Rattle.laws.proofs.Sums.{sum-ext}
+use Rattle.laws.proofs.Counting.{zero-clear, full-set}
 use Rattle.words.proofs.BitLaws.{bit-set}
 use Rattle.ewah.specs.declared.cursor.Cursor.{Cursor}
 use Rattle.ewah.specs.declared.cursor.Piece as code

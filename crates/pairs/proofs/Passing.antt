@@ -12,9 +12,9 @@ use Rattle.meaning.specs.Format.{width, mostRun, segmentsOf, wordsOf, canonical
 use Rattle.meaning.specs.declared.Format.{Format}
 use Rattle.meaning.specs.declared.Format.the-variants.{Ewah, Wah}
 use Rattle.meaning.specs.Index.{formatOf, rowCount}
-use Rattle.meaning.specs.Laws.{IndexFacts}
+use Rattle.laws.specs.Laws.{IndexFacts}
 use Rattle.meaning.specs.Column.{sumValue}
-use Rattle.meaning.proofs.Formats.{facts-count, segments-most}
+use Rattle.laws.proofs.Formats.{facts-count, segments-most}
 use Rattle.ewah.specs.Cursors.{leftOf}
 use Rattle.body_write.specs.Bodies.{Stands, Growing, RoomFor, UpTo}
 use Rattle.body_write.proofs.UpTo.{up-none, up-growing, up-room, up-more, up-used, up-all}

@@ -18,12 +18,12 @@ use Rattle.meaning.specs.declared.Format.the-variants.{Ewah, Wah}
 use Rattle.meaning.specs.Index.{formatOf, rowCount}
 use Rattle.meaning.specs.Wah.{wahSegments}
 use Rattle.meaning.specs.Column.{sumValue}
-use Rattle.meaning.proofs.Segments.{fill-cut, kind-fill}
-use Rattle.meaning.proofs.Pieces.{fill-lt}
-use Rattle.meaning.proofs.Cut.{rows-inside, rows-end, rows-some}
-use Rattle.meaning.proofs.WahBody.{wah-below}
-use Rattle.meaning.proofs.Formats.{width-pos}
-use Rattle.meaning.proofs.Evaluated.{part-is}
+use Rattle.laws.proofs.Segments.{fill-cut, kind-fill}
+use Rattle.laws.proofs.Pieces.{fill-lt}
+use Rattle.laws.proofs.Cut.{rows-inside, rows-end, rows-some}
+use Rattle.laws.proofs.WahBody.{wah-below}
+use Rattle.laws.proofs.Formats.{width-pos}
+use Rattle.laws.proofs.Evaluated.{part-is}
 use Rattle.adder.specs.Digits.{numberAt, Paired}
 use Rattle.block_read.specs.Taken.{wordAt}
 use Rattle.walk.specs.Queries.{placeBody}

@@ -14,8 +14,8 @@ use Rattle.meaning.specs.Limits.{blockSegments}
 use Rattle.meaning.specs.Segment.{kind, allSet, rowsIn, segmentCount}
 use Rattle.meaning.specs.Format.{width}
 use Rattle.meaning.specs.declared.Format.{Format}
-use Rattle.meaning.proofs.Cut.{rows-inside, rows-some, rows-le}
-use Rattle.meaning.proofs.Formats.{width-pos}
+use Rattle.laws.proofs.Cut.{rows-inside, rows-some, rows-le}
+use Rattle.laws.proofs.Formats.{width-pos}
 use Rattle.pairs.specs.Spellings.{WordsSpelled, Spelled}
 
 -- ---- row by row

@@ -8,10 +8,10 @@ use lib.ListN.{length, getD, take, drop}
 use Rattle.meaning.specs.Limits.{leastColumn, mostValueColumn, blockSegments, writersNumbers}
 use Rattle.meaning.specs.Format.{canonical}
 use Rattle.meaning.specs.Index.{formatOf, rowCount}
-use Rattle.meaning.specs.Laws.{IndexFacts}
+use Rattle.laws.specs.Laws.{IndexFacts}
 use Rattle.meaning.specs.Column.{sumValue}
 use Rattle.meaning.specs.Columns.{pairColumn}
-use Rattle.meaning.specs.ColumnLaws.{none}
+use Rattle.meaning.specs.Rows.{none}
 use Rattle.walk.specs.Queries.{Listed}
 use Rattle.new_index.specs.Writers.{writerOf, region}
 

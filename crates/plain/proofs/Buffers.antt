@@ -10,7 +10,7 @@ use Rattle.meaning.specs.Segment.{segmentCount, fromRows}
 use Rattle.meaning.specs.Format.{canonical}
 use Rattle.meaning.specs.declared.Format.{Format}
 use Rattle.meaning.specs.Answer.{askPlain, write}
-use Rattle.meaning.proofs.RowWords.{from-length}
+use Rattle.laws.proofs.RowWords.{from-length}
 use Rattle.answers.specs.declared.refusal.Refusal.{Refusal}
 use Rattle.answers.specs.declared.answer.Written.the-variants as written
 use Rattle.answers.specs.Told.{refusal, Wrote}

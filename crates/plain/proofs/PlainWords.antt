@@ -15,12 +15,12 @@ use Rattle.meaning.specs.Refusal.{refused, sound, refuseIf, _then_}
 use Rattle.meaning.specs.Canonical.{ewahOf}
 use Rattle.meaning.specs.Format.{canonical}
 use Rattle.meaning.specs.declared.Format.the-variants.{Ewah}
-use Rattle.meaning.specs.Demands.{Words, PlainRows}
+use Rattle.laws.specs.Demands.{Words, PlainRows}
 use Rattle.meaning.specs.Answer.{rowsFault, plainFault}
-use Rattle.meaning.proofs.RowWords.{rows-decide, last-getD}
-use Rattle.meaning.proofs.Segments.{encoded, canonical-is}
-use Rattle.meaning.proofs.Encoded.{none-last}
-use Rattle.meaning.proofs.Outcomes.{refuse-answer, then-answer}
+use Rattle.laws.proofs.RowWords.{rows-decide, last-getD}
+use Rattle.laws.proofs.Segments.{encoded, canonical-is}
+use Rattle.laws.proofs.Encoded.{none-last}
+use Rattle.laws.proofs.Outcomes.{refuse-answer, then-answer}
 
 module _ (R : ℕ) (plain : List ℕ) where
   pub plain-over : mostRows < R → refused 3 0 1 ≡ plainFault R plain

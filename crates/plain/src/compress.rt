@@ -5,7 +5,7 @@ ghost use Prim.Native.Nat.{_≤_};
 ghost use lib.ListN.{length, drop};
 ghost use Rattle.meaning.specs.Segment.{hasRow};
 ghost use Rattle.meaning.specs.Format.{canonical};
-ghost use Rattle.meaning.specs.Demands.{PlainRows};
+ghost use Rattle.laws.specs.Demands.{PlainRows};
 ghost use Rattle.meaning.specs.Answer as meaning;
 ghost use Rattle.answers.specs.Told.{verdictOf, Wrote};
 use answers::answer;

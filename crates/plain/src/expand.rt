@@ -6,7 +6,7 @@ ghost use lib.ListN.{length, drop};
 ghost use Rattle.meaning.specs.Limits.{mostRows};
 ghost use Rattle.meaning.specs.Segment.{segmentCount, fromRows};
 ghost use Rattle.meaning.specs.Format.{rowsOf};
-ghost use Rattle.meaning.specs.Laws.{SoundFacts};
+ghost use Rattle.laws.specs.Laws.{SoundFacts};
 ghost use Rattle.meaning.specs.Answer as meaning;
 ghost use Rattle.answers.specs.Told.{Wrote};
 use answers::answer;

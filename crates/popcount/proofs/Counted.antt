@@ -9,8 +9,8 @@ use native.Mathlib.Omega.{arith}
 use Rattle.meaning.specs.Rows.{sumBelow, countBelow}
 use Rattle.meaning.specs.Limits.{mostSegments}
 use Rattle.meaning.specs.Segment.{bitAt, isSet, ones}
-use Rattle.meaning.proofs.Counting.{count-le, zero-count, ones-block}
-use Rattle.meaning.proofs.Sums.{sum-ext, sum-zero, sum-join}
+use Rattle.laws.proofs.Counting.{count-le, zero-count, ones-block}
+use Rattle.laws.proofs.Sums.{sum-ext, sum-zero, sum-join}
 use Rattle.words.specs.Sums.{Added, PartOf}
 use Rattle.words.proofs.BitLaws.{bit-set}
 use Rattle.popcount.specs.Counts.{lanes, pairSize, blockSize, setBits, setIn}

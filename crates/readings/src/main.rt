@@ -73,7 +73,11 @@ fn none_set(format: Format, rows: u32, index: &[u32]) {
 // An index whose bitmap is a run of 8 segments, and eight runs of 65,535.
 fn sixteen_million(rows: u32) {
     let f = 0x0001_FFFF;
-    none_set(rows, &[1, rows, 1, 5, 9, 0x11, f, f, f, f, f, f, f, f]);
+    none_set(
+        Format::Ewah,
+        rows,
+        &[1, rows, 1, 5, 9, 0x11, f, f, f, f, f, f, f, f],
+    );
 }
 
 // Only the length is told, so that the prover never spells the words out.

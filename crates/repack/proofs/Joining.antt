@@ -9,8 +9,8 @@ use lib.Pow.{pow-pos, pow-mono, pow-add, shr-lt}
 use native.Mathlib.Nat.{mul-le-mul-right, suc-mul, mod-lt}
 use native.Mathlib.Omega.{arith}
 use Rattle.meaning.specs.Segment.{wordOf}
-use Rattle.meaning.proofs.RowWords.{word-ext, word-lt}
-use Rattle.meaning.proofs.WordJoin.{word-join, word-low}
+use Rattle.laws.proofs.RowWords.{word-ext, word-lt}
+use Rattle.laws.proofs.WordJoin.{word-join, word-low}
 use Rattle.words.proofs.BitLaws.{one-shifted}
 use Rattle.repack.specs.Packing.{Added, Split}
 use Rattle.repack.specs.declared.packer.Packer.{Packer}

@@ -12,10 +12,10 @@ use native.Mathlib.Omega.{arith}
 use borrow.Author.Tests.{lt-ltb, le-ltb}
 use Rattle.meaning.specs.Limits.{mostSegments}
 use Rattle.meaning.specs.Segment.{segmentCount, wordOf, hasRow, fromRows}
-use Rattle.meaning.specs.Demands.{PlainRows}
-use Rattle.meaning.proofs.RowWords.{word-ext, word-self, getD-tabulate}
-use Rattle.meaning.proofs.RowWords.{has-at, pad-clear, count-zero, count-suc, rows-fit, segments-few}
-use Rattle.meaning.proofs.WordJoin.{word-join}
+use Rattle.laws.specs.Demands.{PlainRows}
+use Rattle.laws.proofs.RowWords.{word-ext, word-self, getD-tabulate}
+use Rattle.laws.proofs.RowWords.{has-at, pad-clear, count-zero, count-suc, rows-fit, segments-few}
+use Rattle.laws.proofs.WordJoin.{word-join}
 use Rattle.repack.proofs.Joining.{word-part}
 
 -- ---- words read

@@ -12,8 +12,8 @@ use native.Mathlib.Nat.{zero-mul, one-mul}
 use native.Mathlib.Decide.{decLe, ℕ-discrete}
 use native.Mathlib.Omega.{arith}
 use Rattle.meaning.specs.Segment.{isSet, bitAt, wordOf}
-use Rattle.meaning.proofs.RowWords.{word-ext, word-self}
-use Rattle.meaning.proofs.Counting.{zero-clear, full-set}
+use Rattle.laws.proofs.RowWords.{word-ext, word-self}
+use Rattle.laws.proofs.Counting.{zero-clear, full-set}
 use Rattle.repack.specs.Packing.{Holds, Added}
 use Rattle.repack.specs.Filling.{rowsDone, Ready, Laid, Put, Stored}
 use Rattle.repack.specs.declared.fill.Filler.{Filler}

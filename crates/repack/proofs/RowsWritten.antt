@@ -12,8 +12,8 @@ use native.Mathlib.Decide.{decLe, ℕ-discrete}
 use native.Mathlib.Omega.{arith}
 use borrow.Author.Tests.{lt-ltb, le-ltb}
 use Rattle.meaning.specs.Segment.{segmentCount, wordOf, fromRows}
-use Rattle.meaning.proofs.RowWords.{word-ext, word-short, from-length}
-use Rattle.meaning.proofs.WordJoin.{word-join}
+use Rattle.laws.proofs.RowWords.{word-ext, word-short, from-length}
+use Rattle.laws.proofs.WordJoin.{word-join}
 use Rattle.repack.specs.Filling.{rowsDone, Laid}
 use Rattle.repack.specs.declared.fill.Filler.{Filler}
 use Rattle.repack.proofs.PlainSegments.{cell, from-word}

@@ -12,7 +12,7 @@ use mir.Val.{boolByte}
 use Rattle.meaning.specs.Refusal.{Outcome, refused, answer, Verdict, Numbered}
 use Rattle.meaning.specs.declared.Row.{Row}
 use Rattle.meaning.specs.Answer.{bufferAfter, wordsReported, stretchesReported, histogramReported}
-use Rattle.meaning.specs.Demands.{ThresholdDemand}
+use Rattle.laws.specs.Demands.{ThresholdDemand}
 use Rattle.answers.specs.declared.refusal.Checked.{Checked}
 use Rattle.answers.specs.Told.{verdictOf, writtenOf, wordsOf, answeredOf, wordsIn, stretchesIn, histogramTold, Wrote, Reported, Counted}
 use Rattle.answers.specs.declared.refusal.Checked.the-variants as checked
@@ -29,7 +29,7 @@ use Rattle.replies.specs.declared.reply.ZvWritten.{ZvWritten}
 use Rattle.replies.specs.declared.reply.ZvAnswered.{ZvAnswered}
 use Rattle.replies.specs.declared.reply.ZvHistogram.{ZvHistogram}
 use Rattle.replies.specs.Exported.{numberIn, bitmapIn, wordIn, flagIn, firstIn, lastIn, valueIn, checkedCode, flagCode, numberCode, valueCode, writtenCode, answeredCode, writtenReply, answeredReply, told, verdictTold, flagTold, numberTold, valueRead, writtenTold, answeredTold, Checks, Flags, Numbers, Values, Writes, Reports, Counts, histogramReply, histogramCode, countsTold}
-use Rattle.meaning.proofs.Numbered.{number-of}
+use Rattle.laws.proofs.Numbered.{number-of}
 
 -- ---- reading an outcome
 

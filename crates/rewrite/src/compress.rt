@@ -7,7 +7,7 @@ ghost use lib.ListN.{length, drop, getD};
 ghost use Rattle.meaning.specs.Limits.{mostSegments};
 ghost use Rattle.meaning.specs.Segment.{hasRow, kind, segmentCount, rowsIn, allSet, fromRows};
 ghost use Rattle.meaning.specs.Format.{width, canonical};
-ghost use Rattle.meaning.specs.Demands.{PlainRows};
+ghost use Rattle.laws.specs.Demands.{PlainRows};
 use body_write::writer;
 use meaning::Format;
 use repack::plain;

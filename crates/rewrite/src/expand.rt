@@ -7,7 +7,7 @@ ghost use Rattle.meaning.specs.Limits.{mostRows};
 ghost use Rattle.meaning.specs.Segment.{segmentCount, fromRows};
 ghost use Rattle.meaning.specs.declared.Format.the-variants.{Wah};
 ghost use Rattle.meaning.specs.Format.{rowsOf};
-ghost use Rattle.meaning.specs.Laws.{WahFacts};
+ghost use Rattle.laws.specs.Laws.{WahFacts};
 ghost use Rattle.repack.specs.Filling.{rowsDone, Ready, Put};
 ghost use Rattle.row_write.specs.Walking.{rowIn, Gives};
 use bodies::cursor;

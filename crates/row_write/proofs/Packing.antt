@@ -15,10 +15,10 @@ use Rattle.meaning.specs.Segment.{clean, kind, isSet, wordOf, segmentCount, row
 use Rattle.meaning.specs.Format.{width, canonical}
 use Rattle.meaning.specs.declared.Format.{Format}
 use Rattle.meaning.specs.declared.Format.the-variants.{Ewah, Wah}
-use Rattle.meaning.proofs.Formats.{width-pos}
-use Rattle.meaning.proofs.Cut.{rows-le}
-use Rattle.meaning.proofs.Even.{even-clean}
-use Rattle.meaning.proofs.RowWords.{bit-eqb}
+use Rattle.laws.proofs.Formats.{width-pos}
+use Rattle.laws.proofs.Cut.{rows-le}
+use Rattle.laws.proofs.Even.{even-clean}
+use Rattle.laws.proofs.RowWords.{bit-eqb}
 use Rattle.ewah_write.specs.declared.writer.Writer.{Writer}
 use Rattle.body_write.specs.Bodies.{Stands, Growing, Emitted}
 use Rattle.repack.specs.declared.packer.Packer.{Packer}

@@ -12,11 +12,11 @@ use Rattle.meaning.specs.Limits.{mostRows, mostSegments}
 use Rattle.meaning.specs.Segment.{Segment, clean, kind, fromRows, segmentCount, lastLimit, rowsIn}
 use Rattle.meaning.specs.Format.{width, wordsOf, canonical}
 use Rattle.meaning.specs.declared.Format.{Format}
-use Rattle.meaning.proofs.Formats.{width-pos, segments-most}
-use Rattle.meaning.proofs.Segments.{kinds-length}
-use Rattle.meaning.proofs.Cut.{kinds-at, rows-inside, rows-end}
-use Rattle.meaning.proofs.RowWords.{last-getD, from-length, from-last, from-below}
-use Rattle.meaning.proofs.Evaluated.{part-is}
+use Rattle.laws.proofs.Formats.{width-pos, segments-most}
+use Rattle.laws.proofs.Segments.{kinds-length}
+use Rattle.laws.proofs.Cut.{kinds-at, rows-inside, rows-end}
+use Rattle.laws.proofs.RowWords.{last-getD, from-length, from-last, from-below}
+use Rattle.laws.proofs.Evaluated.{part-is}
 use Rattle.ewah_write.specs.declared.writer.Writer.{Writer}
 use Rattle.body_write.specs.Bodies.{Stands, Growing, RoomFor, Emitted}
 use Rattle.body_write.proofs.UpTo.{up-none, up-growing, up-room, up-more, up-used, up-all}

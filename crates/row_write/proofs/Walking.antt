@@ -14,13 +14,13 @@ use Rattle.meaning.specs.Segment.{segmentCount, isSet, bitAt, fill}
 use Rattle.meaning.specs.Format.{width, piecesOf, segmentsOf, rowsOf}
 use Rattle.meaning.specs.declared.Format.{Format}
 use Rattle.meaning.specs.declared.Format.the-variants.{Ewah, Wah}
-use Rattle.meaning.specs.Laws.{SoundFacts}
-use Rattle.meaning.specs.Ahead.{Ahead, advanced, firstSize}
-use Rattle.meaning.proofs.Formats.{width-pos, width-le, segments-most, facts-some, facts-count}
-use Rattle.meaning.proofs.Cut.{bit-below}
-use Rattle.meaning.proofs.RowWords.{eqb-bit, has-at, rows-fit}
-use Rattle.meaning.proofs.Even.{bit-fill}
-use Rattle.meaning.proofs.Walked.{ahead-start, ahead-on, ahead-within}
+use Rattle.laws.specs.Laws.{SoundFacts}
+use Rattle.laws.specs.Ahead.{Ahead, advanced, firstSize}
+use Rattle.laws.proofs.Formats.{width-pos, width-le, segments-most, facts-some, facts-count}
+use Rattle.laws.proofs.Cut.{bit-below}
+use Rattle.laws.proofs.RowWords.{eqb-bit, has-at, rows-fit}
+use Rattle.laws.proofs.Even.{bit-fill}
+use Rattle.laws.proofs.Walked.{ahead-start, ahead-on, ahead-within}
 use Rattle.ewah.specs.declared.cursor.Cursor.{Cursor}
 use Rattle.ewah.specs.declared.cursor.Piece as code
 use Rattle.ewah.specs.declared.cursor.Piece.the-variants.{Clean, Dirty}

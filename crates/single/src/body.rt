@@ -4,7 +4,7 @@ ghost use Prim.Native.Nat.{_≤_};
 ghost use lib.ListN.{length};
 ghost use Rattle.meaning.specs.Limits.{mostRows};
 ghost use Rattle.meaning.specs.Format.{rowsOf, canonical};
-ghost use Rattle.meaning.specs.Laws.{SoundFacts};
+ghost use Rattle.laws.specs.Laws.{SoundFacts};
 ghost use Rattle.meaning.specs.Answer as meaning;
 ghost use Rattle.answers.specs.Told.{flagOf, numberOf, Wrote};
 use answers::answer;

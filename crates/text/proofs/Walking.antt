@@ -17,9 +17,9 @@ use Rattle.meaning.specs.Segment.{hasRow, isSet}
 use Rattle.meaning.specs.Piece.{NoneEmpty}
 use Rattle.meaning.specs.Format.{width, piecesOf, segmentsOf, rowsOf}
 use Rattle.meaning.specs.declared.Format.{Format}
-use Rattle.meaning.specs.Ahead.{advanced}
-use Rattle.meaning.proofs.Formats.{width-pos, width-le}
-use Rattle.meaning.proofs.Counting.{zero-clear}
+use Rattle.laws.specs.Ahead.{advanced}
+use Rattle.laws.proofs.Formats.{width-pos, width-le}
+use Rattle.laws.proofs.Counting.{zero-clear}
 use Rattle.ewah.specs.declared.cursor.Cursor.{Cursor}
 use Rattle.ewah.specs.Cursors.{Stands, InOrder, leftOf, piecesFrom}
 use Rattle.bodies.specs.Walks.{wordOf}

@@ -20,13 +20,13 @@ use Rattle.meaning.specs.Format.{width, rowsOf, canonical}
 use Rattle.meaning.specs.declared.Format.{Format}
 use Rattle.meaning.specs.declared.Format.the-variants.{Ewah}
 use Rattle.meaning.specs.Index.{formatOf, rowCount, bitmapCount}
-use Rattle.meaning.specs.Laws.{SoundFacts, HeadFacts, IndexFacts}
+use Rattle.laws.specs.Laws.{SoundFacts, HeadFacts, IndexFacts}
 use Rattle.meaning.specs.Answer.{check, threshold, askThreshold, rightRows, wordsReported}
-use Rattle.meaning.proofs.RowWords.{rows-fit, length-tabulate, getD-tabulate}
-use Rattle.meaning.proofs.Formats.{width-pos, sound-means, facts-some, facts-count, canonical-sound, segments-most}
-use Rattle.meaning.proofs.IndexSound.{index-means}
-use Rattle.meaning.proofs.Tests.{or-false}
-use Rattle.meaning.proofs.Demanded.{answered-is}
+use Rattle.laws.proofs.RowWords.{rows-fit, length-tabulate, getD-tabulate}
+use Rattle.laws.proofs.Formats.{width-pos, sound-means, facts-some, facts-count, canonical-sound, segments-most}
+use Rattle.laws.proofs.IndexSound.{index-means}
+use Rattle.laws.proofs.Tests.{or-false}
+use Rattle.laws.proofs.Demanded.{answered-is}
 use Rattle.answers.specs.declared.refusal.Refusal.{Refusal}
 use Rattle.answers.specs.declared.answer.Answered.{Answered}
 use Rattle.answers.specs.declared.answer.Answered.the-variants.{Words, Refused}

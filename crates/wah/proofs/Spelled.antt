@@ -12,7 +12,7 @@ use native.Mathlib.Omega.{arith}
 use Rattle.meaning.specs.Segment.{fill}
 use Rattle.meaning.specs.Piece.{Piece, cleanRun, dirtyWord, pieceSize, flat}
 use Rattle.meaning.specs.Wah.{isFill, fillValue, fillCount, pieceOf, wahPieces, wahSegments}
-use Rattle.meaning.proofs.WahBody.{segments-append}
+use Rattle.laws.proofs.WahBody.{segments-append}
 use Rattle.words.proofs.Segmented.{left-behind}
 use Rattle.wah.specs.Words.{Spells}
 

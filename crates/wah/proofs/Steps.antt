@@ -15,7 +15,7 @@ use Rattle.meaning.specs.Segment.{segmentCount, lastRows, lastLimit, overPad}
 use Rattle.meaning.specs.Refusal.{sound, refused, refuseIf}
 use Rattle.meaning.specs.Piece.{Piece, cleanRun, dirtyWord, pieceSize, dirtyIn}
 use Rattle.meaning.specs.Wah.{isFill, fillValue, fillCount, pieceOf, wahFaultFrom}
-use Rattle.meaning.proofs.Walk.{over-inside, over-last}
+use Rattle.laws.proofs.Walk.{over-inside, over-last}
 use Rattle.words.proofs.Segmented.{some-rows}
 use Rattle.wah.specs.Checking.{Passed, Faulty, Stepped}
 use Rattle.wah.specs.declared.check.Step.{Step}

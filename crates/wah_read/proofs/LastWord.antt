@@ -12,8 +12,8 @@ use native.Mathlib.Omega.{arith}
 use Rattle.meaning.specs.Segment.{segmentCount, lastRows, lastLimit, fill, pads}
 use Rattle.meaning.specs.Piece.{Piece, pieceSize, NoneEmpty, lastDirty}
 use Rattle.meaning.specs.Wah.{isFill, fillValue, pieceOf, wahPieces, wahSegments}
-use Rattle.meaning.specs.Laws.{WahFacts}
-use Rattle.meaning.proofs.Pads.{pads-empty, pads-none, pads-all}
+use Rattle.laws.specs.Laws.{WahFacts}
+use Rattle.laws.proofs.Pads.{pads-empty, pads-none, pads-all}
 use Rattle.wah.specs.Words.{Spells}
 use Rattle.wah.proofs.Spelled.{literal-piece, spelled-fill, spelled-literal, spells-none, spells-next, spells-size}
 

@@ -8,7 +8,7 @@ use native.Mathlib.Omega.{arith}
 use Rattle.meaning.specs.Piece.{pieceSize}
 use Rattle.meaning.specs.Wah.{pieceOf, wahPieces, wahSegments}
 use Rattle.meaning.specs.Extent.{spanAt}
-use Rattle.meaning.proofs.Spans.{AtWord, at-word}
+use Rattle.laws.proofs.Spans.{AtWord, at-word}
 use Rattle.wah.specs.Words.{Spells}
 use Rattle.wah.proofs.Spelled.{spells-none}
 use Rattle.extent.specs.Place.{PlaceOf}

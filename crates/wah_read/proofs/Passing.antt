@@ -16,11 +16,11 @@ use Rattle.meaning.specs.Wah.{pieceOf, wahSegments, wahRows}
 use Rattle.meaning.specs.Format.{rowsOf}
 use Rattle.meaning.specs.declared.Format.the-variants.{Wah}
 use Rattle.meaning.specs.Answer.{askNth}
-use Rattle.meaning.specs.Laws.{WahFacts}
-use Rattle.meaning.specs.Demands.{IsNth}
-use Rattle.meaning.proofs.Counting.{ones-append, ones-le, nth-left, nth-right, count-rows}
-use Rattle.meaning.proofs.Asked.{nth-found, nth-pad, nth-past}
-use Rattle.meaning.proofs.WahBody.{segments-append}
+use Rattle.laws.specs.Laws.{WahFacts}
+use Rattle.laws.specs.Demands.{IsNth}
+use Rattle.laws.proofs.Counting.{ones-append, ones-le, nth-left, nth-right, count-rows}
+use Rattle.laws.proofs.Asked.{nth-found, nth-pad, nth-past}
+use Rattle.laws.proofs.WahBody.{segments-append}
 use Rattle.wah.specs.Words.{Spells}
 use Rattle.wah.proofs.Spelled.{spells-none, spells-at, spells-split, spells-next, spells-size}
 

@@ -12,8 +12,8 @@ use borrow.Author.Tests.{leb-false}
 use Rattle.meaning.specs.Rows.{countBelow}
 use Rattle.meaning.specs.Segment.{bitAt, isSet, hasRow, ones, fill}
 use Rattle.meaning.specs.Wah.{isFill, fillValue, fillCount, wahSegments}
-use Rattle.meaning.specs.Demands.{IsNth}
-use Rattle.meaning.proofs.Counting.{ones-replicate, fill-count, nth-run, nth-word}
+use Rattle.laws.specs.Demands.{IsNth}
+use Rattle.laws.proofs.Counting.{ones-replicate, fill-count, nth-run, nth-word}
 use Rattle.words.proofs.BitLaws.{count-unset}
 use Rattle.wah.proofs.Spelled.{fill-spells, literal-spells}
 

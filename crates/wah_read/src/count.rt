@@ -7,7 +7,7 @@ ghost use Rattle.meaning.specs.Rows.{countBelow};
 ghost use Rattle.meaning.specs.Segment.{ones, pads};
 ghost use Rattle.meaning.specs.Piece.{pieceSize};
 ghost use Rattle.meaning.specs.Wah.{pieceOf, wahSegments, wahRows};
-ghost use Rattle.meaning.specs.Laws.{WahFacts};
+ghost use Rattle.laws.specs.Laws.{WahFacts};
 use meaning::Format;
 use wah::word;
 use words::bits;

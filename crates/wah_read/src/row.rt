@@ -6,7 +6,7 @@ ghost use Rattle.meaning.specs.Limits.{mostRows};
 ghost use Rattle.meaning.specs.Wah.{wahSegments, wahPieces};
 ghost use Rattle.meaning.specs.Format.{rowsOf};
 ghost use Rattle.meaning.specs.Extent.{rowAnswer};
-ghost use Rattle.meaning.specs.Laws.{WahFacts};
+ghost use Rattle.laws.specs.Laws.{WahFacts};
 ghost use Rattle.meaning.specs.declared.Format.the-variants.{Wah};
 ghost use Rattle.extent.specs.Place.{PlaceOf};
 use extent::Place;

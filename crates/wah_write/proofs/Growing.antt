@@ -9,7 +9,7 @@ use lib.ListN.{length, replicate, length-append}
 use Rattle.meaning.specs.Limits.{mostFill}
 use Rattle.meaning.specs.Segment.{clean, mixed}
 use Rattle.meaning.specs.Wah.{WahDraft, wahDraft, runWords, wahBody, wahPut}
-use Rattle.meaning.proofs.WahSize.{body-length, run-in}
+use Rattle.laws.proofs.WahSize.{body-length, run-in}
 use Rattle.ewah_write.specs.declared.writer.Writer.{Writer}
 use Rattle.wah_write.specs.WahDrafts.{WahTracks, Grown, ending}
 use Rattle.wah_write.proofs.Runs.{lastRun, Closed, run-new}

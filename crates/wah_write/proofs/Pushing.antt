@@ -10,7 +10,7 @@ use lib.Seq.{take-suc-set, drop-set-lt, take-take, take-at}
 use Rattle.meaning.specs.Limits.{mostFill}
 use Rattle.meaning.specs.Segment.{Segment, clean, mixed}
 use Rattle.meaning.specs.Wah.{WahDraft, wahDraft, runWords, wahBody, wahPut}
-use Rattle.meaning.proofs.WahSize.{body-length}
+use Rattle.laws.proofs.WahSize.{body-length}
 use Rattle.ewah_write.specs.declared.writer.Writer.{Writer}
 use Rattle.wah_write.specs.WahDrafts.{WahTracks, Grown, RoomFor, Pushed}
 use Rattle.wah_write.proofs.Runs.{puts-grow, Ended, run-ended}

@@ -12,10 +12,10 @@ use borrow.Author.Tests.{le-ltb, ne-eqb, eqb-true, eqb-false, ltb-true}
 use Rattle.meaning.specs.Limits.{mostFill}
 use Rattle.meaning.specs.Segment.{Segment, clean, mixed, fill, allSet}
 use Rattle.meaning.specs.Wah.{WahDraft, wahDraft, fillWord, runWords, wahBody, wahPut}
-use Rattle.meaning.proofs.Segments.{both}
-use Rattle.meaning.proofs.WahSize.{size, run-words, run-in}
+use Rattle.laws.proofs.Segments.{both}
+use Rattle.laws.proofs.WahSize.{size, run-words, run-in}
 -- passed on to `body_write`
-pub use Rattle.meaning.proofs.WahSize.{body-length, puts-add}
+pub use Rattle.laws.proofs.WahSize.{body-length, puts-add}
 
 -- ---- the words of a run
 

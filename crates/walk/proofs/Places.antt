@@ -10,10 +10,10 @@ use lib.ListN.{length, drop, length-take, length-drop}
 use Rattle.meaning.specs.Piece.{NoneEmpty}
 use Rattle.meaning.specs.Format.{piecesOf, segmentsOf}
 use Rattle.meaning.specs.declared.Format.{Format}
-use Rattle.meaning.specs.Ahead.{advanced, firstSize}
+use Rattle.laws.specs.Ahead.{advanced, firstSize}
 use Rattle.meaning.specs.Index.{startOf, lengthOf, bodyAt}
-use Rattle.meaning.specs.Laws.{HeadFacts}
-use Rattle.meaning.proofs.Walked.{ahead-start, ahead-on, ahead-within}
+use Rattle.laws.specs.Laws.{HeadFacts}
+use Rattle.laws.proofs.Walked.{ahead-start, ahead-on, ahead-within}
 use Rattle.ewah.specs.declared.cursor.Cursor.{Cursor}
 use Rattle.ewah.specs.Cursors.{ValueLow, InOrder, Stands, leftOf, piecesFrom}
 use Rattle.bodies.proofs.Advancing.{first-left}

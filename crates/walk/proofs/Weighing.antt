@@ -10,7 +10,7 @@ use lib.ListN.{length, replicate}
 use Rattle.meaning.specs.Limits.{mostNamed, counterPlanes}
 use Rattle.meaning.specs.Rows.{sumBelow}
 use Rattle.meaning.specs.Segment.{bitAt}
-use Rattle.meaning.proofs.Sums.{sum-ext, sum-le}
+use Rattle.laws.proofs.Sums.{sum-ext, sum-le}
 use Rattle.counters.specs.Counters.{countAt}
 use Rattle.words.proofs.BitLaws.{bit-lt}
 use Rattle.ewah.specs.declared.cursor.Cursor.{Cursor}

@@ -5,7 +5,7 @@ ghost use mathlib.Core.List.{List};
 ghost use Prim.Native.Nat.{ℕ, _≤_, _<_, min};
 ghost use lib.ListN.{length, getD};
 ghost use Rattle.meaning.specs.Limits.{mostNamed};
-ghost use Rattle.meaning.specs.Laws.{HeadFacts, EntryFacts, IndexFacts};
+ghost use Rattle.laws.specs.Laws.{HeadFacts, EntryFacts, IndexFacts};
 ghost use Rattle.meaning.specs.Index.{formatOf, bitmapCount, bodyAt};
 ghost use Rattle.ewah.specs.Cursors.{ValueLow, InOrder, leftOf};
 ghost use Rattle.walk.specs.Queries.{cursorOf, PlaceIn, PlacesIn, Listed, Standing};

@@ -13,8 +13,8 @@ use lib.Count.{ones, onesIn, ones-cat}
 use borrow.Author.Tests.{ne-eqb}
 use Rattle.meaning.specs.Rows.{bit, countBelow}
 use Rattle.meaning.specs.Segment.{bitAt, isSet}
-use Rattle.meaning.proofs.RowWords.{bit-le, eqb-bit, bit-eqb}
-use Rattle.meaning.proofs.Counting.{full-set}
+use Rattle.laws.proofs.RowWords.{bit-le, eqb-bit, bit-eqb}
+use Rattle.laws.proofs.Counting.{full-set}
 
 -- ---- the bits of a word
 

@@ -10,8 +10,8 @@ use lib.Dec.{eqb, leb}
 use native.Mathlib.Decide.{decLe}
 use lib.Pow.{pow-pos}
 use Rattle.meaning.specs.Segment.{segmentCount, allSet, clean, mixed, kind}
-use Rattle.meaning.proofs.Segments.{kind-full, kind-mixed}
-use Rattle.meaning.proofs.RowWords.{count-zero}
+use Rattle.laws.proofs.Segments.{kind-full, kind-mixed}
+use Rattle.laws.proofs.RowWords.{count-zero}
 
 -- where there is a segment there are rows
 pub some-rows : (w R : ℕ) → 0 < w → 1 ≤ segmentCount w R → 1 ≤ R

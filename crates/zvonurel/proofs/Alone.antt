@@ -11,10 +11,10 @@ use Rattle.meaning.specs.Rows.{countBelow}
 use Rattle.meaning.specs.Refusal.{refused, answer, Verdict, sound, refuseIf, _then_}
 use Rattle.meaning.specs.Format.{bodyFault, rowsOf}
 use Rattle.meaning.specs.declared.Format.{Format}
-use Rattle.meaning.specs.Laws.{SoundFacts}
+use Rattle.laws.specs.Laws.{SoundFacts}
 use Rattle.meaning.specs.Answer.{rowsFault, checkBody, askCount, bodyCount}
-use Rattle.meaning.proofs.Outcomes.{refuse-answer, then-answer}
-use Rattle.meaning.proofs.Lawful.{body-laws}
+use Rattle.laws.proofs.Outcomes.{refuse-answer, then-answer}
+use Rattle.laws.proofs.Lawful.{body-laws}
 use Rattle.answers.specs.declared.refusal.Refusal.{Refusal}
 use Rattle.answers.specs.declared.refusal.Checked.{Checked}
 use Rattle.answers.specs.declared.refusal.Checked.the-variants as checked

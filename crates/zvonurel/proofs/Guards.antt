@@ -7,12 +7,12 @@ use lib.ListN.{length}
 use Rattle.meaning.specs.Refusal.{Outcome, Verdict, _then_}
 use Rattle.meaning.specs.Index.{bitmapCount}
 use Rattle.meaning.specs.Answer.{check, bitmapRefusal, threshold}
-use Rattle.meaning.specs.Laws.{IndexFacts}
-use Rattle.meaning.specs.Demands.{Asked, ThresholdDemand}
-use Rattle.meaning.proofs.Demanded.{threshold-demand}
-use Rattle.meaning.proofs.IndexSound.{index-means}
-use Rattle.meaning.proofs.BitmapPart.{part-laws}
-use Rattle.meaning.proofs.Outcomes.{then-sound}
+use Rattle.laws.specs.Laws.{IndexFacts}
+use Rattle.laws.specs.Demands.{Asked, ThresholdDemand}
+use Rattle.laws.proofs.Demanded.{threshold-demand}
+use Rattle.laws.proofs.IndexSound.{index-means}
+use Rattle.laws.proofs.BitmapPart.{part-laws}
+use Rattle.laws.proofs.Outcomes.{then-sound}
 use Rattle.answers.specs.declared.refusal.Checked.{Checked}
 use Rattle.answers.specs.declared.refusal.Checked.the-variants as checked
 use Rattle.answers.specs.Told.{verdictOf, answeredOf, Reported, Counted}

@@ -13,7 +13,7 @@ ghost use Rattle.meaning.specs.Index.{startOf};
 ghost use Rattle.meaning.specs.Answer as meaning;
 ghost use Rattle.meaning.specs.Columns as columns;
 ghost use Rattle.meaning.specs.Rewriting as rewriting;
-ghost use Rattle.meaning.specs.Demands.{Asked, ThresholdDemand};
+ghost use Rattle.laws.specs.Demands.{Asked, ThresholdDemand};
 ghost use Rattle.answers.specs.Told.{verdictOf, flagOf, numberOf, valueTold, answeredOf, Wrote, Reported, Counted};
 use answers::answer;
 pub use answers::answer::Answered;

@@ -7,9 +7,9 @@ use native.Mathlib.Omega.{arith}
 use Rattle.meaning.specs.Refusal.{refused, answer, sound, _then_}
 use Rattle.meaning.specs.Index.{bitmapCount, startOf, lengthOf, bodyAt}
 use Rattle.meaning.specs.Answer.{bitmap, bitmapRefusal}
-use Rattle.meaning.specs.Laws.{HeadFacts}
-use Rattle.meaning.proofs.BitmapPart.{part-laws}
-use Rattle.meaning.proofs.Outcomes.{then-sound}
+use Rattle.laws.specs.Laws.{HeadFacts}
+use Rattle.laws.proofs.BitmapPart.{part-laws}
+use Rattle.laws.proofs.Outcomes.{then-sound}
 use Rattle.answers.specs.declared.refusal.Checked.{Checked}
 use Rattle.answers.specs.declared.refusal.Checked.the-variants as checked
 use Rattle.answers.specs.Told.{verdictOf}
@@ -17,7 +17,7 @@ use Rattle.answers.proofs.Checks.{sound-is}
 use Rattle.replies.specs.declared.reply.ZvPart.{ZvPart}
 use Rattle.replies.specs.Exported.{numberIn, bitmapIn, wordIn, ifAnswered, partReply, told, Lends}
 use Rattle.contents.proofs.Places.{body-within}
-use Rattle.meaning.proofs.Numbered.{number-of, bitmap-refusal}
+use Rattle.laws.proofs.Numbered.{number-of, bitmap-refusal}
 use Rattle.replies.proofs.Codes.{told-refused}
 
 -- what the two places of the contents are read under

@@ -9,7 +9,7 @@ ghost use lib.ListN.{length};
 ghost use Rattle.meaning.specs.declared.Format.the-variants.{Ewah};
 ghost use Rattle.meaning.specs.Answer as meaning;
 ghost use Rattle.meaning.specs.Columns as columns;
-ghost use Rattle.meaning.specs.Demands.{Asked, ThresholdDemand};
+ghost use Rattle.laws.specs.Demands.{Asked, ThresholdDemand};
 ghost use Rattle.replies.specs.Exported.{Checks, Flags, Numbers, Values, Writes, Reports, Lends, Counts, answeredTold};
 use replies::reply;
 pub use replies::reply::ZvAnswered;

@@ -7,7 +7,7 @@ use mathlib.Core.List.{List}
 use denote.Ref.{now}
 use Rattle.meaning.specs.Limits.{mostBitmaps, mostContents}
 use Rattle.meaning.specs.Index.{bitmapCount, bodyPlace}
-use Rattle.meaning.proofs.NewIndexes.{mostBodyWords}
+use Rattle.laws.proofs.NewIndexes.{mostBodyWords}
 use Rattle.archive.specs.Anew.{anew}
 use Rattle.archive.proofs.Renewed.{new-place, new-next, new-end, new-low}
 use borrow.Author.Needs.{needs}

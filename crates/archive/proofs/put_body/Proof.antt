@@ -7,7 +7,7 @@ use lib.ListN.{length}
 use Rattle.meaning.specs.Limits.{mostRows}
 use Rattle.meaning.specs.Format.{rowsOf, canonical}
 use Rattle.meaning.specs.Index.{rowCount, rowsAt}
-use Rattle.meaning.specs.Laws.{SoundFacts}
+use Rattle.laws.specs.Laws.{SoundFacts}
 use Rattle.archive.proofs.Renewed.{read-sound, read-rows, read-rewritten}
 use borrow.Author.Needs.{needs}
 use native.Mathlib.Omega.{arith}

@@ -9,8 +9,8 @@ use lib.ListN.{length, length-set}
 use Rattle.meaning.specs.Limits.{mostIndexWords}
 use Rattle.meaning.specs.Index.{bitmapCount, bodyPlace}
 use Rattle.meaning.specs.NewIndex.{indexRoom}
-use Rattle.meaning.specs.Laws.{IndexFacts}
-use Rattle.meaning.proofs.NewIndexes.{room-within}
+use Rattle.laws.specs.Laws.{IndexFacts}
+use Rattle.laws.proofs.NewIndexes.{room-within}
 use Rattle.archive.specs.Anew.{anew, Begun}
 use Rattle.archive.proofs.Growing.{begun-none, begun-all}
 use Rattle.archive.proofs.Renewed.{new-facts, new-kind, new-rows, new-count, new-place}

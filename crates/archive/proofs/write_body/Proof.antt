@@ -9,8 +9,8 @@ use lib.ListN.{length, take, drop, length-set}
 use Rattle.meaning.specs.Limits.{mostIndexWords}
 use Rattle.meaning.specs.Format.{canonical}
 use Rattle.meaning.specs.Index.{rowCount, bitmapCount, entryPlace, bodyPlace, bodyAt, rowsAt}
-use Rattle.meaning.specs.Laws.{IndexFacts}
-use Rattle.meaning.proofs.NewIndexes.{room-within}
+use Rattle.laws.specs.Laws.{IndexFacts}
+use Rattle.laws.proofs.NewIndexes.{room-within}
 use Rattle.archive.specs.Anew.{anew}
 use Rattle.archive.proofs.Growing.{words-of, within, entries-before, part-room, lent-long, begun-more}
 use Rattle.archive.proofs.Renewed.{new-facts, new-count, new-body}

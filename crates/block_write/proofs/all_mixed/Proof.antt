@@ -7,7 +7,7 @@ use mathlib.Core.List.{map}
 use denote.Ref.{now}
 use lib.ListN.{length, take}
 use Rattle.meaning.specs.Segment.{allSet, mixed, kind}
-use Rattle.meaning.proofs.Segments.{kind-mixed}
+use Rattle.laws.proofs.Segments.{kind-mixed}
 use Rattle.block_write.proofs.Rowing.{first-all, agree-more}
 use borrow.Author.Needs.{needs}
 use native.Mathlib.Omega.{arith}

@@ -4,8 +4,8 @@ use native.Mathlib.Omega.{arith}
 use mathlib.Core.Path.{ap, _∙_}
 use Rattle.meaning.specs.Segment.{kind}
 use Rattle.meaning.specs.Format.{width}
-use Rattle.meaning.proofs.Formats.{width-pos}
-use Rattle.meaning.proofs.Segments.{kind-full}
+use Rattle.laws.proofs.Formats.{width-pos}
+use Rattle.laws.proofs.Segments.{kind-full}
 use Rattle.block_write.proofs.clean_value.Statement.{statement}
 use Rattle.block_write.proofs.clean_value.Tie as tie
 

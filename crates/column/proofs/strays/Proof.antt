@@ -9,7 +9,7 @@ use borrow.Author.Needs.{needs}
 use denote.Ref.{now}
 use lib.ListN.{length, getD, drop}
 use Rattle.meaning.specs.Index.{formatOf, rowCount, bitmapCount, rowsAt, bodyAt}
-use Rattle.meaning.specs.Laws.{SoundFacts}
+use Rattle.laws.specs.Laws.{SoundFacts}
 use Rattle.meaning.specs.Columns as meaning
 use Rattle.answers.specs.Told.{verdictOf, refusedBy}
 use Rattle.column.specs.Outside.{outside, FoundIn}

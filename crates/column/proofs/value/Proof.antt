@@ -7,7 +7,7 @@ use borrow.Author.Needs.{needs}
 use denote.Ref.{now}
 use lib.ListN.{length, getD}
 use Rattle.column.proofs.Columns.{valueFrom, value-none, value-more, value-all, value-few, value-low}
-use Rattle.meaning.proofs.RowWords.{bit-le}
+use Rattle.laws.proofs.RowWords.{bit-le}
 use Rattle.meaning.specs.Index.{rowsAt}
 use Rattle.column.proofs.value.Statement.{statement}
 use Rattle.column.proofs.value.Tie as tie

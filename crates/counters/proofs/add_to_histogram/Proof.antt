@@ -14,8 +14,8 @@ use lib.ListN.{length, getD}
 use Rattle.meaning.specs.Limits.{histogramCounts}
 use Rattle.meaning.specs.Rows.{countBelow}
 use Rattle.meaning.specs.Segment.{isSet}
-use Rattle.meaning.proofs.Counting.{count-ext, count-le}
-use Rattle.meaning.proofs.Counted.{count-none}
+use Rattle.laws.proofs.Counting.{count-ext, count-le}
+use Rattle.laws.proofs.Counted.{count-none}
 use Rattle.counters.specs.Counters.{countAt}
 use Rattle.words.proofs.BitLaws.{and-set}
 use Rattle.words.proofs.Tests.{eqb-more}

@@ -11,7 +11,7 @@ use lib.ListN.{getD}
 use Rattle.meaning.specs.Limits.{counterPlanes}
 use Rattle.meaning.specs.Segment.{isSet}
 use Rattle.counters.specs.Counters.{countAt}
-use Rattle.meaning.proofs.Counting.{zero-clear}
+use Rattle.laws.proofs.Counting.{zero-clear}
 use Rattle.words.proofs.BitLaws.{and-set, or-set}
 use Rattle.counters.proofs.CounterLaws.{Compared, compared-none, compared-more, compared-all, reaches, reaches-one, reaches-zero, reaches-flag, reaches-is}
 use borrow.Author.Needs.{needs}

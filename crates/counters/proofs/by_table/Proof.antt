@@ -7,7 +7,7 @@ use Prim.Native.Nat.{ℕ, _+_, _-_, _≤_, _<_}
 use denote.Ref.{now}
 use lib.ListN.{length}
 use Rattle.meaning.specs.Segment.{isSet}
-use Rattle.meaning.proofs.Counting.{zero-clear}
+use Rattle.laws.proofs.Counting.{zero-clear}
 use Rattle.counters.specs.Counters.{countAt}
 use Rattle.words.proofs.BitLaws.{or-set}
 use Rattle.words.proofs.Tests.{eqb-more}

@@ -12,7 +12,7 @@ use mir.Syntax.{w32}
 use mir.Val.{Fits}
 use Rattle.meaning.specs.Limits.{counterPlanes}
 use Rattle.meaning.specs.Segment.{isSet}
-use Rattle.meaning.proofs.Counting.{zero-clear}
+use Rattle.laws.proofs.Counting.{zero-clear}
 use Rattle.counters.specs.Counters.{countAt}
 use Rattle.words.proofs.BitLaws.{and-set, and-not-set}
 use Rattle.counters.proofs.CounterLaws.{Compared, compared-none, compared-more, compared-all, agrees, agrees-one, agrees-zero}

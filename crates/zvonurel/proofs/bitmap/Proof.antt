@@ -2,7 +2,7 @@
 use mathlib.Core.Path.{refl, sym, _∙_}
 use denote.Ref.{now}
 use Rattle.answers.proofs.Checks.{sound-is, refused-is, refused-not-sound}
-use Rattle.meaning.proofs.BitmapPart.{part-laws}
+use Rattle.laws.proofs.BitmapPart.{part-laws}
 use borrow.Author.Needs.{needs}
 use Rattle.zvonurel.proofs.bitmap.Statement.{statement}
 use Rattle.zvonurel.proofs.bitmap.Tie as tie

@@ -4,7 +4,7 @@ use Rattle.answers.specs.Told.{verdictOf}
 use Rattle.answers.proofs.Checks.{sound-is, refuses, answers}
 use Rattle.meaning.specs.Refusal.{sound, refuseIf}
 use Rattle.meaning.specs.Answer.{check, badBitmap, bitmapRefusal}
-use Rattle.meaning.proofs.IndexSound.{index-means}
+use Rattle.laws.proofs.IndexSound.{index-means}
 use borrow.Author.Needs.{needs}
 use Rattle.zvonurel.proofs.bitmap_refusal.Statement.{statement}
 use Rattle.zvonurel.proofs.bitmap_refusal.Tie as tie

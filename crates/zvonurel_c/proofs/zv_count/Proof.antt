@@ -3,7 +3,7 @@ use mathlib.Core.Path.{ap, _∙_}
 use denote.Ref.{now}
 use Rattle.meaning.specs.Answer as meaning
 use Rattle.replies.specs.Exported.{numberCode}
-use Rattle.meaning.proofs.Numbered as numbered
+use Rattle.laws.proofs.Numbered as numbered
 use Rattle.replies.proofs.Codes.{numbers}
 use borrow.Author.Needs.{needs}
 use Rattle.zvonurel_c.proofs.zv_count.Statement.{statement}

@@ -1,7 +1,7 @@
 -- `zvonurel_c::zv_histogram` meets its contract: `counts` of what `zvonurel::histogram` told; no refusal of it has number 0. Assumes nothing.
 use denote.Ref.{now}
 use Rattle.meaning.specs.Answer as meaning
-use Rattle.meaning.proofs.Numbered as numbered
+use Rattle.laws.proofs.Numbered as numbered
 use Rattle.replies.proofs.Codes.{counts}
 use borrow.Author.Needs.{needs}
 use Rattle.zvonurel_c.proofs.zv_histogram.Statement.{statement}

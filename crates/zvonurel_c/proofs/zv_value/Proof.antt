@@ -3,7 +3,7 @@ use mathlib.Core.Path.{ap, _∙_}
 use denote.Ref.{now}
 use Rattle.meaning.specs.Columns as columns
 use Rattle.replies.specs.Exported.{valueCode}
-use Rattle.meaning.proofs.Numbered as numbered
+use Rattle.laws.proofs.Numbered as numbered
 use Rattle.replies.proofs.Codes.{values}
 use borrow.Author.Needs.{needs}
 use Rattle.zvonurel_c.proofs.zv_value.Statement.{statement}

@@ -8,7 +8,7 @@ use native.Mathlib.Omega.{arith}
 use borrow.Author.Needs.{needs}
 use Rattle.meaning.specs.Rows.{countBelow}
 use Rattle.meaning.specs.Segment.{isSet}
-use Rattle.meaning.proofs.Counting.{count-le}
+use Rattle.laws.proofs.Counting.{count-le}
 use Rattle.words.proofs.BitLaws.{count-set, count-unset}
 use Rattle.bitwise.proofs.count.count_word.Statement.{statement}
 use Rattle.bitwise.proofs.count.count_word.Tie as tie

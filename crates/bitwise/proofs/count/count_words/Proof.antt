@@ -8,7 +8,7 @@ use denote.Ref.{now}
 use lib.ListN.{length, take}
 use lib.Seq.{take-length, length-take-le}
 use Rattle.meaning.specs.Segment.{ones}
-use Rattle.meaning.proofs.Counting.{ones-next, ones-le}
+use Rattle.laws.proofs.Counting.{ones-next, ones-le}
 use Rattle.bitwise.proofs.count.count_words.Statement.{statement}
 use Rattle.bitwise.proofs.count.count_words.Tie as tie
 

@@ -11,7 +11,7 @@ use Rattle.meaning.specs.Segment.{segmentCount}
 use Rattle.meaning.specs.Format.{width, canonical}
 use Rattle.meaning.specs.declared.Format.{Format}
 use Rattle.meaning.specs.declared.Format.the-variants.{Ewah, Wah}
-use Rattle.meaning.proofs.Enough.{most-words}
+use Rattle.laws.proofs.Enough.{most-words}
 use Rattle.body_write.proofs.bound.most_words.Statement.{statement}
 use Rattle.body_write.proofs.bound.most_words.Tie as tie
 

@@ -13,12 +13,12 @@ use Rattle.meaning.specs.Limits.{mostSegments, wordBits}
 use Rattle.meaning.specs.Piece.{NoneEmpty}
 use Rattle.meaning.specs.Format.{width, piecesOf, segmentsOf}
 use Rattle.meaning.specs.declared.Format.{Format}
-use Rattle.meaning.proofs.Formats.{width-pos, width-le, facts-some, facts-count}
-use Rattle.meaning.proofs.RowWords.{rows-fit}
+use Rattle.laws.proofs.Formats.{width-pos, width-le, facts-some, facts-count}
+use Rattle.laws.proofs.RowWords.{rows-fit}
 use Rattle.bodies.specs.Walks.{behind}
 use Rattle.bodies.proofs.Loading.{due-low}
 use Rattle.column.specs.Outside.{outside, Lowest, SeenIn}
-use Rattle.meaning.proofs.Formats.{segments-most}
+use Rattle.laws.proofs.Formats.{segments-most}
 use Rattle.column.proofs.Going.{Going, stands-first, going-first, some-left, pass-within}
 use Rattle.column.proofs.Going.{going-row, clear-some, clear-few, going-on}
 use Rattle.column.proofs.outside.first.Statement.{statement}

@@ -10,8 +10,8 @@ use denote.Ref.{now}
 use mir.Syntax.{w32}
 use mir.Val.{Fits}
 use Rattle.meaning.specs.Limits.{wordBits}
-use Rattle.meaning.specs.Ahead.{Ahead}
-use Rattle.meaning.proofs.Formats.{width-le}
+use Rattle.laws.specs.Ahead.{Ahead}
+use Rattle.laws.proofs.Formats.{width-le}
 use Rattle.ewah.specs.declared.cursor.Piece.the-variants.{Dirty}
 use Rattle.ewah.specs.Cursors.{piecesFrom}
 use Rattle.bodies.specs.Walks.{wordOf}

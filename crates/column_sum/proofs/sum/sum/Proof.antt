@@ -10,7 +10,7 @@ use borrow.Author.Needs.{needs}
 use Rattle.meaning.specs.Limits.{mostStarts, headWords, entryWords}
 use Rattle.meaning.specs.Index.{formatOf, rowCount}
 use Rattle.meaning.specs.NewIndex.{indexRoom}
-use Rattle.meaning.proofs.NewIndexes.{room-within}
+use Rattle.laws.proofs.NewIndexes.{room-within}
 use Rattle.new_index.specs.Layouts.{StartsOf, Headed}
 use Rattle.new_index.specs.Writers.{writerOf, Laid}
 use Rattle.pairs.specs.Passes.{Columns, bodyOf}

@@ -1,6 +1,6 @@
 -- `ewah::check::dirty_over_pad` meets its contract: no words, words that end before the last segment, and the word that is the last segment. Assumes nothing.
 use borrow.Author.Needs.{needs}
-use Rattle.meaning.proofs.Walk.{over-none, over-inside, over-last}
+use Rattle.laws.proofs.Walk.{over-none, over-inside, over-last}
 use Rattle.ewah.proofs.Steps.{left-rows}
 use Rattle.ewah.proofs.check.dirty_over_pad.Statement.{statement}
 use Rattle.ewah.proofs.check.dirty_over_pad.Tie as tie

@@ -6,7 +6,7 @@ use Prim.Native.Nat.{ℕ, _*_, _≤_}
 use mathlib.Core.Path.{sym, ap, _∙_}
 use native.Mathlib.Nat.{mul-le-mul-left}
 use Rattle.meaning.specs.Segment.{fill}
-use Rattle.meaning.proofs.Counting.{fill-count, ones-replicate}
+use Rattle.laws.proofs.Counting.{fill-count, ones-replicate}
 use Rattle.ewah_count.proofs.count.count_run.Statement.{statement}
 use Rattle.ewah_count.proofs.count.count_run.Tie as tie
 

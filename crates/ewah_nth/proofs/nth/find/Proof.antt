@@ -10,9 +10,9 @@ use lib.ListN.{length, take, getD}
 use lib.Seq.{take-length}
 use Rattle.meaning.specs.Rows.{countBelow}
 use Rattle.meaning.specs.Segment.{ones, isSet}
-use Rattle.meaning.specs.Demands.{IsNth}
-use Rattle.meaning.proofs.Counted.{nth-holds}
-use Rattle.meaning.proofs.Counting.{ones-next, nth-word}
+use Rattle.laws.specs.Demands.{IsNth}
+use Rattle.laws.proofs.Counted.{nth-holds}
+use Rattle.laws.proofs.Counting.{ones-next, nth-word}
 use Rattle.ewah_nth.proofs.nth.find.Statement.{statement}
 use Rattle.ewah_nth.proofs.nth.find.Tie as tie
 

@@ -13,15 +13,15 @@ use Rattle.meaning.specs.Format.{rowsOf}
 use Rattle.meaning.specs.declared.Format.the-variants.{Ewah}
 use Rattle.meaning.specs.Limits.{mostSegments}
 use Rattle.meaning.specs.Segment.{ones, fill, hasRow}
-use Rattle.meaning.specs.Demands.{IsNth}
+use Rattle.laws.specs.Demands.{IsNth}
 use Rattle.meaning.specs.Ewah.{segments, ewahRows}
-use Rattle.meaning.proofs.Walk.{At, Step, at-start, at-end}
-use Rattle.meaning.proofs.Asked.{ones-step, nth-step, nth-found, nth-pad, nth-past}
+use Rattle.laws.proofs.Walk.{At, Step, at-start, at-end}
+use Rattle.laws.proofs.Asked.{ones-step, nth-step, nth-found, nth-pad, nth-past}
 use Rattle.ewah_nth.specs.declared.nth.Sought.the-variants.{Here, Ahead}
 use Rattle.answers.specs.Told.{foundOf}
 use Rattle.ewah_nth.specs.Seeking.{SoughtIn}
-use Rattle.meaning.proofs.Parts.{part-is}
-use Rattle.meaning.proofs.RowWords.{segments-few}
+use Rattle.laws.proofs.Parts.{part-is}
+use Rattle.laws.proofs.RowWords.{segments-few}
 use Rattle.ewah.proofs.MarkerStep.{read-step}
 use Rattle.ewah_nth.proofs.nth.nth.Statement.{statement}
 use Rattle.ewah_nth.proofs.nth.nth.Tie as tie

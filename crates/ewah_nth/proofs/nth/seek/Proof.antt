@@ -7,8 +7,8 @@ use denote.Ref.{now}
 use lib.Dec.{lit<}
 use lib.ListN.{length, take, drop, replicate, length-replicate}
 use Rattle.meaning.specs.Segment.{ones, fill, hasRow}
-use Rattle.meaning.specs.Demands.{IsNth}
-use Rattle.meaning.proofs.Counting.{ones-append, nth-left, nth-right, nth-run}
+use Rattle.laws.specs.Demands.{IsNth}
+use Rattle.laws.proofs.Counting.{ones-append, nth-left, nth-right, nth-run}
 use Rattle.ewah_count.proofs.Passing.{none-set}
 use Rattle.ewah_nth.specs.declared.nth.Sought.the-variants.{Here, Ahead}
 use native.Mathlib.Omega.{arith}

@@ -11,8 +11,8 @@ use lib.ListN.{length, take, drop}
 use lib.Seq.{take-length}
 use borrow.Rule.Slice.PartMut.{mid-len}
 use Rattle.meaning.specs.Segment.{ones, hasRow}
-use Rattle.meaning.specs.Demands.{IsNth}
-use Rattle.meaning.proofs.Counting.{ones-part, nth-part}
+use Rattle.laws.specs.Demands.{IsNth}
+use Rattle.laws.proofs.Counting.{ones-part, nth-part}
 use Rattle.ewah_nth.proofs.nth.seek_words.Statement.{statement}
 use Rattle.ewah_nth.proofs.nth.seek_words.Tie as tie
 

@@ -11,11 +11,11 @@ use lib.Bits.{bitAnd, and-mask}
 use lib.ListN.{length, getD, set, drop, List·getD-append}
 use Rattle.meaning.specs.Segment.{fromRows, segmentCount, lastLimit, lastRows}
 use Rattle.meaning.specs.Ewah.{segments, ewahRows}
-use Rattle.meaning.specs.Laws.{EwahFacts}
-use Rattle.meaning.specs.Demands.{Words}
-use Rattle.meaning.proofs.Segments.{cut}
-use Rattle.meaning.proofs.Cut.{cut-part, cut-none, cut-decide}
-use Rattle.meaning.proofs.Decoded.{decoded-words}
+use Rattle.laws.specs.Laws.{EwahFacts}
+use Rattle.laws.specs.Demands.{Words}
+use Rattle.laws.proofs.Segments.{cut}
+use Rattle.laws.proofs.Cut.{cut-part, cut-none, cut-decide}
+use Rattle.laws.proofs.Decoded.{decoded-words}
 use Rattle.ewah_read.proofs.expand.expand.Statement.{statement}
 use Rattle.ewah_read.proofs.expand.expand.Tie as tie
 

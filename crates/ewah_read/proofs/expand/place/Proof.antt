@@ -9,7 +9,7 @@ use denote.Ref.{now}
 use lib.ListN.{length, take, drop, replicate, length-replicate}
 use lib.Seq.{length-take-le}
 use Rattle.meaning.specs.Segment.{fill}
-use Rattle.meaning.proofs.Parts.{replace-rest}
+use Rattle.laws.proofs.Parts.{replace-rest}
 use Rattle.ewah_read.proofs.expand.place.Statement.{statement}
 use Rattle.ewah_read.proofs.expand.place.Tie as tie
 

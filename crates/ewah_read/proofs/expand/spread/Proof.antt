@@ -11,8 +11,8 @@ use lib.ListN.{length, take, drop, replicate}
 use lib.Seq.{take-length, length-take-le}
 use borrow.Rule.Slice.PartMut.{mid-len}
 use Rattle.meaning.specs.Ewah.{segments}
-use Rattle.meaning.proofs.Walk.{At, Step, at-start, at-end}
-use Rattle.meaning.proofs.Parts.{part-is, replace-part}
+use Rattle.laws.proofs.Walk.{At, Step, at-start, at-end}
+use Rattle.laws.proofs.Parts.{part-is, replace-part}
 use Rattle.meaning.specs.Segment.{fill}
 use Rattle.ewah.proofs.MarkerStep.{read-step}
 use Rattle.ewah_read.proofs.expand.spread.Statement.{statement}

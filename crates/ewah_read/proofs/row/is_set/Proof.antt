@@ -6,7 +6,7 @@ use lib.Bits.{and-mask, mask-lt}
 use Rattle.meaning.specs.Segment.{hasRow, isSet}
 use Rattle.meaning.specs.Format.{rowsOf}
 use Rattle.meaning.specs.declared.Format.the-variants.{Ewah}
-use Rattle.meaning.proofs.Spans.{segment-within}
+use Rattle.laws.proofs.Spans.{segment-within}
 use Rattle.ewah_read.proofs.row.is_set.Statement.{statement}
 use Rattle.ewah_read.proofs.row.is_set.Tie as tie
 

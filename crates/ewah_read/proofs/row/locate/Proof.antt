@@ -5,7 +5,7 @@ use native.Mathlib.Omega.{arith}
 use Prim.Native.Nat.{_-_, _<_}
 use denote.Ref.{now}
 use lib.ListN.{length}
-use Rattle.meaning.proofs.Walk.{at-end}
+use Rattle.laws.proofs.Walk.{at-end}
 use Rattle.ewah_read.proofs.Locating.{Seeks, seeks-start, over, found-run, found-word, seeks-next}
 use Rattle.ewah_read.proofs.row.locate.Statement.{statement}
 use Rattle.ewah_read.proofs.row.locate.Tie as tie

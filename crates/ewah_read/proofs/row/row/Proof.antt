@@ -5,7 +5,7 @@ use denote.Ref.{now}
 use lib.Bits.{and-mask, mask-lt}
 use Rattle.meaning.specs.Segment.{isSet}
 use Rattle.meaning.specs.declared.Format.the-variants.{Ewah}
-use Rattle.meaning.proofs.Spans.{segment-within}
+use Rattle.laws.proofs.Spans.{segment-within}
 use Rattle.extent.proofs.Told.{row-asked, row-is}
 use Rattle.ewah_read.proofs.row.row.Statement.{statement}
 use Rattle.ewah_read.proofs.row.row.Tie as tie

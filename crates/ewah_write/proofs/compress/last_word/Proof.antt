@@ -7,7 +7,7 @@ use borrow.Author.Needs.{needs}
 use denote.Ref.{now}
 use lib.ListN.{length, getD}
 use Rattle.meaning.specs.Segment.{kind, segmentCount, lastRows, lastLimit, allSet}
-use Rattle.meaning.proofs.RowWords.{last-getD}
+use Rattle.laws.proofs.RowWords.{last-getD}
 use Rattle.ewah_write.proofs.compress.last_word.Statement.{statement}
 use Rattle.ewah_write.proofs.compress.last_word.Tie as tie
 

@@ -7,7 +7,7 @@ use borrow.Author.Needs.{needs}
 use denote.Ref.{now}
 use Rattle.meaning.specs.Segment.{kinds}
 use Rattle.meaning.specs.Canonical.{Draft}
-use Rattle.meaning.proofs.Prefixes.{upTo, upTo-low}
+use Rattle.laws.proofs.Prefixes.{upTo, upTo-low}
 use Rattle.ewah_write.specs.Drafts.{Tracks}
 use Rattle.ewah_write.proofs.Growing.{used-is}
 use Rattle.ewah_write.proofs.WordByWord.{no-words, word-inside, word-last}

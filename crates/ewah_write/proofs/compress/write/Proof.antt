@@ -8,7 +8,7 @@ use borrow.Author.Needs.{needs}
 use denote.Ref.{now}
 use Rattle.meaning.specs.Segment.{Segment, kind, kinds}
 use Rattle.meaning.specs.Canonical.{Draft, body, put, ewahOf}
-use Rattle.meaning.proofs.Prefixes.{upTo, upTo-within}
+use Rattle.laws.proofs.Prefixes.{upTo, upTo-within}
 use Rattle.ewah_write.specs.declared.writer.Writer.{Writer}
 use Rattle.ewah_write.specs.Drafts.{Pushed}
 use Rattle.ewah_write.proofs.Growing.{used-is}

@@ -4,7 +4,7 @@ use Rattle.meaning.specs.Index.{bitmapCount, entryPlace, headFault, entriesFaul
 use Rattle.meaning.specs.Refusal.{_then_}
 use Rattle.answers.specs.Told.{verdictOf}
 use Rattle.answers.proofs.Checks.{sound-is, refuses, answers}
-use Rattle.meaning.proofs.IndexSound.{head-facts}
+use Rattle.laws.proofs.IndexSound.{head-facts}
 use borrow.Author.Needs.{needs}
 use Rattle.index.proofs.check.check.Statement.{statement}
 use Rattle.index.proofs.check.check.Tie as tie

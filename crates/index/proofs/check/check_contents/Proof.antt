@@ -3,7 +3,7 @@ use denote.Ref.{now}
 use Rattle.meaning.specs.Index.{bitmapCount, entryPlace, entriesFault, bodiesFault}
 use Rattle.answers.specs.Told.{verdictOf}
 use Rattle.answers.proofs.Checks.{sound-is, refuses, answers}
-use Rattle.meaning.proofs.IndexSound.{entry-facts}
+use Rattle.laws.proofs.IndexSound.{entry-facts}
 use borrow.Author.Needs.{needs}
 use Rattle.index.proofs.check.check_contents.Statement.{statement}
 use Rattle.index.proofs.check.check_contents.Tie as tie

@@ -6,7 +6,7 @@ use Prim.Native.Nat.{_+_, _-_}
 use native.Mathlib.Omega.{arith}
 use borrow.Author.Needs.{needs}
 use borrow.Author.Tests.{le-leb, ne-eqb}
-use Rattle.meaning.proofs.Counting.{zero-clear, full-set}
+use Rattle.laws.proofs.Counting.{zero-clear, full-set}
 use Rattle.counters.specs.Counters.{countAt}
 use Rattle.words.proofs.Tests.{same-leb, eqb-more}
 use Rattle.merge.specs.Operations.{chosen}

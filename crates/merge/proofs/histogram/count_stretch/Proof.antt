@@ -7,7 +7,7 @@ use borrow.Author.Needs.{needs}
 use native.Mathlib.Omega.{arith}
 use Rattle.meaning.specs.Limits.{mostSegments}
 use Rattle.meaning.specs.Segment.{isSet}
-use Rattle.meaning.proofs.Counting.{count-le}
+use Rattle.laws.proofs.Counting.{count-le}
 use Rattle.merge.proofs.Histograms.{clean-counted, mixed-counted}
 use Rattle.merge.proofs.histogram.count_stretch.Statement.{statement}
 use Rattle.merge.proofs.histogram.count_stretch.Tie as tie

@@ -9,7 +9,7 @@ use denote.Ref.{now}
 use Rattle.meaning.specs.Limits.{histogramCounts}
 use Rattle.meaning.specs.Format as format
 use Rattle.meaning.specs.Index.{formatOf}
-use Rattle.meaning.proofs.Formats.{width-le}
+use Rattle.laws.proofs.Formats.{width-le}
 use Rattle.walk.specs.Queries.{PlacesIn}
 use Rattle.walk.specs.Surveys.{Surveyed}
 use Rattle.merge.proofs.Along.{Laid, laid, NextStretch, along-none, next-stretch, mask-of}

@@ -14,7 +14,7 @@ use Rattle.meaning.specs.Format.{width}
 use Rattle.meaning.specs.declared.Format.{Format}
 use Rattle.meaning.specs.Index.{formatOf, rowCount}
 use Rattle.meaning.specs.Column.{sumValue}
-use Rattle.meaning.proofs.Formats.{segments-most}
+use Rattle.laws.proofs.Formats.{segments-most}
 use Rattle.ewah.specs.Cursors.{leftOf}
 use Rattle.adder.specs.Digits.{Paired}
 use Rattle.walk.specs.Queries.{cursorOf}

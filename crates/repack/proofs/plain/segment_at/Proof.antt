@@ -5,7 +5,7 @@ use native.Mathlib.Omega.{arith}
 use borrow.Author.Needs.{needs}
 use Rattle.meaning.specs.Segment.{wordOf, hasRow}
 use Rattle.meaning.specs.Format.{width}
-use Rattle.meaning.proofs.Formats.{width-le}
+use Rattle.laws.proofs.Formats.{width-le}
 use Rattle.repack.proofs.plain.segment_at.Statement.{statement}
 use Rattle.repack.proofs.plain.segment_at.Tie as tie
 

@@ -9,8 +9,8 @@ use borrow.Author.Needs.{needs}
 use denote.Ref.{now}
 use Rattle.meaning.specs.Format.{width, rowsOf}
 use Rattle.meaning.specs.declared.Format.{Format}
-use Rattle.meaning.specs.Ahead.{advanced}
-use Rattle.meaning.proofs.Formats.{width-pos, facts-some}
+use Rattle.laws.specs.Ahead.{advanced}
+use Rattle.laws.proofs.Formats.{width-pos, facts-some}
 use Rattle.ewah.specs.Cursors.{Stands, leftOf, piecesFrom}
 use Rattle.row_write.specs.Walking.{rowIn}
 use Rattle.row_write.specs.Packing.{Packed, Coming}

@@ -6,8 +6,8 @@ use denote.Ref.{now}
 use Prim.Native.Nat.{ℕ, _%_, _^_}
 use Rattle.meaning.specs.Segment.{kind, rowsIn, hasRow}
 use Rattle.meaning.specs.Format.{width}
-use Rattle.meaning.proofs.Formats.{width-pos}
-use Rattle.meaning.proofs.Cut.{rows-some, rows-le}
+use Rattle.laws.proofs.Formats.{width-pos}
+use Rattle.laws.proofs.Cut.{rows-some, rows-le}
 use Rattle.repack.proofs.PlainSegments.{segment-is}
 use Rattle.row_write.proofs.Sending.{word-short}
 use Rattle.rewrite.proofs.compress.word_at.Statement.{statement}

@@ -8,7 +8,7 @@ use borrow.Author.Needs.{needs}
 use denote.Ref.{now}
 use Rattle.meaning.specs.Segment.{hasRow, kind, segmentCount, rowsIn, allSet}
 use Rattle.meaning.specs.Format.{width}
-use Rattle.meaning.proofs.Formats.{width-pos}
+use Rattle.laws.proofs.Formats.{width-pos}
 use Rattle.body_write.proofs.Emitting.{emitted-stored}
 use Rattle.repack.proofs.PlainSegments.{segment-inside}
 use Rattle.row_write.specs.Sending.{Sent}

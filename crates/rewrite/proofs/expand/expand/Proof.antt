@@ -10,9 +10,9 @@ use denote.Ref.{now}
 use Rattle.meaning.specs.Segment.{segmentCount, fromRows}
 use Rattle.meaning.specs.declared.Format.the-variants.{Wah}
 use Rattle.meaning.specs.Format.{rowsOf}
-use Rattle.meaning.proofs.Formats.{facts-some}
-use Rattle.meaning.proofs.RowWords.{rows-fit}
-use Rattle.meaning.specs.Ahead.{advanced}
+use Rattle.laws.proofs.Formats.{facts-some}
+use Rattle.laws.proofs.RowWords.{rows-fit}
+use Rattle.laws.specs.Ahead.{advanced}
 use Rattle.ewah.specs.Cursors.{Stands, leftOf, piecesFrom}
 use Rattle.repack.specs.Filling.{rowsDone, Ready, Laid}
 use Rattle.row_write.proofs.Walking.{At, at-start, at-next, behind, piece-some, piece-low, piece-gives, piece-rows}

@@ -7,7 +7,7 @@ use native.Mathlib.Omega.{arith}
 use borrow.Author.Needs.{needs}
 use Rattle.meaning.specs.Segment.{kind, allSet}
 use Rattle.meaning.specs.Format.{width}
-use Rattle.meaning.proofs.Formats.{width-le}
+use Rattle.laws.proofs.Formats.{width-le}
 use Rattle.row_write.proofs.Sending.{sent-room}
 use Rattle.row_write.proofs.Packing.{finished-whole, finished-part, last-next, last-growing}
 use Rattle.row_write.proofs.output.finish.Statement.{statement}

@@ -6,7 +6,7 @@ use lib.Pow.{pow-pos}
 use native.Mathlib.Nat.{mod-lt}
 use native.Mathlib.Omega.{arith}
 use borrow.Author.Needs.{needs}
-use Rattle.meaning.proofs.Formats.{width-pos}
+use Rattle.laws.proofs.Formats.{width-pos}
 use Rattle.row_write.proofs.Walking.{rows-kept}
 use Rattle.row_write.proofs.Packing.{takes-same, put-same}
 use Rattle.row_write.proofs.output.put.Statement.{statement}

@@ -8,7 +8,7 @@ use borrow.Author.Needs.{needs}
 use denote.Ref.{now}
 use Rattle.meaning.specs.Format.{width}
 use Rattle.meaning.specs.declared.Format.{Format}
-use Rattle.meaning.proofs.Formats.{width-pos, width-le}
+use Rattle.laws.proofs.Formats.{width-pos, width-le}
 use Rattle.row_write.specs.Packing.{Takes, PutOn}
 use Rattle.row_write.proofs.Packing.{put-join, takes-first, takes-after}
 use Rattle.row_write.proofs.output.put_run.Statement.{statement}

@@ -7,7 +7,7 @@ use borrow.Author.Needs.{needs}
 use denote.Ref.{now}
 use Rattle.meaning.specs.Segment.{isSet}
 use Rattle.meaning.specs.Format.{width}
-use Rattle.meaning.proofs.Formats.{width-pos, width-le}
+use Rattle.laws.proofs.Formats.{width-pos, width-le}
 use Rattle.row_write.specs.declared.output.Output.{Output}
 use Rattle.row_write.specs.Packing.{Takes, PutOn}
 use Rattle.row_write.proofs.Packing.{put-added, put-join, takes-after, taken-twice, width-ge}

@@ -8,7 +8,7 @@ use borrow.Author.Tests.{leb-true, leb-false}
 use borrow.Author.Needs.{needs}
 use Rattle.meaning.specs.Segment.{allSet}
 use Rattle.meaning.specs.Format.{width}
-use Rattle.meaning.proofs.Formats.{width-le}
+use Rattle.laws.proofs.Formats.{width-le}
 use Rattle.repack.specs.Packing.{Split}
 use Rattle.row_write.proofs.Sending.{sent-room}
 use Rattle.row_write.proofs.Packing.{take-next, take-growing, packed-taken, put-none}

@@ -7,7 +7,7 @@ use denote.Ref.{now}
 use lib.ListN.{length}
 use Rattle.meaning.specs.Limits.{mostSegments}
 use Rattle.meaning.specs.Segment.{hasRow}
-use Rattle.meaning.specs.Demands.{IsNth}
+use Rattle.laws.specs.Demands.{IsNth}
 use Rattle.meaning.specs.Wah.{wahSegments}
 use Rattle.answers.specs.Told.{foundOf}
 use Rattle.wah_read.proofs.Passing.{segmentsBehind, onesBehind, none-behind, segments-behind, segments-next, ones-next, nth-here}

@@ -7,9 +7,9 @@ use Prim.Native.Nat.{_<_}
 use mathlib.Core.Path.{refl, sym, _∙_}
 use Rattle.meaning.specs.Rows.{countBelow}
 use Rattle.meaning.specs.Segment.{isSet}
-use Rattle.meaning.specs.Demands.{IsNth}
+use Rattle.laws.specs.Demands.{IsNth}
 use Rattle.meaning.specs.Wah.{fillValue, fillCount}
-use Rattle.meaning.proofs.Counted.{nth-holds}
+use Rattle.laws.proofs.Counted.{nth-holds}
 use Rattle.wah_read.proofs.WordBits.{fill-nth, literal-ones, literal-nth}
 use Rattle.wah_read.proofs.nth.nth_in_word.Statement.{statement}
 use Rattle.wah_read.proofs.nth.nth_in_word.Tie as tie

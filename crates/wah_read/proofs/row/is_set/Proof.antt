@@ -6,7 +6,7 @@ use denote.Ref.{now}
 use Rattle.meaning.specs.Segment.{hasRow, isSet}
 use Rattle.meaning.specs.Format.{rowsOf}
 use Rattle.meaning.specs.declared.Format.the-variants.{Wah}
-use Rattle.meaning.proofs.Spans.{segment-within}
+use Rattle.laws.proofs.Spans.{segment-within}
 use Rattle.wah_read.proofs.row.is_set.Statement.{statement}
 use Rattle.wah_read.proofs.row.is_set.Tie as tie
 

@@ -2,7 +2,7 @@
 use borrow.Author.Needs.{needs}
 use denote.Ref.{now}
 use Rattle.meaning.specs.declared.Format.the-variants.{Wah}
-use Rattle.meaning.proofs.Spans.{segment-within}
+use Rattle.laws.proofs.Spans.{segment-within}
 use Rattle.extent.proofs.Told.{row-asked, row-is}
 use Rattle.wah_read.proofs.row.row.Statement.{statement}
 use Rattle.wah_read.proofs.row.row.Tie as tie

@@ -8,7 +8,7 @@ use Rattle.meaning.specs.Piece.{NoneEmpty}
 use Rattle.meaning.specs.Format.{piecesOf}
 use Rattle.meaning.specs.declared.Format.{Format}
 use Rattle.meaning.specs.Index.{formatOf, rowCount, bodyAt}
-use Rattle.meaning.proofs.Formats.{facts-some}
+use Rattle.laws.proofs.Formats.{facts-some}
 use Rattle.walk.specs.Queries.{Standing, placeBody}
 use Rattle.walk.proofs.Places.{next-low, opened, standing-more}
 use borrow.Author.Needs.{needs}

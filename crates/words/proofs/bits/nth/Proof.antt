@@ -8,7 +8,7 @@ use native.Mathlib.Omega.{arith}
 use borrow.Author.Needs.{needs}
 use Rattle.meaning.specs.Rows.{countBelow}
 use Rattle.meaning.specs.Segment.{isSet}
-use Rattle.meaning.proofs.Counted.{nth-holds}
+use Rattle.laws.proofs.Counted.{nth-holds}
 use Rattle.words.proofs.BitLaws.{count-set, count-unset}
 use Rattle.words.proofs.bits.nth.Statement.{statement}
 use Rattle.words.proofs.bits.nth.Tie as tie

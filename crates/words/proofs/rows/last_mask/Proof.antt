@@ -3,7 +3,7 @@ use Prim.Native.Nat.{ℕ, _-_, _^_}
 use mathlib.Core.Path.{ap, _∙_}
 use native.Mathlib.Omega.{arith}
 use Rattle.meaning.specs.Segment.{allSet}
-use Rattle.meaning.proofs.Formats.{width-le}
+use Rattle.laws.proofs.Formats.{width-le}
 use Rattle.words.proofs.rows.last_mask.Statement.{statement}
 use Rattle.words.proofs.rows.last_mask.Tie as tie
 

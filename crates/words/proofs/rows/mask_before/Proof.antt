@@ -5,8 +5,8 @@ use mathlib.Core.Path.{sym, ap, _∙_}
 use native.Mathlib.Omega.{arith}
 use Rattle.meaning.specs.Segment.{allSet}
 use Rattle.meaning.specs.Format.{width}
-use Rattle.meaning.proofs.Cut.{rows-inside, rows-end}
-use Rattle.meaning.proofs.Formats.{width-pos}
+use Rattle.laws.proofs.Cut.{rows-inside, rows-end}
+use Rattle.laws.proofs.Formats.{width-pos}
 use Rattle.words.proofs.Segmented.{some-rows}
 use Rattle.words.proofs.rows.mask_before.Statement.{statement}
 use Rattle.words.proofs.rows.mask_before.Tie as tie

@@ -6,7 +6,7 @@ use lib.Pow.{pow-pos, pow-mono}
 use native.Mathlib.Nat.{mod-lt}
 use native.Mathlib.Omega.{arith}
 use Rattle.meaning.specs.Segment.{kind, allSet}
-use Rattle.meaning.proofs.Segments.{kind-full, kind-wider}
+use Rattle.laws.proofs.Segments.{kind-full, kind-wider}
 use Rattle.words.proofs.rows.spelled.Statement.{statement}
 use Rattle.words.proofs.rows.spelled.Tie as tie
 

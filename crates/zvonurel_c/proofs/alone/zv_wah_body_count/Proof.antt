@@ -4,7 +4,7 @@ use denote.Ref.{now}
 use Rattle.meaning.specs.declared.Format.the-variants.{Wah}
 use Rattle.meaning.specs.Answer as meaning
 use Rattle.replies.specs.Exported.{numberCode}
-use Rattle.meaning.proofs.Numbered as numbered
+use Rattle.laws.proofs.Numbered as numbered
 use Rattle.replies.proofs.Codes.{numbers}
 use borrow.Author.Needs.{needs}
 use Rattle.zvonurel_c.proofs.alone.zv_wah_body_count.Statement.{statement}
