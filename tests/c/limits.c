@@ -148,33 +148,39 @@ static void quiet_answer(source at, zv_answered told, const uint32_t *answer, co
     }
 }
 
+/* of the list's places `one` have each row but the last, and `two` have that */
+static void quiet_list(format f, const uint32_t *index, size_t words, const uint32_t *list, size_t named, uint32_t one,
+                       uint32_t two)
+{
+    static uint32_t answer[MARKERS + 1u];
+    const zv_histogram_counts told = zv_histogram(index, words, list, named);
+    const uint32_t least[] = {one, one + 1, two + 1};
+    const uint32_t *bodies[] = {f.all, f.last, f.none};
+    const size_t lengths[] = {f.run_words, f.last_words, f.run_words};
+
+    FINE(told);
+    SAME("all rows but the last", told.counts[one], LAST_ROW);
+    SAME("the last row", told.counts[two], 1);
+    for (size_t k = 0; k < 3; k++) {
+        const zv_answered given = zv_threshold(index, words, list, named, least[k], WORDS(answer));
+
+        quiet_answer(HERE, given, answer, bodies[k], lengths[k]);
+    }
+}
+
 /* three bitmaps of the most rows; the longest list names the first 86 times, and the others 85 times each */
 static void quiet_lists(format f)
 {
-    static uint32_t index[ZV_HEAD_WORDS + 3u * ZV_ENTRY_WORDS + 3u * MARKERS + 1u], answer[MARKERS + 1u];
+    static uint32_t index[ZV_HEAD_WORDS + 3u * ZV_ENTRY_WORDS + 3u * MARKERS + 1u];
     uint32_t list[ZV_MOST_NAMED];
     const size_t words = quiet_index(f, index);
-    zv_histogram_counts told;
-
-    told = zv_histogram(index, words, WORDS(three));
-    FINE(told);
-    SAME("rows in one", told.counts[1], LAST_ROW);
-    SAME("rows in two", told.counts[2], 1);
-    quiet_answer(HERE, zv_threshold(index, words, WORDS(three), 1, WORDS(answer)), answer, f.all, f.run_words);
-    quiet_answer(HERE, zv_threshold(index, words, WORDS(three), 2, WORDS(answer)), answer, f.last, f.last_words);
-    quiet_answer(HERE, zv_threshold(index, words, WORDS(three), 3, WORDS(answer)), answer, f.none, f.run_words);
-    SAME("the last row", zv_nth(index, words, 1, LAST_ROW).value, LAST_ROW);
 
     for (uint32_t i = 0; i < ZV_MOST_NAMED; i++) {
         list[i] = i % 3u;
     }
-    told = zv_histogram(index, words, WORDS(list));
-    FINE(told);
-    SAME("rows in one of three", told.counts[85], LAST_ROW);
-    SAME("rows in two of three", told.counts[170], 1);
-    quiet_answer(HERE, zv_threshold(index, words, WORDS(list), 85, WORDS(answer)), answer, f.all, f.run_words);
-    quiet_answer(HERE, zv_threshold(index, words, WORDS(list), 86, WORDS(answer)), answer, f.last, f.last_words);
-    quiet_answer(HERE, zv_threshold(index, words, WORDS(list), 171, WORDS(answer)), answer, f.none, f.run_words);
+    quiet_list(f, index, words, WORDS(three), 1, 2);
+    quiet_list(f, index, words, WORDS(list), 85, 170);
+    SAME("the last row", zv_nth(index, words, 1, LAST_ROW).value, LAST_ROW);
 
     index[1]++;
     every_index_call(index, words, ZV_TOO_LARGE, 0, 1);
