@@ -11,7 +11,7 @@ use native.Mathlib.Nat.{mod-lt, mod-eq-of-lt, div-one}
 use native.Mathlib.Omega.{arith}
 use Rattle.meaning.specs.Rows.{bit, none}
 use Rattle.meaning.specs.Segment.{bitAt, isSet}
-use Rattle.meaning.specs.Column.{valueOf, slice, slicesFrom}
+use Rattle.meaning.specs.Column.{valueOf, slice, slicesFrom, columnOf}
 use Rattle.laws.proofs.RowWords.{bit-le, bit-eqb}
 
 -- a value has no more digits than there are slices
@@ -42,6 +42,11 @@ module _ (exists : ℕ → Bool) (v : ℕ → ℕ) where
   slices-length i zero = refl
   slices-length i (suc n) = ap suc (slices-length (suc i) n)
 
+  -- and one bitmap more
+  pub column-many : (n : ℕ) → length (columnOf exists v n) ≡ suc n
+  unfolding columnOf
+  column-many n = ap suc (slices-length 0 n)
+
   -- slice j of those from slice i on
   pub slices-at : (i n j : ℕ) → j < n → getD (slicesFrom exists v i n) j none ≡ slice exists v (i + j)
   unfolding slicesFrom
@@ -68,6 +73,10 @@ module _ (exists : ℕ → Bool) (v : ℕ → ℕ) where
         let s : 2 ^ suc n ≡ 2 ^ n * 2 = omega arith in
         rw (slice-bit i, slices-value (suc i) n, halved i, s) (omega arith)
 
-    -- so n slices are the whole of a value of n digits
+    -- so n slices are the n lowest digits
+    pub column-digits : (n : ℕ) → valueOf (slicesFrom exists v 0 n) r ≡ v r % 2 ^ n
+    column-digits n = slices-value 0 n ∙ rw (div-one (v r))
+
+    -- and the whole of a value of n digits
     pub column-value : (n : ℕ) → v r < 2 ^ n → valueOf (slicesFrom exists v 0 n) r ≡ v r
-    column-value n h = slices-value 0 n ∙ rw (div-one (v r)) (mod-eq-of-lt h)
+    column-value n h = column-digits n ∙ mod-eq-of-lt h

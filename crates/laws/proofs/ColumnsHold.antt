@@ -1,362 +1,289 @@
--- The laws of columns: their digits, the order of refusals, and that a sum is a column whose values are the sums.
+-- What an operation on two columns answers is a column, whose values are the operation's.
 -- Assumes nothing.
-use Prim.Native.Nat.{ℕ, zero, suc, _+_, _^_, _≤_, _<_}
-use mathlib.Core.Bool.{Bool, true, false, not, _&&_, _||_, true≢false}
+use Prim.Native.Nat.{ℕ, suc, _%_, _^_, _≤_, _<_}
+use mathlib.Core.Bool.{Bool, true, false, not, _||_, true≢false}
 use mathlib.Core.Path.{_≡_, refl, sym, ap, _∙_, subst}
-use mathlib.Core.List.{List, [], _∷_}
-use lib.Dec.{leb, ltb}
-use lib.ListN.{length, getD, length-map}
-use lib.Pow.{pow-mono}
-use native.Mathlib.Nat.{div-one}
+use mathlib.Core.List.{List}
+use lib.Dec.{leb}
+use lib.ListN.{length, getD}
+use lib.IntN.{pos, _-ℤ_, -ℤ-+ℤ-cancel}
+use native.Mathlib.Nat.{mod-eq-of-lt}
 use native.Mathlib.Decide.{decLe}
 use native.Mathlib.Omega.{arith}
-use borrow.Author.Tests.{ltb-false, le-ltb, le-leb, leb-false, not-false}
-use Rattle.meaning.specs.Limits.{mostRows, mostIndexWords, leastColumn, mostColumn, mostValueColumn}
+use borrow.Author.Tests.{le-leb, lt-leb, leb-false, not-false}
+use Rattle.meaning.specs.Limits.{mostColumn, mostValueColumn}
+use Rattle.meaning.specs.Rows.{none}
 use Rattle.meaning.specs.Segment.{tabulate, isSet}
-use Rattle.meaning.specs.Refusal.{Outcome, refused, answer, sound, refuseIf, _then_}
+use Rattle.meaning.specs.Refusal.{answer, sound}
 use Rattle.meaning.specs.Format.{Canonical}
-use Rattle.meaning.specs.declared.Format.{Format}
 use Rattle.meaning.specs.Index.{formatOf, rowCount, bitmapCount, rowsAt, SoundIndex, indexFault}
 use Rattle.meaning.specs.Question.{intersection}
-use Rattle.meaning.specs.Answer.{check, anyBad, named}
-use Rattle.meaning.specs.NewIndex.{indexOf, indexRoom, writeIndex}
-use Rattle.meaning.specs.Column.{valueOf, slice, slicesFrom, columnOf, sumValue, whole}
-use Rattle.meaning.specs.Columns.{sliceCount, wider, existing, slicesOf, valueAt, badColumn, badRow, strays, askValue, value, pairColumn, askPair, askSum, sum}
-use Rattle.meaning.specs.Rows.{none}
-use Rattle.laws.specs.ColumnLaws.{NewIndex, mostSumSlices, DigitLaws, StrayAt, GoodValue, GoodPair, ValueOrder, sumIndex, SumOrder, OrderLaws, ColumnOf, SumLaws}
-use Rattle.laws.proofs.Tests.{or-false, or-true}
-use Rattle.laws.proofs.Outcomes.{refuse-no, refuse-yes, refuse-answer, then-sound, then-refused, then-answer, fits-yes, fits-no}
+use Rattle.meaning.specs.Answer.{check, named}
+use Rattle.meaning.specs.Column.{valueOf, slice, slicesFrom, columnOf, whole, pairValue, pairSlices}
+use Rattle.meaning.specs.Columns.{sliceCount, wider, pairWidth, existing, slicesOf, valueAt, signedAt, badColumn, badRow, strays, askValue, value, askSignedValue, signedValue, pairColumn, askPair, pair}
+use Rattle.meaning.specs.declared.Pairing.{Pairing}
+use Rattle.meaning.specs.declared.Pairing.the-variants.{Sum, Difference, Smaller, DifferenceOrZero}
+use Rattle.laws.specs.ColumnLaws.{NewIndex, mostSumSlices, StrayAt, GoodPair, inBoth, toldAt, ColumnIn, ColumnOf, SignedColumnOf, GivesBack, PairsHold}
+use Rattle.laws.proofs.Tests.{or-false}
+use Rattle.laws.proofs.Segments.{both as both-hold}
+use Rattle.laws.proofs.Outcomes.{refuse-no, refuse-yes, refuse-answer, then-answer}
 use Rattle.laws.proofs.RowWords.{length-tabulate, getD-tabulate}
 use Rattle.laws.proofs.IndexSound.{index-means}
 use Rattle.laws.proofs.Formats.{canonical-form}
 use Rattle.laws.proofs.Demanded.{all-good}
-use Rattle.laws.proofs.NewIndexes.{is-new, written-index}
+use Rattle.laws.proofs.NewIndexes.{new-index-holds}
 use Rattle.laws.proofs.StraysFound.{stray-laws}
-use Rattle.laws.proofs.ColumnValues.{value-lt, value-ext, slices-length, slices-at, slices-value, column-value}
+use Rattle.laws.proofs.NamedBitmaps.{named-length, named-at, column-length, column-good, column-more}
+use Rattle.laws.proofs.ColumnValues.{value-ext, slices-length, slices-at, column-many, column-digits}
+use Rattle.laws.proofs.SignedValues.{signed-difference}
+use Rattle.laws.proofs.ColumnOrder.{told, of-told, order-laws}
+use Rattle.laws.proofs.ColumnDigits.{below-wider, sum-below}
 
--- ---- the bitmaps that a list names
+-- ---- what is known where an operation answers
 
-pub named-length : (index ks : List ℕ) → length (named index ks) ≡ length ks
-unfolding named
-named-length index ks = length-map ks (rowsAt index)
+-- how many slices the answer has, against those of the wider column
+pub pair-slices : (op : Pairing) (w : ℕ) → (w ≤ pairSlices op w) × (pairSlices op w ≤ suc w)
+unfolding pairSlices
+pair-slices Sum w = (omega arith, omega arith)
+pair-slices Difference w = (omega arith, omega arith)
+pair-slices Smaller w = (omega arith, omega arith)
+pair-slices DifferenceOrZero w = (omega arith, omega arith)
 
-pub named-at : (index ks : List ℕ) (i : ℕ) → i < length ks → getD (named index ks) i none ≡ rowsAt index (getD ks i 0)
-unfolding named
-named-at index [] i h = absurd (omega arith)
-named-at index (k ∷ ks) zero h = refl
-named-at index (k ∷ ks) (suc i) h = named-at index ks i (omega arith)
+-- the number made of a row's two values
+abbrev pairAt : (op : Pairing) (index first second : List ℕ) → ℕ → ℕ
+pairAt op index first second r =
+    pairValue op (pairWidth op first second) (valueAt index first r) (valueAt index second r)
 
--- a list that is good has 2 to `most` numbers
-pub column-length : (index : List ℕ) (most : ℕ) (list : List ℕ) → badColumn index most list ≡ false
-    → (2 ≤ length list) × (length list ≤ most)
-unfolding badColumn
-column-length index most list e =
-    let p = or-false (ltb (length list) leastColumn || ltb most (length list)) (anyBad index list) e in
-    let q = or-false (ltb (length list) leastColumn) (ltb most (length list)) (p .0) in
-    (ltb-false (length list) leastColumn (q .0), ltb-false most (length list) (q .1))
+-- nothing was refused, the answer has 1 to 33 slices, and it is the new index
+record Answered (op : Pairing) (index first second out : List ℕ) : Type 0 where
+  good : GoodPair index first second
+  first-strays : strays index first ≡ sound
+  second-strays : strays index second ≡ sound
+  some : 1 ≤ pairWidth op first second
+  most : pairWidth op first second ≤ mostSumSlices
+  new : NewIndex (formatOf index) (rowCount index)
+      (columnOf (inBoth index first second) (pairAt op index first second) (pairWidth op first second)) out
 
--- ---- digits
+-- which holds of every answer
+answered : (op : Pairing) (index first second : List ℕ) (room : ℕ) (out : List ℕ)
+    → pair index op first second room ≡ answer out → Answered op index first second out
+unfolding pair askPair check pairWidth wider sliceCount pairColumn intersection
+answered op index first second room out e =
+    let a = then-answer (indexFault index) _ out e in
+    let b = refuse-answer (badColumn index mostColumn first || badColumn index mostColumn second) 8 0 0 _ out (a .1) in
+    let c = then-answer (strays index first) _ out (b .1) in
+    let d = then-answer (strays index second) _ out (c .1) in
+    let f = or-false (badColumn index mostColumn first) (badColumn index mostColumn second) (b .0) in
+    let l = column-length index mostColumn first (f .0) in
+    let m = column-length index mostColumn second (f .1) in
+    let n = pair-slices op (wider first second) in
+    let many = column-many (inBoth index first second) (pairAt op index first second) (pairWidth op first second) in
+    let most : pairWidth op first second ≤ mostSumSlices = omega (arith, l .1, m .1, n .1) in
+    record {
+      good = record { is-sound = a .0; good-first = f .0; good-second = f .1 };
+      first-strays = c .0;
+      second-strays = d .0;
+      some = omega (arith, l .0, n .0);
+      most = most;
+      new =
+          new-index-holds (formatOf index) (rowCount index) _ room out (index-means index .0 (a .0) .head .few-rows)
+          (omega arith) (d .1);
+    }
 
-slices-many : (index list : List ℕ) → length (slicesOf index list) ≡ sliceCount list
-unfolding slicesOf sliceCount
-slices-many index [] = refl
-slices-many index (k ∷ ks) = omega (arith, named-length index ks)
+-- ---- the answer is a column
 
--- a value has no more digits than its column has slices
-named-below : (index list : List ℕ) (r : ℕ) → valueAt index list r < 2 ^ sliceCount list
-unfolding valueAt
-named-below index list r =
-    subst (λ (n : ℕ). valueOf (slicesOf index list) r < 2 ^ n) (slices-many index list) (value-lt (slicesOf index list) r)
+module _ {op : Pairing} {index first second out : List ℕ} (a : Answered op index first second out) where
+  abbrev both : ℕ → Bool
+  both = inBoth index first second
 
-below-more : (index list : List ℕ) (r n : ℕ) → sliceCount list ≤ n → valueAt index list r < 2 ^ n
-below-more index list r n h = omega (arith, named-below index list r, pow-mono {i = sliceCount list} {j = n} h)
+  abbrev v : ℕ → ℕ
+  v = pairAt op index first second
 
-sum-below : (index first second : List ℕ) (r : ℕ)
-    → valueAt index first r + valueAt index second r < 2 ^ suc (wider first second)
-unfolding wider
-sum-below index first second r =
-    let m = wider first second in
-    omega (arith, below-more index first r m (omega arith), below-more index second r m (omega arith))
+  abbrev n : ℕ
+  n = pairWidth op first second
 
-sum-most : (index first second : List ℕ) (r : ℕ) → length first ≤ mostColumn → length second ≤ mostColumn
-    → valueAt index first r + valueAt index second r < 2 ^ mostSumSlices
-unfolding sliceCount
-sum-most index first second r f s =
-    omega (arith, below-more index first r 32 (omega arith), below-more index second r 32 (omega arith))
-
-value-most : (index list : List ℕ) (r v : ℕ) → value index list r ≡ answer v → v < 2 ^ mostSumSlices
-unfolding value askValue sliceCount
-value-most index list r v e =
-    let a = then-answer (check index) _ v e in
-    let b = refuse-answer (badColumn index mostValueColumn list || badRow index list r) 8 0 0 _ v (a .1) in
-    let c = then-answer (strays index list) _ v (b .1) in
-    let d : valueAt index list r ≡ v = let z = c .1 in cc in
-    let good = or-false (badColumn index mostValueColumn list) (badRow index list r) (b .0) .0 in
-    let l = column-length index mostValueColumn list good in
-    omega (arith, d, below-more index list r 33 (omega (arith, l .1)))
-
-pub digit-laws : DigitLaws
-digit-laws = record {
-  below = value-lt;
-  named-below = named-below;
-  lowest = λ exists v n r e. slices-value exists v r e 0 n ∙ rw (div-one (v r));
-  all = λ exists v n r e h. column-value exists v r e n h;
-  sum-below = sum-below;
-  sum-most = sum-most;
-  sum-digits = λ index first second exists r e.
-      column-value exists (λ s. valueAt index first s + valueAt index second s) r e (suc (wider first second)) (sum-below index first second r);
-  value-most = value-most;
-}
-
--- ---- the order of refusals
-
-module _ (index list : List ℕ) (r : ℕ) where
-  abbrev noColumn : Bool
-  noColumn = badColumn index mostValueColumn list
-
-  abbrev noRow : Bool
-  noRow = badRow index list r
-
-  -- what is left where there is neither a fault nor 8
-  asks-strays : GoodValue index list r → value index list r ≡ (strays index list then answer (valueAt index list r))
-  unfolding value askValue check
-  asks-strays g =
-      then-sound (indexFault index) _ (g .is-sound)
-      ∙ refuse-no (noColumn || noRow) 8 0 0 _ (rw (g .good-list, g .good-row))
-
-  asks-bad : SoundIndex index → noColumn || noRow ≡ true → value index list r ≡ refused 8 0 0
-  unfolding value askValue check
-  asks-bad s e = then-sound (indexFault index) _ s ∙ refuse-yes (noColumn || noRow) 8 0 0 _ e
-
-  of-value : ValueOrder index list r
-  of-value = record {
-    faulty = λ n b w e. unfold value in then-refused (check index) _ n b w e;
-    bad-list = λ s e. asks-bad s (rw e);
-    bad-row = λ s e. asks-bad s (or-true noColumn noRow e);
-    stray = λ g i s f. asks-strays g ∙ then-refused (strays index list) _ _ _ _ (stray-laws .first-given index list i s f);
-    answered = λ g n. asks-strays g ∙ then-sound (strays index list) _ n;
-  }
-
-module _ (index first second : List ℕ) (room : ℕ) where
-  abbrev noFirst : Bool
-  noFirst = badColumn index mostColumn first
-
-  abbrev noSecond : Bool
-  noSecond = badColumn index mostColumn second
-
-  abbrev written : Outcome (List ℕ)
-  written = writeIndex (formatOf index) (rowCount index) (pairColumn index sumValue (suc (wider first second)) first second) room
-
-  asks-both : GoodPair index first second
-      → sum index first second room ≡ (strays index first then strays index second then written)
-  unfolding sum askSum askPair check
-  asks-both g =
-      then-sound (indexFault index) _ (g .is-sound)
-      ∙ refuse-no (noFirst || noSecond) 8 0 0 _ (rw (g .good-first, g .good-second))
-
-  asks-room : GoodPair index first second → strays index first ≡ sound → strays index second ≡ sound
-      → sum index first second room ≡ written
-  asks-room g n m = asks-both g ∙ then-sound (strays index first) _ n ∙ then-sound (strays index second) _ m
-
-  asks-bad-pair : SoundIndex index → noFirst || noSecond ≡ true → sum index first second room ≡ refused 8 0 0
-  unfolding sum askSum askPair check
-  asks-bad-pair s e = then-sound (indexFault index) _ s ∙ refuse-yes (noFirst || noSecond) 8 0 0 _ e
-
-  of-sum : SumOrder index first second room
-  of-sum = record {
-    faulty = λ n b w e. unfold sum in then-refused (check index) _ n b w e;
-    bad-first = λ s e. asks-bad-pair s (rw e);
-    bad-second = λ s e. asks-bad-pair s (or-true noFirst noSecond e);
-    stray-first = λ g i r f.
-        asks-both g
-        ∙ then-refused (strays index first) _ _ _ _ (stray-laws .first-given index first i r f);
-    stray-second = λ g n i r f.
-        asks-both g
-        ∙ then-sound (strays index first) _ n
-        ∙ then-refused (strays index second) _ _ _ _ (stray-laws .first-given index second i r f);
-    no-room = λ g n m l. asks-room g n m ∙ (unfold writeIndex in fits-no (indexRoom room) (sumIndex index first second) l);
-    answered = λ g n m l. asks-room g n m ∙ (unfold writeIndex in fits-yes (indexRoom room) (sumIndex index first second) l);
-  }
-
-pub order-laws : OrderLaws
-order-laws = record { of-value = of-value; of-sum = of-sum }
-
--- ---- a new index that is a column
-
-and-not : (a b : Bool) → a && b ≡ true → a ≡ false → ⊥
-and-not true b e f = true≢false f
-and-not false b e f = true≢false (sym e)
-
-module _ (F : Format) (R : ℕ) (exists : ℕ → Bool) (v : ℕ → ℕ) (n : ℕ) (few : R ≤ mostRows) (some : 1 ≤ n) (most : n ≤ mostSumSlices)
-    (short : length (indexOf F R (columnOf exists v n)) ≤ mostIndexWords) where
-  abbrev ps : List (ℕ → Bool)
-  ps = columnOf exists v n
-
-  abbrev out : List ℕ
-  out = indexOf F R ps
+  abbrev R : ℕ
+  R = rowCount index
 
   -- its slices' numbers
   abbrev ks : List ℕ
   ks = tabulate n (λ i. suc i)
 
-  ps-length : length ps ≡ suc n
+  -- its first bitmap is the rows that exist in both columns
+  out-exists : (r : ℕ) → r < R → rowsAt out 0 r ≡ both r
   unfolding columnOf
-  ps-length = ap suc (slices-length exists v 0 n)
+  out-exists r h = a .new .sets 0 r (omega (arith, column-many both v n)) h
 
-  new : NewIndex F R ps out
-  new = is-new F R ps few (omega (arith, ps-length)) short
+  -- slice i made of the values
+  slice-at : (i r : ℕ) → i < n → getD (slicesFrom both v 0 n) i none r ≡ slice both v i r
+  slice-at i r l =
+      ap (λ (p : ℕ → Bool). p r) (slices-at both v 0 n i l) ∙ ap (λ (k : ℕ). slice both v k r) (omega arith)
 
-  out-exists : (r : ℕ) → r < R → rowsAt out 0 r ≡ exists r
+  -- is its bitmap i + 1
+  out-slices : (i r : ℕ) → i < n → r < R → rowsAt out (suc i) r ≡ slice both v i r
   unfolding columnOf
-  out-exists r h = new .sets 0 r (omega (arith, ps-length)) h
+  out-slices i r l h = a .new .sets (suc i) r (omega (arith, column-many both v n)) h ∙ slice-at i r l
 
-  slice-at : (i r : ℕ) → i < n → getD (slicesFrom exists v 0 n) i none r ≡ slice exists v i r
-  slice-at i r l = ap (λ (p : ℕ → Bool). p r) (slices-at exists v 0 n i l) ∙ ap (λ (k : ℕ). slice exists v k r) (omega arith)
-
-  out-slices : (i r : ℕ) → i < n → r < R → rowsAt out (suc i) r ≡ slice exists v i r
-  unfolding columnOf
-  out-slices i r l h = new .sets (suc i) r (omega (arith, ps-length)) h ∙ slice-at i r l
-
-  k-is : (i : ℕ) → i < n → getD ks i 0 ≡ suc i
-  k-is i l = getD-tabulate n (λ i. suc i) i l
+  -- which its slices' numbers have at place i
+  slice-rows : (i r : ℕ) → i < n → r < R → rowsAt out (getD ks i 0) r ≡ slice both v i r
+  slice-rows i r l h = ap (λ (k : ℕ). rowsAt out k r) (getD-tabulate n (λ i. suc i) i l) ∙ out-slices i r l h
 
   -- a slice has no row that does not exist
   not-stray : (i r : ℕ) → StrayAt out (whole n) i r → ⊥
   unfolding existing tabulate slice
   not-stray i r s =
       let l : i < n = omega (arith, s .slice-there, length-tabulate n (λ i. suc i)) in
-      let h : r < R = omega (arith, s .row-there, new .rows) in
-      let e : slice exists v i r ≡ true = sym (ap (λ (k : ℕ). rowsAt out k r) (k-is i l) ∙ out-slices i r l h) ∙ s .has in
-      and-not (exists r) (isSet (v r) i) e (sym (out-exists r h) ∙ s .lacks)
+      let h : r < R = omega (arith, s .row-there, a .new .rows) in
+      let e : slice both v i r ≡ true = sym (slice-rows i r l h) ∙ s .has in
+      true≢false (sym (both-hold (both r) (isSet (v r) i) e .0) ∙ sym (out-exists r h) ∙ s .lacks)
 
+  -- so nothing strays
   out-strays : strays out (whole n) ≡ sound
   out-strays = stray-laws .none-means out (whole n) .1 not-stray
 
-  -- the slices that the list names
-  named-slices : (i r : ℕ) → i < n → r < R → getD (named out ks) i none r ≡ getD (slicesFrom exists v 0 n) i none r
-  named-slices i r l h =
-      ap (λ (p : ℕ → Bool). p r) (named-at out ks i (omega (arith, length-tabulate n (λ i. suc i))))
-      ∙ ap (λ (k : ℕ). rowsAt out k r) (k-is i l)
-      ∙ out-slices i r l h
-      ∙ sym (slice-at i r l)
-
+  -- the list of the whole names n slices
   ks-many : length (named out ks) ≡ n
   ks-many = named-length out ks ∙ length-tabulate n (λ i. suc i)
 
-  -- the value at a row
-  out-value : (r : ℕ) → r < R → valueAt out (whole n) r ≡ valueOf (slicesFrom exists v 0 n) r
-  unfolding valueAt slicesOf tabulate
-  out-value r h =
-      value-ext (named out ks) (slicesFrom exists v 0 n) r (ks-many ∙ sym (slices-length exists v 0 n))
-      (λ i l. named-slices i r (omega (arith, ks-many)) h)
+  -- which are those made of the values
+  named-slices : (i r : ℕ) → i < n → r < R
+      → getD (named out ks) i none r ≡ getD (slicesFrom both v 0 n) i none r
+  named-slices i r l h =
+      ap (λ (p : ℕ → Bool). p r) (named-at out ks i (omega (arith, length-tabulate n (λ i. suc i))))
+      ∙ slice-rows i r l h
+      ∙ sym (slice-at i r l)
 
+  -- so their plain value, at a row that exists, is the n lowest digits of the number made of the two values
+  out-value : (r : ℕ) → r < R → both r ≡ true → valueOf (named out ks) r ≡ v r % 2 ^ n
+  out-value r h e =
+      value-ext (named out ks) (slicesFrom both v 0 n) r (ks-many ∙ sym (slices-length both v 0 n))
+      (λ i l. named-slices i r (omega (arith, ks-many)) h)
+      ∙ column-digits both v r e n
+
+  -- that list has n + 1 numbers
   whole-length : length (whole n) ≡ suc n
   whole-length = length-tabulate (suc n) (λ i. i)
 
-  good-list : badColumn out mostValueColumn (whole n) ≡ false
-  unfolding badColumn
-  good-list =
-      rw (
-        le-ltb (length (whole n)) leastColumn (omega (arith, whole-length)),
-        le-ltb mostValueColumn (length (whole n)) (omega (arith, whole-length)),
-        all-good out (whole n) there,
-      )
-    where
-      there : (i : ℕ) → i < length (whole n) → getD (whole n) i 0 < bitmapCount out
-      there i l =
-          omega (arith, getD-tabulate (suc n) (λ i. i) i (omega (arith, whole-length)), whole-length, new .count, ps-length)
+  -- each a bitmap's
+  whole-there : (i : ℕ) → i < length (whole n) → getD (whole n) i 0 < bitmapCount out
+  whole-there i l =
+      let h : i < suc n = omega (arith, whole-length) in
+      omega (arith, getD-tabulate (suc n) (λ i. i) i h, a .new .count, column-many both v n)
 
-  -- whether the row is bad
+  -- and is good for a value
+  good-list : badColumn out mostValueColumn (whole n) ≡ false
+  good-list =
+      column-good out mostValueColumn (whole n)
+      (omega (arith, whole-length, a .some)) (omega (arith, whole-length, a .most)) (all-good out (whole n) whole-there)
+
+  -- whether a row is bad, by its own rows
   row-test : (r : ℕ) → badRow out (whole n) r ≡ leb R r || not (rowsAt out 0 r)
   unfolding badRow existing tabulate
-  row-test r = rw (new .rows)
+  row-test r = rw (a .new .rows)
 
-  bad-row : (r : ℕ) → badRow out (whole n) r ≡ leb R r || not (exists r)
-  bad-row r = elim (decLe R r) [
+  -- and by those of the two columns
+  row-bad : (r : ℕ) → badRow out (whole n) r ≡ leb R r || not (both r)
+  row-bad r = elim (decLe R r) [
     | yes l ↦ row-test r ∙ rw (le-leb R r l)
     | no l ↦ row-test r ∙ rw (out-exists r (omega arith))
   ]
 
-  -- 8 for a bad row, and else its value
-  out-values : ((r : ℕ) → v r < 2 ^ n) → (r : ℕ)
-      → value out (whole n) r ≡ refuseIf (leb R r || not (exists r)) 8 0 0 (answer (v r))
-  out-values low r = go (leb R r || not (exists r)) refl
+  -- what is told of a row: 8 for a bad row, and else its value
+  out-told : {A : Type 0} (f w : ℕ → A) (r : ℕ) → (r < R → both r ≡ true → f r ≡ w r)
+      → told out (whole n) r (f r) ≡ toldAt index first second w r
+  out-told f w r h = go (leb R r || not (both r)) refl
     where
-      go : (t : Bool) → leb R r || not (exists r) ≡ t → value out (whole n) r ≡ refuseIf t 8 0 0 (answer (v r))
-      go true e = of-value out (whole n) r .bad-row (new .is-sound) (bad-row r ∙ e) ∙ unfold refuseIf in refl
+      go : (t : Bool) → leb R r || not (both r) ≡ t → told out (whole n) r (f r) ≡ toldAt index first second w r
+      go true e =
+          of-told out (whole n) r (f r) .bad-row (a .new .is-sound) (row-bad r ∙ e)
+          ∙ sym (refuse-yes (leb R r || not (both r)) 8 0 0 _ e)
       go false e =
-          let q = or-false (leb R r) (not (exists r)) e in
-          of-value out (whole n) r .answered
-          (record { is-sound = new .is-sound; good-list = good-list; good-row = bad-row r ∙ e }) out-strays
-          ∙ ap answer (out-value r (leb-false R r (q .0)) ∙ column-value exists v r (not-false (exists r) (q .1)) n (low r))
-          ∙ unfold refuseIf in refl
+          let q = or-false (leb R r) (not (both r)) e in
+          of-told out (whole n) r (f r) .answered
+          (record { is-sound = a .new .is-sound; good-list = good-list; good-row = row-bad r ∙ e }) out-strays
+          ∙ ap answer (h (leb-false R r (q .0)) (not-false (both r) (q .1)))
+          ∙ sym (refuse-no (leb R r || not (both r)) 8 0 0 _ e)
 
--- ---- the sum of two columns
+  -- so it is a column
+  is-column : ColumnIn index first second n out
+  is-column = record {
+    is-sound = a .new .is-sound;
+    format = a .new .format;
+    rows = a .new .rows;
+    count = a .new .count ∙ column-many both v n;
+    forms = λ k h.
+        subst (Canonical (formatOf index) R) (sym (a .new .bodies k (omega (arith, column-many both v n))))
+        (canonical-form (formatOf index) R _);
+    exists = out-exists;
+    no-strays = out-strays;
+  }
 
--- the answer is the new index, the index asked is sound, and both lists name columns
-record Answered (index first second : List ℕ) (out : List ℕ) : Type 0 where
-  out-is : out ≡ sumIndex index first second
-  short : length (sumIndex index first second) ≤ mostIndexWords
-  few-rows : rowCount index ≤ mostRows
-  first-good : (2 ≤ length first) × (length first ≤ mostColumn)
-  second-good : (2 ≤ length second) × (length second ≤ mostColumn)
+  -- whose values are the operation's, where these have no more digits than it has slices
+  of-numbers : ((r : ℕ) → v r < 2 ^ n) → ColumnOf index first second n v out
+  unfolding value askValue valueAt slicesOf tabulate
+  of-numbers low = record {
+    column = is-column;
+    slices = out-slices;
+    values = λ r. out-told (valueAt out (whole n)) v r (λ l e. out-value r l e ∙ mod-eq-of-lt (low r));
+  }
 
-answered : (index first second : List ℕ) (room : ℕ) (out : List ℕ) → sum index first second room ≡ answer out
-    → Answered index first second out
-unfolding sum askSum askPair check
-answered index first second room out e =
-    let a = then-answer (indexFault index) _ out e in
-    let b = refuse-answer (badColumn index mostColumn first || badColumn index mostColumn second) 8 0 0 _ out (a .1) in
-    let c = then-answer (strays index first) _ out (b .1) in
-    let d = then-answer (strays index second) _ out (c .1) in
-    let f = or-false (badColumn index mostColumn first) (badColumn index mostColumn second) (b .0) in
-    let w = written-index (formatOf index) (rowCount index) (pairColumn index sumValue (suc (wider first second)) first second) room out (d .1) in
-    record {
-      out-is = w .0;
-      short = w .1;
-      few-rows = index-means index .0 (a .0) .head .few-rows;
-      first-good = column-length index mostColumn first (f .0);
-      second-good = column-length index mostColumn second (f .1);
-    }
+-- ---- each operation
 
-module _ (index first second : List ℕ) where
-  abbrev both : ℕ → Bool
-  both = intersection (existing index first) (existing index second)
+-- what is answered of a row of a column that an operation takes
+reads : (index list : List ℕ) (r : ℕ)
+    → SoundIndex index → badColumn index mostColumn list ≡ false → strays index list ≡ sound
+    → r < rowCount index → existing index list r ≡ true → value index list r ≡ answer (valueAt index list r)
+reads index list r is-sound good no-strays l e =
+    order-laws .of-value index list r .answered
+    (record {
+      is-sound = is-sound;
+      good-list = column-more index mostColumn mostValueColumn list (omega arith) good;
+      good-row = unfold badRow in rw (lt-leb (rowCount index) r l, e);
+    })
+    no-strays
 
-  abbrev total : ℕ → ℕ
-  total r = valueAt index first r + valueAt index second r
+module _ {index first second out : List ℕ} (a : Answered Difference index first second out) where
+  -- of a difference the lowest digits stay, which are its two's complement
+  of-difference : SignedColumnOf index first second (suc (wider first second))
+      (λ r. pos (valueAt index first r) -ℤ pos (valueAt index second r)) out
+  unfolding signedValue askSignedValue signedAt slicesOf tabulate pairWidth pairSlices pairValue
+  of-difference = record {
+    column = is-column a;
+    values = λ r.
+        let x = valueAt index first in
+        let y = valueAt index second in
+        let w = wider first second in
+        let low = below-wider index first second r in
+        out-told a (signedAt out (whole (suc w))) (λ s. pos (x s) -ℤ pos (y s)) r
+        (λ l e. signed-difference (named out (ks a)) r w (ks-many a) (x r) (y r) (low .0) (low .1) (out-value a r l e));
+  }
 
-  abbrev width : ℕ
-  width = suc (wider first second)
-
-  sum-is : sumIndex index first second ≡ indexOf (formatOf index) (rowCount index) (columnOf both total width)
-  unfolding pairColumn sumValue
-  sum-is = refl
-
-  is-column : (few : rowCount index ≤ mostRows) (most : width ≤ mostSumSlices)
-      → length (indexOf (formatOf index) (rowCount index) (columnOf both total width)) ≤ mostIndexWords
-      → ColumnOf index first second width total (indexOf (formatOf index) (rowCount index) (columnOf both total width))
-  unfolding intersection
-  is-column few most short =
-      let F = formatOf index in
-      let R = rowCount index in
-      let new = new F R both total width few (omega arith) most short in
+  -- so with the second's value it gives the first's back
+  gives-back : (r : ℕ) → r < rowCount index → inBoth index first second r ≡ true → GivesBack index first second out r
+  gives-back r l e =
+      let b = both-hold (existing index first r) (existing index second r) e in
+      let x = valueAt index first r in
+      let y = valueAt index second r in
+      let there : leb (rowCount index) r || not (inBoth index first second r) ≡ false =
+      rw (lt-leb (rowCount index) r l, e) in
       record {
-        is-sound = new .is-sound;
-        format = new .format;
-        rows = new .rows;
-        count = new .count ∙ ps-length F R both total width few (omega arith) most short;
-        forms = λ k h. subst (λ (b : List ℕ). Canonical F R b) (sym (new .bodies k (omega (arith, ps-length F R both total width few (omega arith) most short)))) (canonical-form F R _);
-        exists = out-exists F R both total width few (omega arith) most short;
-        slices = out-slices F R both total width few (omega arith) most short;
-        no-strays = out-strays F R both total width few (omega arith) most short;
-        values = out-values F R both total width few (omega arith) most short (sum-below index first second);
+        x = x;
+        y = y;
+        z = pos x -ℤ pos y;
+        first-is = reads index first r (a .good .is-sound) (a .good .good-first) (a .first-strays) l (b .0);
+        second-is = reads index second r (a .good .is-sound) (a .good .good-second) (a .second-strays) l (b .1);
+        difference-is = of-difference .values r ∙ refuse-no _ 8 0 0 _ there;
+        back = -ℤ-+ℤ-cancel (pos x) (pos y);
       }
 
-pub sum-laws : SumLaws
-unfolding wider sliceCount
-sum-laws index first second room out e =
-    let a = answered index first second room out e in
-    subst (λ (o : List ℕ). ColumnOf index first second (suc (wider first second)) (total index first second) o)
-    (sym (a .out-is ∙ sum-is index first second))
-    (is-column index first second (a .few-rows) (omega (arith, a .first-good .1, a .second-good .1)) (omega (arith, a .short, ap length (sum-is index first second))))
+pub pairs-hold : PairsHold
+unfolding pairWidth pairSlices pairValue
+pairs-hold index first second room out =
+    let low = below-wider index first second in
+    record {
+      of-sum = λ e. of-numbers (answered Sum index first second room out e) (sum-below index first second);
+      of-difference = λ e. of-difference (answered Difference index first second room out e);
+      of-smaller = λ e. of-numbers (answered Smaller index first second room out e) (λ r. omega (arith, low r));
+      of-zero = λ e. of-numbers (answered DifferenceOrZero index first second room out e) (λ r. omega (arith, low r));
+      gives-back = λ e. gives-back (answered Difference index first second room out e);
+    }

@@ -23,6 +23,10 @@ pub mod IndexSound
 pub mod NewIndexes
 pub mod StraysFound
 pub mod ColumnValues
+pub mod SignedValues
+pub mod NamedBitmaps
+pub mod ColumnDigits
+pub mod ColumnOrder
 pub mod ColumnsHold
 pub mod BitmapPart
 pub mod Walk

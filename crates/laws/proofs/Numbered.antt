@@ -20,7 +20,7 @@ use Rattle.meaning.specs.Index.{isKind, formatOf, bitmapCount, entryPlace, star
 use Rattle.meaning.specs.Question.{intersection, union, symmetricDifference, difference, complement, byTable}
 use Rattle.meaning.specs.Extent.{rowAnswer}
 use Rattle.meaning.specs.NewIndex.{indexOf, indexRoom, writeIndex}
-use Rattle.meaning.specs.Column.{sumValue}
+use Rattle.meaning.specs.declared.Pairing.{Pairing}
 use Rattle.meaning.specs.Answer as meaning
 use Rattle.meaning.specs.Columns as columns
 use Rattle.meaning.specs.Rewriting as rewriting
@@ -250,24 +250,30 @@ module _ (index : List ℕ) where
   strays [] = answered tt
   strays (k ∷ ks) = strays-in (rowsAt index k) ks
 
-  pub value : (list : List ℕ) (r : ℕ) → Numbered (columns.value index list r)
-  unfolding columns.value columns.askValue
-  value list r =
+  at-row : {A : Type 0} (list : List ℕ) (r : ℕ) (v : A) → Numbered (meaning.check index then columns.askAt index list r v)
+  unfolding columns.askAt
+  at-row list r v =
       after (meaning.check index) _ (check index)
       (refuse (columns.badColumn index mostValueColumn list || columns.badRow index list r) 8 0 0 _ (omega arith)
       (after (columns.strays index list) _ (strays list) (answered _)))
 
-  pair : (op : (n x y : ℕ) → ℕ) (n : ℕ) (first second : List ℕ) (room : ℕ) → Numbered (columns.askPair index op n first second room)
-  unfolding columns.askPair writeIndex
-  pair op n first second room =
-      refuse (columns.badColumn index mostColumn first || columns.badColumn index mostColumn second) 8 0 0 _ (omega arith)
+  pub value : (list : List ℕ) (r : ℕ) → Numbered (columns.value index list r)
+  unfolding columns.value columns.askValue
+  value list r = at-row list r (columns.valueAt index list r)
+
+  pub signed-value : (list : List ℕ) (r : ℕ) → Numbered (columns.signedValue index list r)
+  unfolding columns.signedValue columns.askSignedValue
+  signed-value list r = at-row list r (columns.signedAt index list r)
+
+  pub pair : (op : Pairing) (first second : List ℕ) (room : ℕ) → Numbered (columns.pair index op first second room)
+  unfolding columns.pair columns.askPair writeIndex
+  pair op first second room =
+      let sets : List (ℕ → Bool) = columns.pairColumn index op (columns.pairWidth op first second) first second in
+      after (meaning.check index) _ (check index)
+      (refuse (columns.badColumn index mostColumn first || columns.badColumn index mostColumn second) 8 0 0 _ (omega arith)
       (after (columns.strays index first) _ (strays first)
       (after (columns.strays index second) _ (strays second)
-      (fits (indexRoom room) (indexOf (formatOf index) (rowCount index) (columns.pairColumn index op n first second)))))
-
-  pub sum : (first second : List ℕ) (room : ℕ) → Numbered (columns.sum index first second room)
-  unfolding columns.sum columns.askSum
-  sum first second room = after (meaning.check index) _ (check index) (pair sumValue (suc (columns.wider first second)) first second room)
+      (fits (indexRoom room) (indexOf (formatOf index) (rowCount index) sets)))))
 
   -- ---- rewriting
 

@@ -1,23 +1,27 @@
 -- What holds of new indexes and of columns, for a reader to find in one place. `NewIndexHolds` and `NewIndexRoomHolds` are proved in
--- `proofs/NewIndexes`, `StrayLaws` in `StraysFound`; `DigitLaws`, `OrderLaws` and `SumLaws` in `ColumnsHold`.
+-- `proofs/NewIndexes`, `StrayLaws` in `StraysFound`, `DigitLaws` and `SignLaws` in `ColumnDigits`, `OrderLaws` in `ColumnOrder`,
+-- `PairsHold` in `ColumnsHold`.
 -- Assumes nothing.
-use Prim.Native.Nat.{ℕ, suc, _+_, _-_, _%_, _^_, _≤_, _<_}
+use Prim.Native.Nat.{ℕ, suc, _+_, _-_, _*_, _%_, _^_, _≤_, _<_, min}
 use mathlib.Core.Bool.{Bool, true, false, not, _&&_, _||_}
 use mathlib.Core.Path.{_≡_}
 use mathlib.Core.Logic.{_↔_}
-use mathlib.Core.List.{List}
+use mathlib.Core.List.{List, [], _∷_}
 use lib.Dec.{leb}
 use lib.ListN.{length, getD}
+use lib.IntN.{ℤ, pos, negsuc, natAbs, _+ℤ_, _-ℤ_}
+use lib.Signed.{mag}
 use Rattle.meaning.specs.Limits.{mostRows, mostBitmaps, mostIndexWords, mostColumn, mostValueColumn}
-use Rattle.meaning.specs.Rows.{none}
-use Rattle.meaning.specs.Refusal.{refused, answer, sound, refuseIf}
+use Rattle.meaning.specs.Rows.{bit, none}
+use Rattle.meaning.specs.Refusal.{Outcome, refused, answer, sound, refuseIf}
 use Rattle.meaning.specs.Format.{canonical, Canonical}
 use Rattle.meaning.specs.Index.{formatOf, rowCount, bitmapCount, bodyAt, rowsAt, SoundIndex}
 use Rattle.meaning.specs.declared.Format.{Format}
 use Rattle.meaning.specs.Answer.{check}
 use Rattle.meaning.specs.NewIndex.{indexOf, indexRoom, writeIndex}
-use Rattle.meaning.specs.Column.{valueOf, slice, slicesFrom, whole, sumValue}
-use Rattle.meaning.specs.Columns.{sliceCount, wider, existing, valueAt, badColumn, badRow, strays, value, pairColumn, sum}
+use Rattle.meaning.specs.Column.{valueOf, signedOf, slice, slicesFrom, whole}
+use Rattle.meaning.specs.Columns.{sliceCount, wider, pairWidth, existing, valueAt, signedAt, badColumn, badRow, strays, value, signedValue, pairColumn, pair, sum, signedDifference, smaller, differenceOrZero}
+use Rattle.meaning.specs.declared.Pairing.{Pairing}
 
 -- ---- a new index
 
@@ -50,7 +54,7 @@ NewIndexRoomHolds = (F : Format) (R : ℕ) (ps : List (ℕ → Bool)) (room : �
 
 -- ---- digits
 
--- the most slices that a sum can have
+-- the most slices that a sum or a difference can have
 abbrev pub mostSumSlices : ℕ
 mostSumSlices = mostValueColumn - 1
 
@@ -75,6 +79,37 @@ pub record DigitLaws : Type 0 where
       ≡ valueAt index first r + valueAt index second r
   -- a value that is answered is below 2 ^ 33
   pub value-most : (index list : List ℕ) (r v : ℕ) → value index list r ≡ answer v → v < 2 ^ mostSumSlices
+
+-- ---- signed values (request 7)
+
+-- whether the top slice has row r, as a digit; 0 where there is no slice
+unfoldable pub signOf : List (ℕ → Bool) → (r : ℕ) → ℕ
+unfolding bit
+signOf [] r = 0
+signOf (p ∷ []) r = bit (p r)
+signOf (p ∷ q ∷ ps) r = signOf (q ∷ ps) r
+
+-- an integer, or 0 where it is negative
+unfoldable pub orZero : ℤ → ℕ
+orZero (pos n) = n
+orZero (negsuc n) = 0
+
+-- what a signed value is, and which it can be
+pub record SignLaws : Type 0 where
+  -- the plain value, less 2 ^ n where the top of the n slices has the row
+  pub less : (ps : List (ℕ → Bool)) (r : ℕ) → signedOf ps r ≡ pos (valueOf ps r) -ℤ pos (signOf ps r * 2 ^ length ps)
+  -- so a column without its sign set is read as a plain one is
+  pub plain : (ps : List (ℕ → Bool)) (r : ℕ) → signOf ps r ≡ 0 → signedOf ps r ≡ pos (valueOf ps r)
+  -- of n + 1 slices it is from - 2 ^ n to 2 ^ n - 1: `mag` is k both of k and of - (k + 1). One slice gives 0 or - 1
+  pub range : (ps : List (ℕ → Bool)) (r n : ℕ) → length ps ≡ suc n → mag (signedOf ps r) < 2 ^ n
+  -- a signed value that is answered is from - 2 ^ 32 to 2 ^ 32 - 1
+  pub signed-most : (index list : List ℕ) (r : ℕ) (z : ℤ) → signedValue index list r ≡ answer z → mag z < 2 ^ (mostSumSlices - 1)
+  -- the difference of two values of up to 32 slices is from - (2 ^ 32 - 1) to 2 ^ 32 - 1: `natAbs` is k both of k and of - k
+  pub difference-most : (index first second : List ℕ) (r : ℕ) → length first ≤ mostColumn → length second ≤ mostColumn
+      → (z : ℤ) → z +ℤ pos (valueAt index second r) ≡ pos (valueAt index first r) → natAbs z < 2 ^ (mostSumSlices - 1)
+  -- the difference or zero is the difference where that is not negative, and 0 elsewhere; with the smaller it makes the first
+  pub or-zero : (x y : ℕ) → x - y ≡ orZero (pos x -ℤ pos y)
+  pub parts : (x y : ℕ) → min x y + (x - y) ≡ x
 
 -- ---- refusal 11
 
@@ -103,55 +138,57 @@ pub record StrayLaws : Type 0 where
 
 -- ---- the order of refusals
 
--- nothing about a value is refused with one of the index's own faults or with 8
+-- nothing about the value at a row is refused with one of the index's own faults or with 8
 pub record GoodValue (index list : List ℕ) (r : ℕ) : Type 0 where
   pub is-sound : SoundIndex index
   pub good-list : badColumn index mostValueColumn list ≡ false
   pub good-row : badRow index list r ≡ false
 
--- the same of a sum
+-- the same of two columns
 pub record GoodPair (index first second : List ℕ) : Type 0 where
   pub is-sound : SoundIndex index
   pub good-first : badColumn index mostColumn first ≡ false
   pub good-second : badColumn index mostColumn second ≡ false
 
--- of a value: the index's own faults; on a sound index a bad list or row; a stray; and else the value
-pub record ValueOrder (index list : List ℕ) (r : ℕ) : Type 0 where
-  pub faulty : (number bitmap word : ℕ) → check index ≡ refused number bitmap word
-      → value index list r ≡ refused number bitmap word
-  pub bad-list : SoundIndex index → badColumn index mostValueColumn list ≡ true → value index list r ≡ refused 8 0 0
-  pub bad-row : SoundIndex index → badRow index list r ≡ true → value index list r ≡ refused 8 0 0
-  pub stray : GoodValue index list r → (i s : ℕ) → FirstStray index list i s
-      → value index list r ≡ refused 11 (getD list (suc i) 0) s
-  pub answered : GoodValue index list r → strays index list ≡ sound → value index list r ≡ answer (valueAt index list r)
+-- of what is told of a row, where v is its value: the index's own faults; on a sound index a bad list or row; a stray; and else v
+pub record ValueOrder {A : Type 0} (index list : List ℕ) (r : ℕ) (told : Outcome A) (v : A) : Type 0 where
+  pub faulty : (number bitmap word : ℕ) → check index ≡ refused number bitmap word → told ≡ refused number bitmap word
+  pub bad-list : SoundIndex index → badColumn index mostValueColumn list ≡ true → told ≡ refused 8 0 0
+  pub bad-row : SoundIndex index → badRow index list r ≡ true → told ≡ refused 8 0 0
+  pub stray : GoodValue index list r → (i s : ℕ) → FirstStray index list i s → told ≡ refused 11 (getD list (suc i) 0) s
+  pub answered : GoodValue index list r → strays index list ≡ sound → told ≡ answer v
 
--- the index that is the sum of two columns
-abbrev pub sumIndex : (index first second : List ℕ) → List ℕ
-sumIndex index first second = indexOf (formatOf index) (rowCount index) (pairColumn index sumValue (suc (wider first second)) first second)
+-- the index that an operation makes of two columns
+abbrev pub pairIndex : (op : Pairing) (index first second : List ℕ) → List ℕ
+pairIndex op index first second =
+    indexOf (formatOf index) (rowCount index) (pairColumn index op (pairWidth op first second) first second)
 
--- of a sum: the index's own faults; on a sound index a bad list, whatever strays; a stray, in the first column before the
+-- of two columns: the index's own faults; on a sound index a bad list, whatever strays; a stray, in the first column before the
 -- second, and whatever the room; 9 with the words needed, if there is less room or an index may not have so many; and else the
 -- answer
-pub record SumOrder (index first second : List ℕ) (room : ℕ) : Type 0 where
+pub record PairOrder (op : Pairing) (index first second : List ℕ) (room : ℕ) : Type 0 where
   pub faulty : (number bitmap word : ℕ) → check index ≡ refused number bitmap word
-      → sum index first second room ≡ refused number bitmap word
-  pub bad-first : SoundIndex index → badColumn index mostColumn first ≡ true → sum index first second room ≡ refused 8 0 0
-  pub bad-second : SoundIndex index → badColumn index mostColumn second ≡ true → sum index first second room ≡ refused 8 0 0
+      → pair index op first second room ≡ refused number bitmap word
+  pub bad-first : SoundIndex index → badColumn index mostColumn first ≡ true
+      → pair index op first second room ≡ refused 8 0 0
+  pub bad-second : SoundIndex index → badColumn index mostColumn second ≡ true
+      → pair index op first second room ≡ refused 8 0 0
   pub stray-first : GoodPair index first second
-      → (i r : ℕ) → FirstStray index first i r → sum index first second room ≡ refused 11 (getD first (suc i) 0) r
+      → (i r : ℕ) → FirstStray index first i r → pair index op first second room ≡ refused 11 (getD first (suc i) 0) r
   pub stray-second : GoodPair index first second → strays index first ≡ sound
-      → (i r : ℕ) → FirstStray index second i r → sum index first second room ≡ refused 11 (getD second (suc i) 0) r
+      → (i r : ℕ) → FirstStray index second i r → pair index op first second room ≡ refused 11 (getD second (suc i) 0) r
   pub no-room : GoodPair index first second → strays index first ≡ sound → strays index second ≡ sound
-      → indexRoom room < length (sumIndex index first second)
-      → sum index first second room ≡ refused 9 0 (length (sumIndex index first second))
+      → indexRoom room < length (pairIndex op index first second)
+      → pair index op first second room ≡ refused 9 0 (length (pairIndex op index first second))
   pub answered : GoodPair index first second → strays index first ≡ sound → strays index second ≡ sound
-      → length (sumIndex index first second) ≤ indexRoom room
-      → sum index first second room ≡ answer (sumIndex index first second)
+      → length (pairIndex op index first second) ≤ indexRoom room
+      → pair index op first second room ≡ answer (pairIndex op index first second)
 
--- for every index, list, row and room
+-- for every index, list, row, operation and room
 pub record OrderLaws : Type 0 where
-  pub of-value : (index list : List ℕ) (r : ℕ) → ValueOrder index list r
-  pub of-sum : (index first second : List ℕ) (room : ℕ) → SumOrder index first second room
+  pub of-value : (index list : List ℕ) (r : ℕ) → ValueOrder index list r (value index list r) (valueAt index list r)
+  pub of-signed : (index list : List ℕ) (r : ℕ) → ValueOrder index list r (signedValue index list r) (signedAt index list r)
+  pub of-pair : (op : Pairing) (index first second : List ℕ) (room : ℕ) → PairOrder op index first second room
 
 -- ---- an answer that is a column of n slices
 
@@ -160,21 +197,57 @@ module _ (index first second : List ℕ) where
   abbrev pub inBoth : ℕ → Bool
   inBoth r = existing index first r && existing index second r
 
-  -- it is sound, has the same format and as many rows, and n + 1 bitmaps in canonical form; a row exists in it if it does in both; no slice has any other
-  -- row, so 11 is never given; and its value at a row is v, or 8 where there is no such row or it does not exist
-  pub record ColumnOf (n : ℕ) (v : ℕ → ℕ) (out : List ℕ) : Type 0 where
+  -- what is told of row r of such a column where a row's value is v, or 8 where there is no such row or it does not exist
+  abbrev pub toldAt : {A : Type 0} (v : ℕ → A) (r : ℕ) → Outcome A
+  toldAt v r = refuseIf (leb (rowCount index) r || not (inBoth r)) 8 0 0 (answer (v r))
+
+  -- it is sound, has the same format and as many rows, and n + 1 bitmaps in canonical form; a row exists in it if it does in both;
+  -- no slice has any other row, so 11 is never given
+  pub record ColumnIn (n : ℕ) (out : List ℕ) : Type 0 where
     pub is-sound : SoundIndex out
     pub format : formatOf out ≡ formatOf index
     pub rows : rowCount out ≡ rowCount index
     pub count : bitmapCount out ≡ suc n
     pub forms : (k : ℕ) → k ≤ n → Canonical (formatOf index) (rowCount index) (bodyAt out k)
     pub exists : (r : ℕ) → r < rowCount index → rowsAt out 0 r ≡ inBoth r
-    pub slices : (i r : ℕ) → i < n → r < rowCount index → rowsAt out (suc i) r ≡ slice inBoth v i r
     pub no-strays : strays out (whole n) ≡ sound
-    pub values : (r : ℕ) → value out (whole n) r ≡ refuseIf (leb (rowCount index) r || not (inBoth r)) 8 0 0 (answer (v r))
 
--- whatever a sum answers is such a column, of one slice more than the wider one; its values are the sums as numbers, so no
--- digit is lost
-abbrev pub SumLaws : Type 0
-SumLaws = (index first second : List ℕ) (room : ℕ) (out : List ℕ) → sum index first second room ≡ answer out
-    → ColumnOf index first second (suc (wider first second)) (λ r. valueAt index first r + valueAt index second r) out
+  -- its values are v
+  pub record ColumnOf (n : ℕ) (v : ℕ → ℕ) (out : List ℕ) : Type 0 where
+    pub column : ColumnIn n out
+    pub slices : (i r : ℕ) → i < n → r < rowCount index → rowsAt out (suc i) r ≡ slice inBoth v i r
+    pub values : (r : ℕ) → value out (whole n) r ≡ toldAt v r
+
+  -- it is a signed column, whose values are z
+  pub record SignedColumnOf (n : ℕ) (z : ℕ → ℤ) (out : List ℕ) : Type 0 where
+    pub column : ColumnIn n out
+    pub values : (r : ℕ) → signedValue out (whole n) r ≡ toldAt z r
+
+  -- row r of the signed difference `out`, asked by the public calls: added to the second column's value it gives the first's back
+  pub record GivesBack (out : List ℕ) (r : ℕ) : Type 0 where
+    pub x : ℕ
+    pub y : ℕ
+    pub z : ℤ
+    pub first-is : value index first r ≡ answer x
+    pub second-is : value index second r ≡ answer y
+    pub difference-is : signedValue out (whole (suc (wider first second))) r ≡ answer z
+    pub back : z +ℤ pos y ≡ pos x
+
+-- whatever an operation answers is such a column: of one slice more than the wider one for a sum, and as numbers the sums, so that
+-- no digit is lost; for a difference, signed, and as integers the differences; of as many slices as the wider one for the smaller and
+-- for the difference or zero, whose values these are
+pub record PairLaws (index first second : List ℕ) (room : ℕ) (out : List ℕ) : Type 0 where
+  pub of-sum : sum index first second room ≡ answer out
+      → ColumnOf index first second (suc (wider first second)) (λ r. valueAt index first r + valueAt index second r) out
+  pub of-difference : signedDifference index first second room ≡ answer out
+      → SignedColumnOf index first second (suc (wider first second))
+      (λ r. pos (valueAt index first r) -ℤ pos (valueAt index second r)) out
+  pub of-smaller : smaller index first second room ≡ answer out
+      → ColumnOf index first second (wider first second) (λ r. min (valueAt index first r) (valueAt index second r)) out
+  pub of-zero : differenceOrZero index first second room ≡ answer out
+      → ColumnOf index first second (wider first second) (λ r. valueAt index first r - valueAt index second r) out
+  pub gives-back : signedDifference index first second room ≡ answer out
+      → (r : ℕ) → r < rowCount index → inBoth index first second r ≡ true → GivesBack index first second out r
+
+abbrev pub PairsHold : Type 0
+PairsHold = (index first second : List ℕ) (room : ℕ) (out : List ℕ) → PairLaws index first second room out

@@ -1,11 +1,14 @@
 -- Bit-sliced columns (source document 002) as sets of rows and numbers: the rows that exist, and for each binary digit of their
--- values, the lowest first, a slice, the rows that have it set. No index, refusal or buffer is known here. Request 1.
+-- values, the lowest first, a slice, the rows that have it set. No index, refusal or buffer is known here. Requests 1 and 7.
 -- Assumes nothing.
-use Prim.Native.Nat.{ℕ, zero, suc, _+_, _*_}
+use Prim.Native.Nat.{ℕ, zero, suc, _+_, _-_, _*_, _^_, min}
 use mathlib.Core.Bool.{Bool, _&&_}
 use mathlib.Core.List.{List, [], _∷_}
+use lib.IntN.{ℤ, pos, negℤ, _+ℤ_, _*ℤ_}
 use Rattle.meaning.specs.Rows.{bit}
 use Rattle.meaning.specs.Segment.{isSet, tabulate}
+use Rattle.meaning.specs.declared.Pairing.{Pairing}
+use Rattle.meaning.specs.declared.Pairing.the-variants.{Sum, Difference, Smaller, DifferenceOrZero}
 
 -- ---- a column's values
 
@@ -14,6 +17,14 @@ unfoldable pub valueOf : List (ℕ → Bool) → (r : ℕ) → ℕ
 unfolding bit
 valueOf [] r = 0
 valueOf (p ∷ ps) r = bit (p r) + 2 * valueOf ps r
+
+-- the value of row r in a signed column, which is two's complement with the top slice as its sign (request 7): as above, but the
+-- top slice's digit is negated, so that of n slices it weighs - 2 ^ (n - 1)
+unfoldable pub signedOf : List (ℕ → Bool) → (r : ℕ) → ℤ
+unfolding bit
+signedOf [] r = pos 0
+signedOf (p ∷ []) r = negℤ (pos (bit (p r)))
+signedOf (p ∷ q ∷ ps) r = pos (bit (p r)) +ℤ pos 2 *ℤ signedOf (q ∷ ps) r
 
 -- ---- a column made of values
 
@@ -38,7 +49,20 @@ columnOf exists value n = exists ∷ slicesFrom exists value 0 n
 abbrev pub whole : (n : ℕ) → List ℕ
 whole n = tabulate (suc n) (λ i. i)
 
--- ---- what an operation makes of two values, x and y, of a row; n is the number of slices of its answer, of which a sum makes no use
+-- ---- two columns
 
-unfoldable pub sumValue : (n x y : ℕ) → ℕ
-sumValue n x y = x + y
+-- what is made of two values, x and y, of a row, as a number whose n lowest digits are the answer's slices: the sum; the difference
+-- in two's complement, for which 2 ^ n more is no other answer, so that nothing below 0 comes up; the smaller; the difference, or 0
+-- where that is negative, which is what ℕ's own difference is (EXCEPT ALL of source document 002)
+unfoldable pub pairValue : Pairing → (n x y : ℕ) → ℕ
+pairValue Sum n x y = x + y
+pairValue Difference n x y = x + 2 ^ n - y
+pairValue Smaller n x y = min x y
+pairValue DifferenceOrZero n x y = x - y
+
+-- how many slices the answer has, where the wider column has w: a sum and a difference have one more
+unfoldable pub pairSlices : Pairing → (w : ℕ) → ℕ
+pairSlices Sum w = suc w
+pairSlices Difference w = suc w
+pairSlices Smaller w = w
+pairSlices DifferenceOrZero w = w

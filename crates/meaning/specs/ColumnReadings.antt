@@ -1,55 +1,83 @@
--- Readings of columns and of new indexes, worked out by hand from paper 01's format and request 1, as one table over the
+-- Readings of columns and of new indexes, worked out by hand from paper 01's format and requests 1 and 7, as one table over the
 -- definitions; `proofs/AllColumns` has the one claim.
 -- Assumes nothing.
 use Prim.Native.Nat.{ℕ, suc, _-_}
-use mathlib.Core.Bool.{Bool, true, _&&_}
+use mathlib.Core.Bool.{Bool, true, false, _&&_}
 use mathlib.Core.List.{List, [], _∷_, _++_}
 use lib.Dec.{eqb}
+use lib.IntN.{ℤ, pos, negsuc}
 use lib.ListN.{length, replicate}
 use Rattle.meaning.specs.Question.{isIn}
 use Rattle.meaning.specs.Answer.{bufferAfter, wordsReported, partOf, check}
 use Rattle.meaning.specs.NewIndex.{indexOf}
 use Rattle.meaning.specs.declared.Format.the-variants.{Ewah}
-use Rattle.meaning.specs.Columns.{value, sum}
+use Rattle.meaning.specs.Columns.{value, signedValue, pair}
+use Rattle.meaning.specs.Refusal.{Outcome, refused, answer}
+use Rattle.meaning.specs.declared.Pairing.{Pairing}
+use Rattle.meaning.specs.declared.Pairing.the-variants.{Sum, Difference, Smaller, DifferenceOrZero}
 use Rattle.meaning.specs.Column.{whole}
 use Rattle.meaning.specs.Rows.{none}
 use Rattle.meaning.specs.Readings.{same, isSound, isRefused, isAnswer, isNumber}
 
 -- ---- what a reading can say
 
--- of a new index, of a value, of a sum
+-- of a new index, of a value, of two columns
 pub data ColumnReading : Type 0 where
   -- the new index of these sets
   makes : (R : ℕ) (sets : List (ℕ → Bool)) (words : List ℕ) → ColumnReading
   -- the value at a row, or the refusal
   gives : (index list : List ℕ) (r v : ℕ) → ColumnReading
   denies : (index list : List ℕ) (r number bitmap word : ℕ) → ColumnReading
-  -- the sum: a sound index of exactly these words, with as much room or more, where what lies behind them stays; and 9 with
-  -- one word less
-  adds : (index first second words : List ℕ) → ColumnReading
-  -- a sum that is refused
-  declines : (index first second : List ℕ) (room number bitmap word : ℕ) → ColumnReading
-  -- a sum's value at a row, asked by this list
-  addsTo : (index first second : List ℕ) (room : ℕ) (list : List ℕ) (r v : ℕ) → ColumnReading
+  -- the same of a signed value
+  givesSigned : (index list : List ℕ) (r : ℕ) (z : ℤ) → ColumnReading
+  deniesSigned : (index list : List ℕ) (r number bitmap word : ℕ) → ColumnReading
+  -- an operation's answer: a sound index of exactly these words, with as much room or more, where what lies behind them stays;
+  -- and 9 with one word less
+  combines : (op : Pairing) (index first second words : List ℕ) → ColumnReading
+  -- an operation that is refused
+  declines : (op : Pairing) (index first second : List ℕ) (room number bitmap word : ℕ) → ColumnReading
+  -- an answer's value at a row, asked by this list; and a signed difference's
+  leadsTo : (op : Pairing) (index first second : List ℕ) (room : ℕ) (list : List ℕ) (r v : ℕ) → ColumnReading
+  leadsSigned : (index first second : List ℕ) (room : ℕ) (list : List ℕ) (r : ℕ) (z : ℤ) → ColumnReading
+
+unfoldable pub sameInteger : ℤ → ℤ → Bool
+sameInteger (pos n) (pos m) = eqb n m
+sameInteger (pos n) (negsuc m) = false
+sameInteger (negsuc n) (pos m) = false
+sameInteger (negsuc n) (negsuc m) = eqb n m
+
+unfoldable pub isInteger : Outcome ℤ → ℤ → Bool
+unfolding sameInteger
+isInteger (refused n b w) z = false
+isInteger (answer y) z = sameInteger y z
 
 -- the reading holds of the definitions
 unfoldable pub columnPasses : ColumnReading → Bool
-unfolding same isSound isRefused isAnswer isNumber partOf check indexOf value sum bufferAfter wordsReported
+unfolding same isSound isRefused isAnswer isNumber isInteger partOf check indexOf value signedValue pair bufferAfter wordsReported
 columnPasses (makes R sets words) = same (indexOf Ewah R sets) words && isSound (check words)
 columnPasses (gives index list r v) = isNumber (value index list r) v
 columnPasses (denies index list r number bitmap word) = isRefused (value index list r) number bitmap word
-columnPasses (adds index first second words) =
+columnPasses (givesSigned index list r z) = isInteger (signedValue index list r) z
+columnPasses (deniesSigned index list r number bitmap word) = isRefused (signedValue index list r) number bitmap word
+columnPasses (combines op index first second words) =
     let n = length words in
-    let o = sum index first second (suc n) in
+    let o = pair index op first second (suc n) in
     isSound (check words)
-    && isAnswer (sum index first second n) words
+    && isAnswer (pair index op first second n) words
     && same (bufferAfter o (replicate (suc n) 7)) (words ++ 7 ∷ [])
     && eqb (wordsReported o) n
-    && isRefused (sum index first second (n - 1)) 9 0 n
-columnPasses (declines index first second room number bitmap word) =
-    let o = sum index first second room in
+    && isRefused (pair index op first second (n - 1)) 9 0 n
+columnPasses (declines op index first second room number bitmap word) =
+    let o = pair index op first second room in
     isRefused o number bitmap word && same (bufferAfter o (replicate room 7)) (replicate room 7) && eqb (wordsReported o) 0
-columnPasses (addsTo index first second room list r v) = isNumber (value (partOf (sum index first second room)) list r) v
+columnPasses (leadsTo op index first second room list r v) =
+    isNumber (value (partOf (pair index op first second room)) list r) v
+columnPasses (leadsSigned index first second room list r z) =
+    isInteger (signedValue (partOf (pair index Difference first second room)) list r) z
+
+-- of a sum
+abbrev pub adds : (index first second words : List ℕ) → ColumnReading
+adds = combines Sum
 
 -- every reading of a table does
 unfoldable pub allColumnsPass : List ColumnReading → Bool
@@ -213,35 +241,159 @@ sumReadings =
     -- no rows: the bodies have no words
     ∷ adds noRows (two 0 1) (two 1 0) (1 ∷ 0 ∷ 3 ∷ 9 ∷ 0 ∷ 9 ∷ 0 ∷ 9 ∷ 0 ∷ [])
     -- 32 slices each, all digits set: twice 4,294,967,295, with 33 slices, in 3 + 68 + 34 words
-    ∷ addsTo threeRows (replicate 33 0) (replicate 33 0) 105 (whole 33) 2 8589934590
-    ∷ declines threeRows (replicate 33 0) (replicate 33 0) 104 9 0 105
+    ∷ leadsTo Sum threeRows (replicate 33 0) (replicate 33 0) 105 (whole 33) 2 8589934590
+    ∷ declines Sum threeRows (replicate 33 0) (replicate 33 0) 104 9 0 105
     -- 8: either list is too short, too long for a sum, or names a bitmap that is not there
-    ∷ declines threeRows (0 ∷ []) (two 0 1) 99 8 0 0
-    ∷ declines threeRows (two 0 1) [] 99 8 0 0
-    ∷ declines threeRows (replicate 34 0) (two 0 1) 99 8 0 0
-    ∷ declines threeRows (two 0 1) (replicate 34 0) 99 8 0 0
-    ∷ declines threeRows (two 0 6) (two 0 1) 99 8 0 0
-    ∷ declines threeRows (two 0 1) (two 6 1) 99 8 0 0
-    ∷ declines (1 ∷ 3 ∷ 0 ∷ []) (two 0 1) (two 0 1) 99 8 0 0
+    ∷ declines Sum threeRows (0 ∷ []) (two 0 1) 99 8 0 0
+    ∷ declines Sum threeRows (two 0 1) [] 99 8 0 0
+    ∷ declines Sum threeRows (replicate 34 0) (two 0 1) 99 8 0 0
+    ∷ declines Sum threeRows (two 0 1) (replicate 34 0) 99 8 0 0
+    ∷ declines Sum threeRows (two 0 6) (two 0 1) 99 8 0 0
+    ∷ declines Sum threeRows (two 0 1) (two 6 1) 99 8 0 0
+    ∷ declines Sum (1 ∷ 3 ∷ 0 ∷ []) (two 0 1) (two 0 1) 99 8 0 0
     -- 11: in the second column, against that column's own existence; the first column first
-    ∷ declines threeRows (triple 0 1 2) (triple 3 4 2) 99 11 2 1
-    ∷ declines threeRows (two 3 2) (two 3 0) 99 11 2 1
-    ∷ declines threeRows (two 3 0) (two 3 2) 99 11 0 1
-    ∷ declines fortyRows (triple 0 1 2) (triple 2 2 1) 99 11 1 39
+    ∷ declines Sum threeRows (triple 0 1 2) (triple 3 4 2) 99 11 2 1
+    ∷ declines Sum threeRows (two 3 2) (two 3 0) 99 11 2 1
+    ∷ declines Sum threeRows (two 3 0) (two 3 2) 99 11 0 1
+    ∷ declines Sum fortyRows (triple 0 1 2) (triple 2 2 1) 99 11 1 39
     -- a slice's rows may lie outside the other column's existence
     ∷ adds threeRows (two 0 2) (two 3 4)
     (1 ∷ 3 ∷ 3 ∷ 9 ∷ 2 ∷ 11 ∷ 2 ∷ 13 ∷ 2 ∷ 0x00020000 ∷ 0x5 ∷ 0x00020000 ∷ 0x1 ∷ 0x00020000 ∷ 0x4 ∷ [])
     -- 8 of either before 11 of either
-    ∷ declines threeRows (two 3 2) (two 3 6) 99 8 0 0
-    ∷ declines threeRows (0 ∷ []) (two 3 2) 99 8 0 0
+    ∷ declines Sum threeRows (two 3 2) (two 3 6) 99 8 0 0
+    ∷ declines Sum threeRows (0 ∷ []) (two 3 2) 99 8 0 0
     -- 11 before 9; 9 with the words needed
-    ∷ declines threeRows (two 0 1) (two 3 2) 0 11 2 1
-    ∷ declines threeRows (triple 0 1 2) (two 3 4) 0 9 0 18
+    ∷ declines Sum threeRows (two 0 1) (two 3 2) 0 11 2 1
+    ∷ declines Sum threeRows (triple 0 1 2) (two 3 4) 0 9 0 18
     -- the index's own faults before 8
-    ∷ declines (3 ∷ 3 ∷ 0 ∷ []) [] [] 0 2 0 0
+    ∷ declines Sum (3 ∷ 3 ∷ 0 ∷ []) [] [] 0 2 0 0
+    ∷ []
+
+-- signed values
+unfoldable pub signedReadings : List ColumnReading
+signedReadings =
+    -- one slice, which is the sign: 0 and - 1; two slices: 1, - 2 and - 1; the same slices with the sign first in the list
+    givesSigned threeRows (two 0 1) 1 (pos 0)
+    ∷ givesSigned threeRows (two 0 1) 0 (negsuc 0)
+    ∷ givesSigned threeRows (triple 0 1 2) 0 (pos 1)
+    ∷ givesSigned threeRows (triple 0 1 2) 1 (negsuc 1)
+    ∷ givesSigned threeRows (triple 0 1 2) 2 (negsuc 0)
+    ∷ givesSigned threeWah (triple 0 1 2) 1 (negsuc 1)
+    ∷ givesSigned threeRows (triple 0 2 1) 0 (negsuc 1)
+    ∷ givesSigned threeRows (triple 0 2 1) 1 (pos 1)
+    -- 33 slices: all set; the sign alone, and all but the sign, which are the least and the greatest value
+    ∷ givesSigned threeRows (replicate 34 0) 1 (negsuc 0)
+    ∷ givesSigned threeRows ((0 ∷ replicate 32 5) ++ 0 ∷ []) 1 (negsuc 4294967295)
+    ∷ givesSigned threeRows (replicate 33 0 ++ 5 ∷ []) 1 (pos 4294967295)
+    -- 32 slices: as many, and half as large
+    ∷ givesSigned threeRows ((0 ∷ replicate 31 5) ++ 0 ∷ []) 1 (negsuc 2147483647)
+    -- 8: the list is too short, too long, or names a bitmap that is not there; no such row, or it does not exist
+    ∷ deniesSigned threeRows (0 ∷ []) 0 8 0 0
+    ∷ deniesSigned threeRows (replicate 35 0) 0 8 0 0
+    ∷ deniesSigned threeRows (two 0 6) 0 8 0 0
+    ∷ deniesSigned threeRows (triple 0 1 2) 3 8 0 0
+    ∷ deniesSigned threeRows (two 3 4) 1 8 0 0
+    -- 11 behind it, of the sign too; and the index's own faults before it
+    ∷ deniesSigned threeRows (triple 3 4 2) 2 11 2 1
+    ∷ deniesSigned threeRows (two 3 2) 1 8 0 0
+    ∷ deniesSigned (3 ∷ 3 ∷ 0 ∷ []) [] 9 2 0 0
+    ∷ []
+
+-- differences, with their sign
+unfoldable pub differenceReadings : List ColumnReading
+differenceReadings =
+    -- 1, - 1 and 0: two slices of two columns of one
+    combines Difference threeRows (two 0 1) (two 0 2)
+    (1 ∷ 3 ∷ 3 ∷ 9 ∷ 1 ∷ 10 ∷ 2 ∷ 12 ∷ 2 ∷ 0x00000003 ∷ 0x00020000 ∷ 0x3 ∷ 0x00020000 ∷ 0x2 ∷ [])
+    ∷ leadsSigned threeRows (two 0 1) (two 0 2) 14 (whole 2) 0 (pos 1)
+    ∷ leadsSigned threeRows (two 0 1) (two 0 2) 14 (whole 2) 1 (negsuc 0)
+    ∷ leadsSigned threeRows (two 0 1) (two 0 2) 14 (whole 2) 2 (pos 0)
+    -- of 2 slices and of 1: 0 and 2; of 1 and of 2: 0 and - 2; row 1 exists in one alone
+    ∷ combines Difference threeRows (triple 0 1 2) (two 3 4)
+    (1 ∷ 3 ∷ 4 ∷ 11 ∷ 2 ∷ 13 ∷ 1 ∷ 14 ∷ 2 ∷ 16 ∷ 1
+    ∷ 0x00020000 ∷ 0x5 ∷ 0x00000002 ∷ 0x00020000 ∷ 0x4 ∷ 0x00000002 ∷ [])
+    ∷ combines Difference threeRows (two 3 4) (triple 0 1 2)
+    (1 ∷ 3 ∷ 4 ∷ 11 ∷ 2 ∷ 13 ∷ 1 ∷ 14 ∷ 2 ∷ 16 ∷ 2
+    ∷ 0x00020000 ∷ 0x5 ∷ 0x00000002 ∷ 0x00020000 ∷ 0x4 ∷ 0x00020000 ∷ 0x4 ∷ [])
+    ∷ combines Difference threeWah (two 3 4) (triple 0 1 2)
+    (2 ∷ 3 ∷ 4 ∷ 11 ∷ 1 ∷ 12 ∷ 1 ∷ 13 ∷ 1 ∷ 14 ∷ 1 ∷ 0x5 ∷ 0 ∷ 0x4 ∷ 0x4 ∷ [])
+    -- a column and itself: 0 throughout
+    ∷ combines Difference threeRows (triple 0 1 2) (triple 0 1 2)
+    (1 ∷ 3 ∷ 4 ∷ 11 ∷ 1 ∷ 12 ∷ 1 ∷ 13 ∷ 1 ∷ 14 ∷ 1 ∷ 0x00000003 ∷ 0x00000002 ∷ 0x00000002 ∷ 0x00000002 ∷ [])
+    -- 40 rows: - 2 in rows 0 to 31, and 0; - 1 in all of them, over the last segment's pad bits; - 1 in row 39 alone
+    ∷ combines Difference fortyRows (two 0 1) (triple 0 1 2)
+    (1 ∷ 40 ∷ 4 ∷ 11 ∷ 1 ∷ 12 ∷ 1 ∷ 13 ∷ 2 ∷ 15 ∷ 2
+    ∷ 0x00000005 ∷ 0x00000004 ∷ 0x00000003 ∷ 0x00000002 ∷ 0x00000003 ∷ 0x00000002 ∷ [])
+    ∷ combines Difference fortyRows (two 0 3) (two 0 0)
+    (1 ∷ 40 ∷ 3 ∷ 9 ∷ 1 ∷ 10 ∷ 1 ∷ 11 ∷ 1 ∷ 0x00000005 ∷ 0x00000005 ∷ 0x00000005 ∷ [])
+    ∷ combines Difference tailRows (two 1 2) (two 1 1)
+    (1 ∷ 40 ∷ 3 ∷ 9 ∷ 1 ∷ 10 ∷ 2 ∷ 12 ∷ 2 ∷ 0x00000005 ∷ 0x00020002 ∷ 0x00000080 ∷ 0x00020002 ∷ 0x00000080 ∷ [])
+    -- no row exists in both; no rows
+    ∷ combines Difference threeRows (two 5 5) (two 0 1)
+    (1 ∷ 3 ∷ 3 ∷ 9 ∷ 1 ∷ 10 ∷ 1 ∷ 11 ∷ 1 ∷ 0x00000002 ∷ 0x00000002 ∷ 0x00000002 ∷ [])
+    ∷ combines Difference noRows (two 0 1) (two 1 0) (1 ∷ 0 ∷ 3 ∷ 9 ∷ 0 ∷ 9 ∷ 0 ∷ 9 ∷ 0 ∷ [])
+    -- 32 slices: both ends, in 3 + 68 + 34 words
+    ∷ leadsSigned threeRows (replicate 33 0) (0 ∷ replicate 32 5) 105 (whole 33) 2 (pos 4294967295)
+    ∷ leadsSigned threeRows (0 ∷ replicate 32 5) (replicate 33 0) 105 (whole 33) 2 (negsuc 4294967294)
+    ∷ leadsSigned threeRows (two 0 5) (replicate 33 0) 105 (whole 33) 2 (negsuc 4294967294)
+    ∷ declines Difference threeRows (replicate 33 0) (two 0 5) 104 9 0 105
+    -- refused as a sum is
+    ∷ declines Difference threeRows (two 0 1) (replicate 34 0) 99 8 0 0
+    ∷ declines Difference threeRows (two 3 2) (two 3 6) 99 8 0 0
+    ∷ declines Difference threeRows (two 3 2) (two 3 0) 99 11 2 1
+    ∷ declines Difference threeRows (two 0 1) (two 3 2) 0 11 2 1
+    ∷ declines Difference (3 ∷ 3 ∷ 0 ∷ []) [] [] 0 2 0 0
+    ∷ []
+
+-- the smaller, and the difference or zero
+unfoldable pub smallerReadings : List ColumnReading
+smallerReadings =
+    -- 1 and 0, 0 and 1, 1 and 1: as many slices as the wider has
+    combines Smaller threeRows (two 0 1) (two 0 2) (1 ∷ 3 ∷ 2 ∷ 7 ∷ 1 ∷ 8 ∷ 2 ∷ 0x00000003 ∷ 0x00020000 ∷ 0x4 ∷ [])
+    ∷ combines DifferenceOrZero threeRows (two 0 1) (two 0 2)
+    (1 ∷ 3 ∷ 2 ∷ 7 ∷ 1 ∷ 8 ∷ 2 ∷ 0x00000003 ∷ 0x00020000 ∷ 0x1 ∷ [])
+    -- of 2 slices and of 1, both ways: the top slice is empty and its body is there
+    ∷ combines Smaller threeRows (triple 0 1 2) (two 3 4)
+    (1 ∷ 3 ∷ 3 ∷ 9 ∷ 2 ∷ 11 ∷ 2 ∷ 13 ∷ 1 ∷ 0x00020000 ∷ 0x5 ∷ 0x00020000 ∷ 0x5 ∷ 0x00000002 ∷ [])
+    ∷ combines Smaller threeRows (two 3 4) (triple 0 1 2)
+    (1 ∷ 3 ∷ 3 ∷ 9 ∷ 2 ∷ 11 ∷ 2 ∷ 13 ∷ 1 ∷ 0x00020000 ∷ 0x5 ∷ 0x00020000 ∷ 0x5 ∷ 0x00000002 ∷ [])
+    ∷ combines DifferenceOrZero threeRows (triple 0 1 2) (two 3 4)
+    (1 ∷ 3 ∷ 3 ∷ 9 ∷ 2 ∷ 11 ∷ 1 ∷ 12 ∷ 2 ∷ 0x00020000 ∷ 0x5 ∷ 0x00000002 ∷ 0x00020000 ∷ 0x4 ∷ [])
+    ∷ combines DifferenceOrZero threeRows (two 3 4) (triple 0 1 2)
+    (1 ∷ 3 ∷ 3 ∷ 9 ∷ 2 ∷ 11 ∷ 1 ∷ 12 ∷ 1 ∷ 0x00020000 ∷ 0x5 ∷ 0x00000002 ∷ 0x00000002 ∷ [])
+    ∷ combines Smaller threeWah (triple 0 1 2) (two 3 4)
+    (2 ∷ 3 ∷ 3 ∷ 9 ∷ 1 ∷ 10 ∷ 1 ∷ 11 ∷ 1 ∷ 0x5 ∷ 0x5 ∷ 0 ∷ [])
+    ∷ combines DifferenceOrZero threeWah (triple 0 1 2) (two 3 4)
+    (2 ∷ 3 ∷ 3 ∷ 9 ∷ 1 ∷ 10 ∷ 1 ∷ 11 ∷ 1 ∷ 0x5 ∷ 0 ∷ 0x4 ∷ [])
+    -- as values, asked by all their numbers
+    ∷ leadsTo Smaller threeRows (triple 0 1 2) (two 3 4) 14 (whole 2) 2 1
+    ∷ leadsTo DifferenceOrZero threeRows (triple 0 1 2) (two 3 4) 14 (whole 2) 2 2
+    -- a column and itself
+    ∷ combines Smaller threeRows (triple 0 1 2) (triple 0 1 2)
+    (1 ∷ 3 ∷ 3 ∷ 9 ∷ 1 ∷ 10 ∷ 2 ∷ 12 ∷ 2 ∷ 0x00000003 ∷ 0x00020000 ∷ 0x5 ∷ 0x00020000 ∷ 0x6 ∷ [])
+    ∷ combines DifferenceOrZero threeRows (triple 0 1 2) (triple 0 1 2)
+    (1 ∷ 3 ∷ 3 ∷ 9 ∷ 1 ∷ 10 ∷ 1 ∷ 11 ∷ 1 ∷ 0x00000003 ∷ 0x00000002 ∷ 0x00000002 ∷ [])
+    -- 40 rows: all but row 39 have 1 as the smaller, and it alone has 1 as the rest
+    ∷ combines Smaller tailRows (two 1 1) (two 1 2)
+    (1 ∷ 40 ∷ 2 ∷ 7 ∷ 1 ∷ 8 ∷ 2 ∷ 0x00000005 ∷ 0x00020003 ∷ 0x0000007F ∷ [])
+    ∷ combines DifferenceOrZero tailRows (two 1 1) (two 1 2)
+    (1 ∷ 40 ∷ 2 ∷ 7 ∷ 1 ∷ 8 ∷ 2 ∷ 0x00000005 ∷ 0x00020002 ∷ 0x00000080 ∷ [])
+    -- no rows
+    ∷ combines Smaller noRows (two 0 1) (two 1 0) (1 ∷ 0 ∷ 2 ∷ 7 ∷ 0 ∷ 7 ∷ 0 ∷ [])
+    -- 32 slices, in 3 + 66 + 33 words
+    ∷ leadsTo Smaller threeRows (replicate 33 0) (replicate 33 0) 102 (whole 32) 2 4294967295
+    ∷ leadsTo DifferenceOrZero threeRows (replicate 33 0) (two 0 0) 102 (whole 32) 2 4294967294
+    ∷ declines Smaller threeRows (replicate 33 0) (two 0 0) 101 9 0 102
+    ∷ declines DifferenceOrZero threeRows (two 0 0) (replicate 33 0) 101 9 0 102
+    -- refused as a sum is
+    ∷ declines Smaller threeRows (replicate 34 0) (two 0 1) 99 8 0 0
+    ∷ declines DifferenceOrZero threeRows (two 0 1) (replicate 34 0) 99 8 0 0
+    ∷ declines Smaller threeRows (two 3 0) (two 3 2) 99 11 0 1
+    ∷ declines DifferenceOrZero threeRows (two 0 1) (two 3 2) 0 11 2 1
     ∷ []
 
 -- all of them
 unfoldable pub columnReadings : List ColumnReading
-unfolding newReadings valueReadings sumReadings
-columnReadings = newReadings ++ valueReadings ++ sumReadings
+unfolding newReadings valueReadings sumReadings signedReadings differenceReadings smallerReadings
+columnReadings =
+    newReadings ++ valueReadings ++ sumReadings ++ signedReadings ++ differenceReadings ++ smallerReadings

@@ -1,11 +1,12 @@
 -- The outcome of every call on columns of an index. A list of bitmap numbers names a column: existence first, then its slices, the
--- lowest first; a number may be named twice. Request 1. The order of refusals is the index's own, 8, 11, 9.
+-- lowest first; a number may be named twice. Requests 1 and 7. The order of refusals is the index's own, 8, 11, 9.
 -- Assumes nothing.
-use Prim.Native.Nat.{ℕ, suc, _-_, max}
+use Prim.Native.Nat.{ℕ, _-_, max}
 use mathlib.Core.Bool.{Bool, false, not, _||_}
 use mathlib.Core.List.{List, [], _∷_}
 use lib.Dec.{leb, ltb}
 use lib.ListN.{length}
+use lib.IntN.{ℤ}
 use Rattle.meaning.specs.Limits.{leastColumn, mostColumn, mostValueColumn}
 use Rattle.meaning.specs.Rows.{countBelow, nthBelow}
 use Rattle.meaning.specs.Refusal.{Outcome, answer, Verdict, sound, refuseIf, _then_}
@@ -13,7 +14,9 @@ use Rattle.meaning.specs.Index.{formatOf, rowCount, rowsAt}
 use Rattle.meaning.specs.Question.{intersection, difference}
 use Rattle.meaning.specs.Answer.{check, anyBad, named}
 use Rattle.meaning.specs.NewIndex.{writeIndex}
-use Rattle.meaning.specs.Column.{valueOf, columnOf, sumValue}
+use Rattle.meaning.specs.Column.{valueOf, signedOf, columnOf, pairValue, pairSlices}
+use Rattle.meaning.specs.declared.Pairing.{Pairing}
+use Rattle.meaning.specs.declared.Pairing.the-variants.{Sum, Difference, Smaller, DifferenceOrZero}
 
 -- how many slices a list names
 unfoldable pub sliceCount : List ℕ → ℕ
@@ -23,6 +26,11 @@ sliceCount list = length list - 1
 unfoldable pub wider : (first second : List ℕ) → ℕ
 unfolding sliceCount
 wider first second = max (sliceCount first) (sliceCount second)
+
+-- how many slices an operation's answer on two columns has
+unfoldable pub pairWidth : (op : Pairing) (first second : List ℕ) → ℕ
+unfolding pairSlices wider
+pairWidth op first second = pairSlices op (wider first second)
 
 module _ (index : List ℕ) where
   -- ---- the column that a list names
@@ -43,6 +51,11 @@ module _ (index : List ℕ) where
   unfoldable pub valueAt : List ℕ → ℕ → ℕ
   unfolding valueOf slicesOf
   valueAt list r = valueOf (slicesOf list) r
+
+  -- the same in a signed column
+  unfoldable pub signedAt : List ℕ → ℕ → ℤ
+  unfolding signedOf slicesOf
+  signedAt list r = signedOf (slicesOf list) r
 
   -- ---- refusals
 
@@ -78,39 +91,59 @@ module _ (index : List ℕ) where
 
   -- ---- a value
 
-  -- what is left once the index is sound: every 8 comes before any 11
-  unfoldable pub askValue : (list : List ℕ) (r : ℕ) → Outcome ℕ
-  unfolding _then_ refuseIf badColumn badRow strays valueAt
-  askValue list r =
-      refuseIf (badColumn mostValueColumn list || badRow list r) 8 0 0
-      (strays list then answer (valueAt list r))
+  -- what is left once the index is sound, where the row's value is v: every 8 comes before any 11
+  unfoldable pub askAt : {A : Type 0} (list : List ℕ) (r : ℕ) (v : A) → Outcome A
+  unfolding _then_ refuseIf badColumn badRow strays
+  askAt list r v = refuseIf (badColumn mostValueColumn list || badRow list r) 8 0 0 (strays list then answer v)
 
   -- `value`
+  unfoldable pub askValue : (list : List ℕ) (r : ℕ) → Outcome ℕ
+  unfolding askAt valueAt
+  askValue list r = askAt list r (valueAt list r)
+
   unfoldable pub value : (list : List ℕ) (r : ℕ) → Outcome ℕ
   unfolding check _then_ askValue
   value list r = check index then askValue list r
 
+  -- `signed_value`
+  unfoldable pub askSignedValue : (list : List ℕ) (r : ℕ) → Outcome ℤ
+  unfolding askAt signedAt
+  askSignedValue list r = askAt list r (signedAt list r)
+
+  unfoldable pub signedValue : (list : List ℕ) (r : ℕ) → Outcome ℤ
+  unfolding check _then_ askSignedValue
+  signedValue list r = check index then askSignedValue list r
+
   -- ---- two columns, as a new index: a row exists in it if it does in both
 
-  -- the bitmaps of an answer of n slices, whose value at a row is `op n` of the two columns' values
-  unfoldable pub pairColumn : (op : (n x y : ℕ) → ℕ) (n : ℕ) (first second : List ℕ) → List (ℕ → Bool)
-  unfolding columnOf intersection existing valueAt
+  -- the bitmaps of an answer of n slices
+  unfoldable pub pairColumn : (op : Pairing) (n : ℕ) (first second : List ℕ) → List (ℕ → Bool)
+  unfolding columnOf intersection existing valueAt pairValue
   pairColumn op n first second =
-      columnOf (intersection (existing first) (existing second)) (λ r. op n (valueAt first r) (valueAt second r)) n
+      columnOf (intersection (existing first) (existing second))
+      (λ r. pairValue op n (valueAt first r) (valueAt second r)) n
 
   -- what is left once the index is sound
-  unfoldable pub askPair : (op : (n x y : ℕ) → ℕ) (n : ℕ) (first second : List ℕ) (room : ℕ) → Outcome (List ℕ)
-  unfolding _then_ refuseIf badColumn strays writeIndex rowCount pairColumn
-  askPair op n first second room =
+  unfoldable pub askPair : (op : Pairing) (first second : List ℕ) (room : ℕ) → Outcome (List ℕ)
+  unfolding _then_ refuseIf badColumn strays writeIndex rowCount pairColumn pairWidth
+  askPair op first second room =
       refuseIf (badColumn mostColumn first || badColumn mostColumn second) 8 0 0
-      (strays first then strays second then writeIndex (formatOf index) (rowCount index) (pairColumn op n first second) room)
+      (strays first then strays second then
+      writeIndex (formatOf index) (rowCount index) (pairColumn op (pairWidth op first second) first second) room)
 
-  -- the sum has one slice more than the wider column
-  unfoldable pub askSum : (first second : List ℕ) (room : ℕ) → Outcome (List ℕ)
-  unfolding askPair sumValue wider
-  askSum first second room = askPair sumValue (suc (wider first second)) first second room
+  unfoldable pub pair : (op : Pairing) (first second : List ℕ) (room : ℕ) → Outcome (List ℕ)
+  unfolding check _then_ askPair
+  pair op first second room = check index then askPair op first second room
 
-  -- `sum`
-  unfoldable pub sum : (first second : List ℕ) (room : ℕ) → Outcome (List ℕ)
-  unfolding check _then_ askSum
-  sum first second room = check index then askSum first second room
+  -- `sum`, `signed_difference`, `smaller` and `difference_or_zero`
+  abbrev pub sum : (first second : List ℕ) (room : ℕ) → Outcome (List ℕ)
+  sum = pair Sum
+
+  abbrev pub signedDifference : (first second : List ℕ) (room : ℕ) → Outcome (List ℕ)
+  signedDifference = pair Difference
+
+  abbrev pub smaller : (first second : List ℕ) (room : ℕ) → Outcome (List ℕ)
+  smaller = pair Smaller
+
+  abbrev pub differenceOrZero : (first second : List ℕ) (room : ℕ) → Outcome (List ℕ)
+  differenceOrZero = pair DifferenceOrZero

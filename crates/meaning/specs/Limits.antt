@@ -54,7 +54,7 @@ abbrev pub shortNumbers : ℕ
 shortNumbers = placeNumbers * shortNamed
 
 -- Request 1: the fewest numbers that name a column (existence and one slice), the most (existence and 32 slices), and the most
--- where only a value is asked (existence and the 33 slices that a sum can have)
+-- where only a value is asked (existence and the 33 slices that a sum or, request 7, a difference can have)
 abbrev pub leastColumn : ℕ
 leastColumn = 2
 
