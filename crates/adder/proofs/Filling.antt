@@ -1,18 +1,19 @@
 -- A block filled row by row: what exists, and then the digits of an operation, whichever it is.
 -- Assumes nothing.
-use Prim.Native.Nat.{ℕ, _+_, _-_, _*_, _^_, _≤_, _<_}
-use mathlib.Core.Bool.{Bool, cond, _&&_}
+use Prim.Native.Nat.{ℕ, _+_, _-_, _*_, _/_, _^_, _≤_, _<_}
+use mathlib.Core.Bool.{Bool, false, cond, _&&_}
 use mathlib.Core.Path.{_≡_, sym, ap, ap₂, _∙_, subst}
 use mathlib.Core.List.{List}
 use lib.Bits.{bitAnd, and-le-l}
 use lib.Dec.{ltb}
 use lib.ListN.{length, getD, set}
-use native.Mathlib.Nat.{zero-add}
-use native.Mathlib.Decide.{ℕ-discrete}
+use lib.Pow.{pow-mono}
+use native.Mathlib.Nat.{zero-add, div-eq-of-lt}
+use native.Mathlib.Decide.{decLe, ℕ-discrete}
 use native.Mathlib.Omega.{arith}
 use borrow.Author.Tests.{lt-ltb, le-ltb}
-use Rattle.meaning.specs.Limits.{blockSegments, blockWords}
-use Rattle.meaning.specs.Segment.{isSet}
+use Rattle.meaning.specs.Limits.{wordBits, blockSegments, blockWords}
+use Rattle.meaning.specs.Segment.{bitAt, isSet}
 use Rattle.words.proofs.BitLaws.{and-set}
 use Rattle.words.proofs.Entries.{Filled, filled-from, filled-more}
 use Rattle.adder.specs.Digits.{numberAt, Paired}
@@ -60,7 +61,7 @@ module _ (a b : List ℕ) where
 -- ---- what exists
 
 -- the first row begins at 0
-at-first : (z : List ℕ) (w : ℕ) → getD z (0 + w) 0 ≡ getD z w 0
+pub at-first : (z : List ℕ) (w : ℕ) → getD z (0 + w) 0 ≡ getD z w 0
 at-first z w = ap (λ (i : ℕ). getD z i 0) (zero-add w)
 
 -- the first rows a of x and b of y were put as the first row of z
@@ -103,11 +104,19 @@ filling-none op n g = record {
   digits = λ m w j h l. absurd (omega arith);
 }
 
--- one digit more
-pub filling-more : {op : (n x y : ℕ) → ℕ} {x y e d z z′ : List ℕ} {n i : ℕ}
-    → ((w j : ℕ) → w < blockSegments → isSet (getD d w 0) j ≡ digitSet op x y n i w j)
-    → PutBoth e d z ((i + 1) * blockSegments) z′ → Filling op x y e n i z → Filling op x y e n (i + 1) z′
-filling-more {op} {x} {y} {e} {d} {z} {z′} {n} {i} h put g = record {
+-- a word has no bit past its width
+pub past-clear : (v j : ℕ) → v < 2 ^ 32 → wordBits ≤ j → isSet v j ≡ false
+unfolding isSet bitAt
+past-clear v j h l =
+    let z : v / 2 ^ j ≡ 0 = div-eq-of-lt (omega (arith, h, pow-mono {i = 32} {j = j} l)) in
+    rw z
+
+-- one digit more, where the row put has it in the rows that exist
+pub filling-put : {op : (n x y : ℕ) → ℕ} {x y e a b z z′ : List ℕ} {n i : ℕ}
+    → ((w j : ℕ) → w < blockSegments
+    → isSet (bitAnd (getD a w 0) (getD b w 0)) j ≡ isSet (getD e w 0) j && digitSet op x y n i w j)
+    → PutBoth a b z ((i + 1) * blockSegments) z′ → Filling op x y e n i z → Filling op x y e n (i + 1) z′
+filling-put {op} {x} {y} {e} {a} {b} {z} {z′} {n} {i} h put g = record {
   long = put .long ∙ g .long;
   low = low;
   same = λ w l. put .before w (omega arith) ∙ g .same w l;
@@ -123,11 +132,31 @@ filling-more {op} {x} {y} {e} {d} {z} {z′} {n} {i} h put g = record {
     digits : (m w j : ℕ) → m < i + 1 → w < blockSegments
         → isSet (getD z′ ((m + 1) * blockSegments + w) 0) j ≡ isSet (getD e w 0) j && digitSet op x y n m w j
     digits m w j s l = elim (ℕ-discrete m i) [
-      | yes t ↦ rw t
-          (ap (λ (v : ℕ). isSet v j) (put .words w l) ∙ and-set (getD e w 0) (getD d w 0) j
-          ∙ ap (λ (b : Bool). isSet (getD e w 0) j && b) (h w j l))
+      | yes t ↦ rw t (ap (λ (v : ℕ). isSet v j) (put .words w l) ∙ h w j l)
       | no t ↦ ap (λ (v : ℕ). isSet v j) (put .before ((m + 1) * blockSegments + w) (omega arith))
           ∙ g .digits m w j (omega arith) l
+    ]
+
+-- the same, where the row d has the digit at each bit and existence masks it
+pub filling-more : {op : (n x y : ℕ) → ℕ} {x y e d z z′ : List ℕ} {n i : ℕ}
+    → ((w j : ℕ) → w < blockSegments → j < wordBits → isSet (getD d w 0) j ≡ digitSet op x y n i w j)
+    → PutBoth e d z ((i + 1) * blockSegments) z′ → Filling op x y e n i z → Filling op x y e n (i + 1) z′
+filling-more {op} {x} {y} {e} {d} {z} {z′} {n} {i} h put g = filling-put masked put g
+  where
+    e-low : (w : ℕ) → w < blockSegments → getD e w 0 < 2 ^ 32
+    e-low w l =
+        let first : 0 * blockSegments + w ≡ w = omega arith in
+        rw (← g .same w l) (rw first at (g .low 0 w (omega arith) l))
+
+    masked : (w j : ℕ) → w < blockSegments
+        → isSet (bitAnd (getD e w 0) (getD d w 0)) j ≡ isSet (getD e w 0) j && digitSet op x y n i w j
+    masked w j l = elim (decLe wordBits j) [
+      | yes k ↦
+          let clear : isSet (getD e w 0) j ≡ false = past-clear (getD e w 0) j (e-low w l) k in
+          and-set (getD e w 0) (getD d w 0) j ∙ rw clear
+      | no k ↦
+          and-set (getD e w 0) (getD d w 0) j
+          ∙ ap (λ (t : Bool). isSet (getD e w 0) j && t) (h w j l (omega arith))
     ]
 
 -- all n digits

@@ -1,2 +1,4 @@
+pub mod Bits
 pub mod Adding
 pub mod Filling
+pub mod Choosing

@@ -1,18 +1,27 @@
 -- A block's rows taken out of it and put into it, and the row of what exists in both of two blocks.
 -- Assumes nothing.
-use Prim.Native.Nat.{ℕ, _+_, _≤_, _<_, _^_}
-use mathlib.Core.Bool.{_&&_}
+use Prim.Native.Nat.{ℕ, _+_, _-_, _≤_, _<_, _^_}
+use mathlib.Core.Bool.{cond, _&&_}
 use mathlib.Core.Path.{_≡_}
 use mathlib.Core.List.{List}
 use lib.Bits.{bitAnd}
 use lib.ListN.{length, getD}
-use Rattle.meaning.specs.Limits.{blockSegments, blockWords}
-use Rattle.meaning.specs.Segment.{isSet}
+use Rattle.meaning.specs.Limits.{wordBits, blockSegments, blockWords}
+use Rattle.meaning.specs.Segment.{bitAt, isSet}
 use Rattle.words.specs.Sums.{PartOf}
 
 -- r is the row of x that begins at `at`
 abbrev pub RowOf : (x : List ℕ) (at : ℕ) (r : List ℕ) → Type 0
 RowOf = PartOf blockSegments
+
+-- each bit of r's words is the other than a's
+pub record Flipped (a r : List ℕ) : Type 0 where
+  pub bits : (w j : ℕ) → w < blockSegments → j < wordBits → bitAt (getD r w 0) j ≡ 1 - bitAt (getD a w 0) j
+
+-- r has the bits of b where m has one, and those of a elsewhere
+pub record ChosenBy (a b m r : List ℕ) : Type 0 where
+  pub bits : (w j : ℕ) → w < blockSegments
+      → isSet (getD r w 0) j ≡ cond (isSet (getD m w 0) j) (isSet (getD b w 0) j) (isSet (getD a w 0) j)
 
 -- the row of z that begins at `at` became the common bits of a and b, and all other words stay
 pub record PutBoth (a b z : List ℕ) (at : ℕ) (z′ : List ℕ) : Type 0 where

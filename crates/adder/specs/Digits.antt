@@ -4,8 +4,9 @@ use Prim.Native.Nat.{ℕ, _+_, _*_, _^_, _≤_, _<_}
 use mathlib.Core.Bool.{_&&_}
 use mathlib.Core.Path.{_≡_}
 use mathlib.Core.List.{List}
+use lib.Dec.{leb}
 use lib.ListN.{length, getD}
-use Rattle.meaning.specs.Limits.{blockSegments, blockWords}
+use Rattle.meaning.specs.Limits.{wordBits, blockSegments, blockWords}
 use Rattle.meaning.specs.Rows.{sumBelow}
 use Rattle.meaning.specs.Segment.{bitAt, isSet}
 
@@ -23,3 +24,8 @@ pub record Paired (op : (n x y : ℕ) → ℕ) (x y : List ℕ) (n : ℕ) (z : L
   pub digits : (i w j : ℕ) → i < n → w < blockSegments
       → isSet (getD z ((i + 1) * blockSegments + w) 0) j
       ≡ isSet (getD z w 0) j && isSet (op n (numberAt x n w j) (numberAt y n w j)) i
+
+-- r has the bits at which x's number of n digits is no less than y's
+pub record NotLess (x y : List ℕ) (n : ℕ) (r : List ℕ) : Type 0 where
+  pub bits : (w j : ℕ) → w < blockSegments → j < wordBits
+      → isSet (getD r w 0) j ≡ leb (numberAt y n w j) (numberAt x n w j)

@@ -1,9 +1,9 @@
-// The rows of blocks: taken out, put in, and the row of what exists in both of two blocks.
+// The rows of blocks: taken out, flipped, put in, and the row of what exists in both of two blocks.
 ghost use mathlib.Core.Path.{_≡_};
 ghost use Prim.Native.Nat.{_+_, _≤_};
 ghost use lib.ListN.{length};
 ghost use Rattle.meaning.specs.Limits.{blockSegments, blockWords};
-ghost use Rattle.adder.specs.Blocks.{RowOf, PutBoth, Existing};
+ghost use Rattle.adder.specs.Blocks.{RowOf, Flipped, PutBoth, Existing};
 use meaning::BLOCK_SEGMENTS;
 use meaning::BLOCK_WORDS;
 
@@ -15,6 +15,17 @@ pub fn row(x: &[u32; BLOCK_WORDS], at: usize) -> [u32; BLOCK_SEGMENTS]
     let mut r: [u32; BLOCK_SEGMENTS] = [0; BLOCK_SEGMENTS];
     for w in 0..BLOCK_SEGMENTS {
         r[w] = x[at + w];
+    }
+    r
+}
+
+// Each bit the other way round.
+pub fn flipped(a: [u32; BLOCK_SEGMENTS]) -> [u32; BLOCK_SEGMENTS]
+    ensures { λ r. ⌜ Flipped a r ⌝ }
+{
+    let mut r: [u32; BLOCK_SEGMENTS] = [0; BLOCK_SEGMENTS];
+    for w in 0..BLOCK_SEGMENTS {
+        r[w] = !a[w];
     }
     r
 }

@@ -1,4 +1,4 @@
--- `adder::add` meets its contract. The invariant: the first w words of both rows are there.
+-- `adder::chain::add` meets its contract. The invariant: the first w words of both rows are there.
 -- Assumes nothing.
 use mathlib.Core.Path.{_≡_, refl}
 use mathlib.Core.List.{List}
@@ -9,8 +9,8 @@ use Rattle.words.proofs.Entries.{Filled, filled-from, filled-more}
 use Rattle.words.proofs.Adders.{digitWord, carryWord, wordwise, added-all}
 use borrow.Author.Needs.{needs}
 use native.Mathlib.Omega.{arith}
-use Rattle.adder.proofs.add.Statement.{statement}
-use Rattle.adder.proofs.add.Tie as tie
+use Rattle.adder.proofs.chain.add.Statement.{statement}
+use Rattle.adder.proofs.chain.add.Tie as tie
 
 abbrev Inv-loop : tie.InvT-loop
 Inv-loop a b c digits₀ carries₀ w₀ digits carries w =

@@ -1,19 +1,21 @@
--- `adder::sum` meets its contract. The invariant: what exists and the i lowest digits of the sums are there, and the
+-- `adder::chain::sum` meets its contract. The invariant: what exists and the i lowest digits of the sums are there, and the
 -- carries into digit i.
 -- Assumes nothing.
 use Prim.Native.Nat.{_-_, _≤_}
 use mathlib.Core.Path.{_≡_}
 use denote.Ref.{now}
-use Rattle.meaning.specs.Column.{sumValue}
-use Rattle.adder.proofs.Adding.{Carrying, carrying-none, carrying-more, digits-summed}
+use Rattle.meaning.specs.Column.{pairValue}
+use Rattle.meaning.specs.declared.Pairing.the-variants.{Sum}
+use Rattle.adder.proofs.Adding.{SumCarry, row-digit, carrying-none, carrying-more, digits-summed}
+use Rattle.adder.proofs.Bits.{zero-bit}
 use Rattle.adder.proofs.Filling.{Filling, filling-none, filling-more, filling-all}
 use borrow.Author.Needs.{needs}
 use native.Mathlib.Omega.{arith}
-use Rattle.adder.proofs.sum.Statement.{statement}
-use Rattle.adder.proofs.sum.Tie as tie
+use Rattle.adder.proofs.chain.sum.Statement.{statement}
+use Rattle.adder.proofs.chain.sum.Tie as tie
 
 abbrev Inv-loop : tie.InvT-loop
-Inv-loop x y z₀ n exist carry₀ i₀ z carry i = (i ≤ n) × Carrying x y i carry × Filling sumValue x y exist n i z
+Inv-loop x y z₀ n exist carry₀ i₀ z carry i = (i ≤ n) × SumCarry x y i carry × Filling (pairValue Sum) x y exist n i z
 
 abbrev μ-loop : tie.MeasureT-loop
 μ-loop x y z₀ n exist carry₀ i₀ z carry i = n - i
@@ -24,7 +26,7 @@ exist-requires c κs = search needs
 loop-holds : tie.Need-loop-holds Inv-loop μ-loop
 loop-holds c =
     let a = c .before .before .args in
-    (omega arith, carrying-none (now (a .x)) (now (a .y)), filling-none sumValue (a .n) (c .exist .ensures))
+    (omega arith, carrying-none 0 _ _ 0 (λ j k. zero-bit j), filling-none (pairValue Sum) (a .n) (c .exist .ensures))
 
 add-at : tie.Need-add-at Inv-loop μ-loop
 add-at c = search needs
@@ -55,11 +57,13 @@ loop-again c =
     let d = c .before .before .before .before in
     let h = d .before .before .before .before .loop in
     let a = d .before .before .before .before .before .before .before .args in
-    let first = d .before .before .row .ensures in
-    let second = d .before .row2 .ensures in (
+    let first = row-digit (d .before .before .row .ensures) in
+    let second = row-digit (d .before .row2 .ensures) in (
       omega arith,
       carrying-more (h .inv .1) first second (d .add .ensures),
-      filling-more (λ w j l. digits-summed (h .inv .1) first second (d .add .ensures) (a .n) w j (omega arith) l)
+      filling-more
+          (λ w j l k.
+          digits-summed (now (a .x)) (now (a .y)) (h .inv .1) first second (d .add .ensures) (a .n) w j (omega arith) l k)
           (c .before .put-both .ensures) (h .inv .2),
     )
 
