@@ -15,7 +15,6 @@ use Rattle.meaning.specs.Segment.{allSet, bitAt, isSet}
 use Rattle.meaning.specs.Format.{width, segmentsOf, rowsOf}
 use Rattle.meaning.specs.declared.Format.{Format}
 use Rattle.meaning.specs.Index.{formatOf}
-use Rattle.meaning.specs.Column.{sumValue}
 use Rattle.laws.proofs.RowWords.{word-by-bits, eqb-bit}
 use Rattle.laws.proofs.Formats.{width-pos}
 use Rattle.laws.proofs.Sums.{sum-ext}
@@ -98,10 +97,10 @@ number-alike w x n j l h =
     first : ℕ → ℕ
     first i = getD x ((i + 1) * blockSegments + 0) 0
 
--- ---- their sum
+-- ---- what an operation makes of them
 
-module _ (F : Format) (N : ℕ) (x y z : List ℕ) (ax : AllAlike (width F) x) (ay : AllAlike (width F) y)
-    (p : Paired sumValue x y N z)
+module _ (F : Format) (op : (n x y : ℕ) → ℕ) (N : ℕ) (x y z : List ℕ) (ax : AllAlike (width F) x) (ay : AllAlike (width F) y)
+    (p : Paired op x y N z)
     (low : (b : ℕ) → b ≤ N → getD z (b * blockSegments + 0) 0 < 2 ^ width F) where
   first-word : (v : List ℕ) → AllAlike (width F) v → (j : ℕ) → j < width F → isSet (getD v 0 0) j ≡ isSet (getD v 0 0) 0
   first-word v a j k = a 0 j k
@@ -120,7 +119,7 @@ module _ (F : Format) (N : ℕ) (x y z : List ℕ) (ax : AllAlike (width F) x) (
       rw s
       (p .digits b 0 j (omega arith) (omega arith)
       ∙ ap₂ (λ (a : Bool) (t : ℕ). a && isSet t b) (exists-alike j k)
-      (ap₂ (sumValue N) (number-alike (width F) x N j k ax) (number-alike (width F) y N j k ay))
+      (ap₂ (op N) (number-alike (width F) x N j k ax) (number-alike (width F) y N j k ay))
       ∙ sym (p .digits b 0 0 (omega arith) (omega arith)))
 
   pub clean-words : (b : ℕ) → b ≤ N → CleanWord F (getD z (b * blockSegments) 0)

@@ -13,7 +13,8 @@ use Rattle.meaning.specs.declared.Format.{Format}
 use Rattle.meaning.specs.declared.Format.the-variants.{Ewah, Wah}
 use Rattle.meaning.specs.Index.{formatOf, rowCount}
 use Rattle.laws.specs.Laws.{IndexFacts}
-use Rattle.meaning.specs.Column.{sumValue}
+use Rattle.meaning.specs.Column.{pairValue}
+use Rattle.meaning.specs.declared.Pairing.{Pairing}
 use Rattle.laws.proofs.Formats.{facts-count, segments-most}
 use Rattle.ewah.specs.Cursors.{leftOf}
 use Rattle.body_write.specs.Bodies.{Stands, Growing, RoomFor, UpTo}
@@ -27,7 +28,7 @@ use Rattle.new_index.proofs.Regions.{region-length}
 use Rattle.pairs.specs.Passes.{Columns, Chosen, bodyOf, PassedTo}
 use Rattle.pairs.specs.Spellings.{Spelled}
 use Rattle.pairs.proofs.Blocks.{sets, segs, segs-length}
-use Rattle.pairs.proofs.Rows.{BlockOf, Cleared, sum-low, row-part}
+use Rattle.pairs.proofs.Rows.{BlockOf, Cleared, pair-low, row-part}
 use Rattle.pairs.proofs.Evenly.{AllAlike, alike, clean-words}
 
 -- how many segments a body has
@@ -71,19 +72,20 @@ module _ {index list ns : List ℕ} {o : ℕ} (g : Walking index list ns o) wher
 -- ---- the pass
 
 -- the segments of body i
-abbrev ownSegments : (index first second : List ℕ) (n i : ℕ) → List Segment
-ownSegments index first second n i = segs (formatOf index) (rowCount index) (sets index first second n i)
+abbrev ownSegments : (op : Pairing) (index first second : List ℕ) (n i : ℕ) → List Segment
+ownSegments op index first second n i = segs (formatOf index) (rowCount index) (sets op index first second n i)
 
-body-is : (index first second : List ℕ) (n i : ℕ)
-    → wordsOf (formatOf index) (rowCount index) (ownSegments index first second n i) ≡ bodyOf index first second n i
-body-is index first second n i = unfold canonical in refl
+body-is : (op : Pairing) (index first second : List ℕ) (n i : ℕ)
+    → wordsOf (formatOf index) (rowCount index) (ownSegments op index first second n i)
+    ≡ bodyOf op index first second n i
+body-is op index first second n i = unfold canonical in refl
 
 -- a run can be as long as a block
 block-low : (F : Format) → blockSegments ≤ mostRun F
 block-low Ewah = omega arith
 block-low Wah = omega arith
 
-module _ (index first second : List ℕ) (n : ℕ) (starts old : List ℕ) (store : Bool) where
+module _ (op : Pairing) (index first second : List ℕ) (n : ℕ) (starts old : List ℕ) (store : Bool) where
   -- both lists' cursors stand at segment o, and of each body the first o segments are put, in its part of the buffer
   pub record Passing (out ns1 ns2 ws : List ℕ) (o : ℕ) : Type 0 where
     pub here : o ≤ S index
@@ -91,7 +93,7 @@ module _ (index first second : List ℕ) (n : ℕ) (starts old : List ℕ) (stor
     pub second-walking : Walking index second ns2 o
     pub numbers-long : length ws ≡ writersNumbers
     pub bodies : (i : ℕ) → i ≤ n
-        → UpTo (formatOf index) (rowCount index) (ownSegments index first second n i) store
+        → UpTo (formatOf index) (rowCount index) (ownSegments op index first second n i) store
         (region starts old i) (region starts out i) (writerOf ws i) o
     pub long : length out ≡ length old
     pub front : take (getD starts 0 0) out ≡ take (getD starts 0 0) old
@@ -106,7 +108,7 @@ module _ (index first second : List ℕ) (n : ℕ) (starts old : List ℕ) (stor
     second-walking = b;
     numbers-long = h;
     bodies = λ i l.
-        up-none (rowCount index) (ownSegments index first second n i) store (region starts old i)
+        up-none (rowCount index) (ownSegments op index first second n i) store (region starts old i)
         (subst (λ (F : Format). Stands F (writerOf ws i) []) e (g i (omega (arith, cs .few))));
     long = refl;
     front = refl;
@@ -122,8 +124,8 @@ MayEmit starts out ws z n m even store f =
     × (store ≡ true → (i : ℕ) → i < n + 1
     → RoomFor f (rowOf f z m even i) (writerOf ws i) (length (region starts out i)))
 
-module _ {index first second : List ℕ} {n : ℕ} {starts old : List ℕ} {store : Bool} {out ns1 ns2 ws : List ℕ} {o : ℕ}
-    (cs : Columns index first second n) (g : Passing index first second n starts old store out ns1 ns2 ws o) where
+module _ {op : Pairing} {index first second : List ℕ} {n : ℕ} {starts old : List ℕ} {store : Bool}
+    {out ns1 ns2 ws : List ℕ} {o : ℕ} (cs : Columns index first second n) (g : Passing op index first second n starts old store out ns1 ns2 ws o) where
   abbrev F : Format
   F = formatOf index
 
@@ -131,10 +133,10 @@ module _ {index first second : List ℕ} {n : ℕ} {starts old : List ℕ} {stor
   R = rowCount index
 
   abbrev T : ℕ → List Segment
-  T i = ownSegments index first second n i
+  T i = ownSegments op index first second n i
 
   long : (i : ℕ) → length (T i) ≡ S index
-  long i = segs-length F R (sets index first second n i)
+  long i = segs-length F R (sets op index first second n i)
 
   -- ---- one block more: m segments, where no piece ends before `near`
   module _ {near m : ℕ} {even : Bool} (ch : Chosen near (S index) o m even)
@@ -151,28 +153,28 @@ module _ {index first second : List ℕ} {n : ℕ} {starts old : List ℕ} {stor
         go false e = omega (arith, ch .in-block e, block-low F)
 
     module _ {x y z z′ : List ℕ} (bx : BlockOf index first o m even x) (by : BlockOf index second o m even y)
-        (p : Paired sumValue x y n z) (sp : Spelled (formatOf index) (rowCount index) o m even z (n + 1) z′) where
+        (p : Paired (pairValue op) x y n z) (sp : Spelled (formatOf index) (rowCount index) o m even z (n + 1) z′) where
       run-clean : even ≡ true → (i : ℕ) → i ≤ n → CleanWord (formatOf index) (getD z (i * blockSegments) 0)
       run-clean e i h =
-          clean-words F n x y z
+          clean-words F (pairValue op) n x y z
           (all-alike (g .first-walking) (cs .facts) (cs .first-listed) (ch .some) (ch .within) bx′
           (λ j l. omega (arith, ch .in-runs e, near1 j l)))
           (all-alike (g .second-walking) (cs .facts) (cs .second-listed) (ch .some) (ch .within) (rw e at by)
           (λ j l. omega (arith, ch .in-runs e, near2 j l)))
-          p (sum-low (omega (arith, cs .first-some)) bx′ p 0 (omega (arith, ch .some)) (omega arith)) i h
+          p (pair-low (omega (arith, cs .first-some)) bx′ p 0 (omega (arith, ch .some)) (omega arith)) i h
         where
           bx′ : BlockOf index first o m true x
           bx′ = rw e at bx
 
       row-is : (i : ℕ) → i ≤ n → rowOf F z′ m even i ≡ take m (drop o (T i))
-      row-is i h = row-part cs ch bx by p sp run-clean i h
+      row-is i h = row-part op cs ch bx by p sp run-clean i h
 
       few : o + m ≤ mostSegments
       few = omega (arith, ch .within, segments-most F R (cs .facts .head .few-rows))
 
       -- by a writer of the index's format
       pub may-emit : {f : Format} → f ≡ formatOf index → Laid starts (n + 1) (length old)
-          → (store ≡ true → (i : ℕ) → i ≤ n → length (bodyOf index first second n i) ≤ length (region starts old i))
+          → (store ≡ true → (i : ℕ) → i ≤ n → length (bodyOf op index first second n i) ≤ length (region starts old i))
           → MayEmit starts out ws z′ n m even store f
       may-emit {f} is laid fits =
           subst (MayEmit starts out ws z′ n m even store) (sym is) (m-low, growing, cleans, room)
@@ -192,7 +194,7 @@ module _ {index first second : List ℕ} {n : ℕ} {starts old : List ℕ} {stor
               (omega (
                 arith,
                 fits e i l,
-                ap length (body-is index first second n i),
+                ap length (body-is op index first second n i),
                 region-length starts old (n + 1) i laid h,
                 region-length starts out (n + 1) i (rw (g .long) laid) h,
               ))
@@ -203,7 +205,7 @@ module _ {index first second : List ℕ} {n : ℕ} {starts old : List ℕ} {stor
           → ((real : ℕ) → mask ≡ 2 ^ real - 1
           → EmittedAll f real starts out out′ ws ws′ (n + 1) (rowOf f z′ m even) store)
           → Walking index first ns1′ (o + m) → Walking index second ns2′ (o + m)
-          → Passing index first second n starts old store out′ ns1′ ns2′ ws′ (o + m)
+          → Passing op index first second n starts old store out′ ns1′ ns2′ ws′ (o + m)
       unfolding allSet
       passing-more {f} is {mask} rows {out′} {ws′} put w1 w2 = record {
         here = ch .within;
@@ -230,14 +232,14 @@ module _ {index first second : List ℕ} {n : ℕ} {starts old : List ℕ} {stor
     end : o ≡ S index
     end = omega (arith, g .here)
 
-    pub passing-all : PassedTo index first second n starts old out ws store
+    pub passing-all : PassedTo op index first second n starts old out ws store
     passing-all = record {
       long = g .long;
       numbers-long = g .numbers-long;
-      used = λ i h. up-used (g .bodies i h) (long i) end ∙ ap length (body-is index first second n i);
+      used = λ i h. up-used (g .bodies i h) (long i) end ∙ ap length (body-is op index first second n i);
       stored = λ e i h.
           subst (λ (b : List ℕ). region starts out i ≡ b ++ drop (length b) (region starts old i))
-          (body-is index first second n i) (up-all (g .bodies i h) (long i) end e);
+          (body-is op index first second n i) (up-all (g .bodies i h) (long i) end e);
       front = g .front;
       back = g .back;
     }

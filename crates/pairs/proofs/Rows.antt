@@ -17,7 +17,8 @@ use Rattle.meaning.specs.declared.Format.{Format}
 use Rattle.meaning.specs.declared.Format.the-variants.{Ewah, Wah}
 use Rattle.meaning.specs.Index.{formatOf, rowCount}
 use Rattle.meaning.specs.Wah.{wahSegments}
-use Rattle.meaning.specs.Column.{sumValue}
+use Rattle.meaning.specs.Column.{pairValue}
+use Rattle.meaning.specs.declared.Pairing.{Pairing}
 use Rattle.laws.proofs.Segments.{fill-cut, kind-fill}
 use Rattle.laws.proofs.Pieces.{fill-lt}
 use Rattle.laws.proofs.Cut.{rows-inside, rows-end, rows-some}
@@ -31,7 +32,7 @@ use Rattle.block_write.specs.Rowed.{rowSegments, CleanWord}
 use Rattle.new_index.specs.Writers.{rowOf}
 use Rattle.pairs.specs.Passes.{Columns, Chosen}
 use Rattle.pairs.specs.Spellings.{Spelled}
-use Rattle.pairs.proofs.Blocks.{WordsAt, SumWords, numberOf, sets, segs, segs-length, block-segment}
+use Rattle.pairs.proofs.Blocks.{WordsAt, PairWords, numberOf, sets, segs, segs-length, block-segment}
 
 -- the rows of x are the words of a list's places in the n segments from o on, and 0 past the list
 pub record BlockOf (index list : List ℕ) (o n : ℕ) (even : Bool) (x : List ℕ) : Type 0 where
@@ -88,9 +89,9 @@ unfolding isSet bitAt
 word-low Ewah x h g = h
 word-low Wah x h g = omega (arith, eqb-false (x / 2 ^ 31 % 2) 1 (g 31 (omega arith) (omega arith)))
 
--- the sum has none, since what exists has none
-module _ {index first : List ℕ} {N o n : ℕ} {even : Bool} {x y z : List ℕ} (some : 1 ≤ length first)
-    (bx : BlockOf index first o n even x) (p : Paired sumValue x y N z) (i : ℕ) (h : i < n)
+-- the answer has none, since what exists has none
+module _ {op : (n x y : ℕ) → ℕ} {index first : List ℕ} {N o n : ℕ} {even : Bool} {x y z : List ℕ} (some : 1 ≤ length first)
+    (bx : BlockOf index first o n even x) (p : Paired op x y N z) (i : ℕ) (h : i < n)
     (low : place even i < blockSegments) where
   abbrev at : ℕ
   at = place even i
@@ -104,17 +105,17 @@ module _ {index first : List ℕ} {N o n : ℕ} {even : Bool} {x y z : List ℕ}
       ∙ ap (λ (a : Bool). a && isSet (getD y at 0) j)
       (ap (λ (a : ℕ). isSet a j) word ∙ segment-clear (formatOf index) (placeBody index first 0) (o + i) j l k)
 
-  sum-clear : (b : ℕ) → b ≤ N → (j : ℕ) → width (formatOf index) ≤ j → j < 32
+  pair-clear : (b : ℕ) → b ≤ N → (j : ℕ) → width (formatOf index) ≤ j → j < 32
       → isSet (getD z (b * blockSegments + place even i) 0) j ≡ false
-  sum-clear zero g j l k = let e : 0 * blockSegments + at ≡ at = omega arith in rw e (exists-clear j l k)
-  sum-clear (suc b) g j l k =
+  pair-clear zero g j l k = let e : 0 * blockSegments + at ≡ at = omega arith in rw e (exists-clear j l k)
+  pair-clear (suc b) g j l k =
       let e : suc b ≡ b + 1 = omega arith in
-      let number = sumValue N (numberAt x N at j) (numberAt y N at j) in
+      let number = op N (numberAt x N at j) (numberAt y N at j) in
       rw e (p .digits b at j (omega arith) low ∙ ap (λ (a : Bool). a && isSet number b) (exists-clear j l k))
 
-  pub sum-low : (b : ℕ) → b ≤ N → getD z (b * blockSegments + place even i) 0 < 2 ^ width (formatOf index)
-  sum-low b g =
-      word-low (formatOf index) (getD z (b * blockSegments + at) 0) (p .low b at g low) (sum-clear b g)
+  pub pair-low : (b : ℕ) → b ≤ N → getD z (b * blockSegments + place even i) 0 < 2 ^ width (formatOf index)
+  pair-low b g =
+      word-low (formatOf index) (getD z (b * blockSegments + at) 0) (p .low b at g low) (pair-clear b g)
 
 -- ---- a word of a run, over a segment with pad bits too
 
@@ -151,12 +152,12 @@ module _ (F : Format) (R i : ℕ) where
       | no e ↦ by-value x 1 (omega arith) (unfold fill in c e ∙ sym (one-mul (allSet (width F))))
     ]
 
--- ---- the sum
+-- ---- the answer
 
-module _ {index first second : List ℕ} {N near o n : ℕ} {even : Bool} {x y z z′ : List ℕ}
+module _ (op : Pairing) {index first second : List ℕ} {N near o n : ℕ} {even : Bool} {x y z z′ : List ℕ}
     (cs : Columns index first second N) (ch : Chosen near (segmentCount (width (formatOf index)) (rowCount index)) o n even)
     (bx : BlockOf index first o n even x) (by : BlockOf index second o n even y)
-    (p : Paired sumValue x y N z) (sp : Spelled (formatOf index) (rowCount index) o n even z (N + 1) z′)
+    (p : Paired (pairValue op) x y N z) (sp : Spelled (formatOf index) (rowCount index) o n even z (N + 1) z′)
     (cl : even ≡ true → (b : ℕ) → b ≤ N → CleanWord (formatOf index) (getD z (b * blockSegments) 0)) where
   abbrev F : Format
   F = formatOf index
@@ -196,15 +197,15 @@ module _ {index first second : List ℕ} {N near o n : ℕ} {even : Bool} {x y z
     w-low = place-low even i n h (ch .in-block)
 
     digits : (b j : ℕ) → b < N → j < width F
-        → isSet (Z (suc b)) j ≡ isSet (Z 0) j && isSet (sumValue N (numberOf X N j) (numberOf Y N j)) b
+        → isSet (Z (suc b)) j ≡ isSet (Z 0) j && isSet (pairValue op N (numberOf X N j) (numberOf Y N j)) b
     digits b j l k =
         ap (λ (t : ℕ). isSet t j) (later b)
         ∙ p .digits b w j l w-low
         ∙ ap₂ (λ (s t : Bool). s && t) (ap (λ (t : ℕ). isSet t j) (sym (front z)))
-        (ap₂ (λ (s t : ℕ). isSet (sumValue N s t) b) (sym (number-same x even N i j)) (sym (number-same y even N i j)))
+        (ap₂ (λ (s t : ℕ). isSet (pairValue op N s t) b) (sym (number-same x even N i j)) (sym (number-same y even N i j)))
 
-    sum-words : SumWords (width F) N X Y Z
-    sum-words = record { exists = λ j k. rw (front x, front y, front z) (p .exists w j w-low); digits = digits }
+    pair-words : PairWords op (width F) N X Y Z
+    pair-words = record { exists = λ j k. rw (front x, front y, front z) (p .exists w j w-low); digits = digits }
 
     -- what the word of body b is written as
     written : (b : ℕ) → b ≤ N → kind (width F) (wordAt even z′ (b * blockSegments) i) ≡ rowsKind F R (o + i) (Z b)
@@ -218,12 +219,12 @@ module _ {index first second : List ℕ} {N near o n : ℕ} {even : Bool} {x y z
             let e : b * blockSegments + 0 ≡ b * blockSegments = omega arith in
             let in-rows : o + i < segmentCount (width F) R = omega (arith, ch .within) in
             rw (e, sp .run q) (clean-kind F R (o + i) in-rows (getD z (b * blockSegments) 0) (cl q b l))
-        go false q = sp .block q b i (omega arith) h (rw q at (sum-low f1 bx p i h w-low b l))
+        go false q = sp .block q b i (omega arith) h (rw q at (pair-low f1 bx p i h w-low b l))
 
   -- ---- the rows that go to the writers
 
   abbrev T : ℕ → List Segment
-  T b = segs F R (sets index first second N b)
+  T b = segs F R (sets op index first second N b)
 
   -- row b of the block, from its first word on
   abbrev rowAt : ℕ → List ℕ
@@ -250,10 +251,10 @@ module _ {index first second : List ℕ} {N near o n : ℕ} {even : Bool} {x y z
   pub row-part : (b : ℕ) → b ≤ N → rowOf F z′ n even b ≡ take n (drop o (T b))
   row-part b l =
       sym (part-is (T b) (rowOf F z′ n even b) o n (row-length even refl b l)
-      (omega (arith, ch .within, segs-length F R (sets index first second N b)))
+      (omega (arith, ch .within, segs-length F R (sets op index first second N b)))
       (λ i h. segment i h ∙ sym (row-at even refl b i h ∙ written i h b l)))
     where
       segment : (i : ℕ) (h : i < n) → getD (T b) (o + i) (clean 0) ≡ rowsKind F R (o + i) (Z i h b)
       segment i h =
-          block-segment index first second N f1 f2 (cs .first-fits) (cs .second-fits) (o + i) (X i h) (Y i h) (Z i h)
-          (words-at bx i h) (words-at by i h) (sum-words i h) b l (omega (arith, ch .within))
+          block-segment op index first second N f1 f2 (cs .first-fits) (cs .second-fits) (o + i) (X i h) (Y i h) (Z i h)
+          (words-at bx i h) (words-at by i h) (pair-words i h) b l (omega (arith, ch .within))

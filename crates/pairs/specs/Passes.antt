@@ -1,4 +1,4 @@
--- What one pass over two columns gives: the bodies of their sum, measured or written.
+-- What one pass over two columns gives: the bodies of what an operation makes of them, measured or written.
 -- Assumes nothing.
 use Prim.Native.Nat.{ℕ, _+_, _≤_, _<_}
 use mathlib.Core.Bool.{Bool, true, false}
@@ -9,9 +9,9 @@ use Rattle.meaning.specs.Limits.{leastColumn, mostValueColumn, blockSegments, w
 use Rattle.meaning.specs.Format.{canonical}
 use Rattle.meaning.specs.Index.{formatOf, rowCount}
 use Rattle.laws.specs.Laws.{IndexFacts}
-use Rattle.meaning.specs.Column.{sumValue}
 use Rattle.meaning.specs.Columns.{pairColumn}
 use Rattle.meaning.specs.Rows.{none}
+use Rattle.meaning.specs.declared.Pairing.{Pairing}
 use Rattle.walk.specs.Queries.{Listed}
 use Rattle.new_index.specs.Writers.{writerOf, region}
 
@@ -36,17 +36,17 @@ pub record Chosen (near S o n : ℕ) (even : Bool) : Type 0 where
   pub in-block : even ≡ false → n ≤ blockSegments
 
 -- body i of the answer
-abbrev pub bodyOf : (index first second : List ℕ) (n i : ℕ) → List ℕ
-bodyOf index first second n i =
-    canonical (formatOf index) (rowCount index) (getD (pairColumn index sumValue n first second) i none)
+abbrev pub bodyOf : (op : Pairing) (index first second : List ℕ) (n i : ℕ) → List ℕ
+bodyOf op index first second n i =
+    canonical (formatOf index) (rowCount index) (getD (pairColumn index op n first second) i none)
 
 -- the words of each body are counted, and stand in their part of the buffer where they are stored; what lies before the first part
 -- and behind the last is as it was
-pub record PassedTo (index first second : List ℕ) (n : ℕ) (starts old out ws : List ℕ) (store : Bool) : Type 0 where
+pub record PassedTo (op : Pairing) (index first second : List ℕ) (n : ℕ) (starts old out ws : List ℕ) (store : Bool) : Type 0 where
   pub long : length out ≡ length old
   pub numbers-long : length ws ≡ writersNumbers
-  pub used : (i : ℕ) → i ≤ n → writerOf ws i .used ≡ length (bodyOf index first second n i)
+  pub used : (i : ℕ) → i ≤ n → writerOf ws i .used ≡ length (bodyOf op index first second n i)
   pub stored : store ≡ true → (i : ℕ) → i ≤ n
-      → region starts out i ≡ bodyOf index first second n i ++ drop (length (bodyOf index first second n i)) (region starts old i)
+      → region starts out i ≡ bodyOf op index first second n i ++ drop (length (bodyOf op index first second n i)) (region starts old i)
   pub front : take (getD starts 0 0) out ≡ take (getD starts 0 0) old
   pub back : drop (getD starts (n + 1) 0) out ≡ drop (getD starts (n + 1) 0) old

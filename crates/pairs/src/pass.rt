@@ -1,4 +1,4 @@
-// One pass over two columns, block by block or run by run: the bodies of their sum, measured or written.
+// One pass over two columns, block by block or run by run: the bodies of what an operation makes of them, measured or written.
 ghost use mathlib.Core.Path.{_≡_};
 ghost use mathlib.Core.Bool.{true};
 ghost use Prim.Native.Nat.{ℕ, _+_, _≤_};
@@ -8,14 +8,16 @@ ghost use Rattle.pairs.specs.Passes.{Columns, bodyOf, PassedTo};
 use crate::choose;
 use crate::spell;
 use meaning::BLOCK_WORDS;
+use meaning::Pairing;
 use meaning::SHORT_NUMBERS;
 use new_index::writers;
 use new_index::writers::Writers;
 use walk::survey;
 use words::rows;
 
-// The rows that exist and the sum's n slices, each to its own part of `out` where `store` says so, and else only measured.
+// The rows that exist and the answer's n slices, each to its own part of `out` where `store` says so, and else only measured.
 pub fn pass(
+    op: Pairing,
     index: &[u32],
     first: &[u32],
     second: &[u32],
@@ -27,8 +29,8 @@ pub fn pass(
     requires { ⌜ Columns (now index) (now first) (now second) n ⌝ }
     requires { ⌜ Laid (now starts) (n + 1) (length (now out)) ⌝ }
     requires { ⌜ (store ≡ true → (i : ℕ) → i ≤ n
-        → length (bodyOf (now index) (now first) (now second) n i) ≤ length (region (now starts) (now out) i)) ⌝ }
-    ensures { λ r. ⌜ PassedTo (now (index .entry)) (now (first .entry)) (now (second .entry)) n
+        → length (bodyOf op (now index) (now first) (now second) n i) ≤ length (region (now starts) (now out) i)) ⌝ }
+    ensures { λ r. ⌜ PassedTo op (now (index .entry)) (now (first .entry)) (now (second .entry)) n
         (now (starts .entry)) (now (out .entry)) (now (out .exit)) (r .numbers) store ⌝ }
 {
     let format = contents::format(index);
@@ -55,7 +57,7 @@ pub fn pass(
         let mask = rows::mask_before(full, last, segments, o + m);
         gather::gather(format, index, first, &mut p, m, even, &mut x);
         gather::gather(format, index, second, &mut q, m, even, &mut y);
-        adder::sum(&x, &y, &mut z, n);
+        adder::pair(op, &x, &y, &mut z, n);
         spell::spell(&mut z, n + 1, m, even, mask, full);
         writers::emit_all(
             format,

@@ -1,4 +1,4 @@
-// A block of the sum as it is written: where its last segment has pad bits, that segment's words go by its rows alone.
+// A block of the answer as it is written: where its last segment has pad bits, that segment's words go by its rows alone.
 ghost use mathlib.Core.Path.{_≡_};
 ghost use mathlib.Core.Bool.{false};
 ghost use Prim.Native.Nat.{ℕ, _+_, _-_, _≤_, _<_};

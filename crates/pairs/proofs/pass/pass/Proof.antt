@@ -13,7 +13,7 @@ use Rattle.meaning.specs.Segment.{segmentCount, lastRows, allSet, rowsIn}
 use Rattle.meaning.specs.Format.{width}
 use Rattle.meaning.specs.declared.Format.{Format}
 use Rattle.meaning.specs.Index.{formatOf, rowCount}
-use Rattle.meaning.specs.Column.{sumValue}
+use Rattle.meaning.specs.Column.{pairValue}
 use Rattle.laws.proofs.Formats.{segments-most}
 use Rattle.ewah.specs.Cursors.{leftOf}
 use Rattle.adder.specs.Digits.{Paired}
@@ -27,12 +27,12 @@ use Rattle.pairs.proofs.pass.pass.Statement.{statement}
 use Rattle.pairs.proofs.pass.pass.Tie as tie
 
 abbrev Inv-loop : tie.InvT-loop
-Inv-loop index first second n out₀ starts store format rows segments full last p₀ q₀ ws₀ x₀ y₀ z₀ run₀ o₀ out p q ws x y z run o =
-    Passing index first second n starts out₀ store out p q (ws .numbers) o
+Inv-loop op index first second n out₀ starts store format rows segments full last p₀ q₀ ws₀ x₀ y₀ z₀ run₀ o₀ out p q ws x y z run o =
+    Passing op index first second n starts out₀ store out p q (ws .numbers) o
     × (length z ≡ blockWords) × Cleared first x × Cleared second y
 
 abbrev μ-loop : tie.MeasureT-loop
-μ-loop index first second n out₀ starts store format rows segments full last p₀ q₀ ws₀ x₀ y₀ z₀ run₀ o₀ out p q ws x y z run o =
+μ-loop op index first second n out₀ starts store format rows segments full last p₀ q₀ ws₀ x₀ y₀ z₀ run₀ o₀ out p q ws x y z run o =
     segments - o
 
 -- ---- where the format and the rows were read: the call, and the numbers that the loop goes by
@@ -99,7 +99,7 @@ module _ (i : tie.In-loop Inv-loop μ-loop) where
 
   g :
       let s = call read .args in
-      Passing (index read) first second n (now (s .starts)) (now (s .out)) (s .store)
+      Passing (s .op) (index read) first second n (now (s .starts)) (now (s .out)) (s .store)
       (i .before .loop .out) ns1 ns2 (i .before .loop .ws .numbers) o
   g = i .before .loop .inv .0
 
@@ -146,7 +146,7 @@ mask-is k =
 
 -- ---- where both columns are gathered and added, and the block is spelled
 module _ (s : tie.After-spell Inv-loop μ-loop) where
-  abbrev added : tie.After-sum Inv-loop μ-loop
+  abbrev added : tie.After-pair Inv-loop μ-loop
   added = s .before .before
 
   abbrev second-taken : tie.After-gather2 Inv-loop μ-loop
@@ -171,7 +171,7 @@ module _ (s : tie.After-spell Inv-loop μ-loop) where
   y = second-taken .gather2 .last .1 .1 .1 .1 .1 .1 .0
 
   abbrev z : List ℕ
-  z = added .sum .last .1 .1 .0
+  z = added .pair .last .1 .1 .1 .0
 
   abbrev z′ : List ℕ
   z′ = s .spell .last .0
@@ -182,8 +182,8 @@ module _ (s : tie.After-spell Inv-loop μ-loop) where
   blocks2 : BlockOf (index (read h)) (second h) (o h) (m chosen) (even chosen) y
   blocks2 = block-of (g h .second-walking) (second-taken .gather2 .ensures) (h .before .loop .inv .3)
 
-  sums : Paired sumValue x y (n h) z
-  sums = added .sum .ensures
+  sums : Paired (pairValue (call (read h) .args .op)) x y (n h) z
+  sums = added .pair .ensures
 
   spelled : Spelled (F (read h)) (R (read h)) (o h) (m chosen) (even chosen) z (n h + 1) z′
   spelled =
@@ -237,7 +237,7 @@ loop-holds c =
     let s = call a .args in
     let e = c .before .before .before .before .before .«open» .ensures in
     let f = c .before .before .open2 .ensures in (
-      passing-none (index a) (now (s .first)) (now (s .second)) (s .n) (now (s .starts)) (now (s .out)) (s .store)
+      passing-none (s .op) (index a) (now (s .first)) (now (s .second)) (s .n) (now (s .starts)) (now (s .out)) (s .store)
           _ _ _ (cs a) (record { standing = e .1; long = e .0 }) (record { standing = f .1; long = f .0 })
           (c .start .ensures .0) (format-is a) (c .start .ensures .1),
       refl,
@@ -337,8 +337,8 @@ gather-requires-2 c κs =
       ),
     )
 
-sum-requires : tie.Need-sum-requires Inv-loop μ-loop
-sum-requires c κs =
+pair-requires : tie.Need-pair-requires Inv-loop μ-loop
+pair-requires c κs =
     let t2 = c .before .before .before .before in
     let t1 = t2 .before .before .before .before in
     let i = here (t1 .before .before .before .before) in
@@ -352,7 +352,7 @@ add-spell c =
 spell-requires : tie.Need-spell-requires Inv-loop μ-loop
 spell-requires c κs =
     let w = c .before .before .before .before .before .before .before .before .before .before .before .before .before .before in
-    (ch w .some, c .before .sum .ensures .long, omega (arith, cs (a w) .few), ch w .in-block)
+    (ch w .some, c .before .pair .ensures .long, omega (arith, cs (a w) .few), ch w .in-block)
 
 add-emit-all : tie.Need-add-emit-all Inv-loop μ-loop
 add-emit-all c = omega (arith, cs (read (h (c .before .before .before))) .few)
@@ -432,7 +432,7 @@ pass-spec =
     gather-requires
     slice-aggregate-gather-2
     gather-requires-2
-    sum-requires
+    pair-requires
     add-spell
     spell-requires
     add-emit-all

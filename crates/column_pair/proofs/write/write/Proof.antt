@@ -1,4 +1,4 @@
--- `column_sum::sum::sum` meets its contract: measured, laid out, and written where it fits.
+-- `column_pair::write::write` meets its contract: measured, laid out, and written where it fits.
 -- Assumes nothing.
 use Prim.Native.Nat.{ℕ, _+_, _*_, _≤_}
 use mathlib.Core.Path.{_≡_, ap}
@@ -10,20 +10,24 @@ use borrow.Author.Needs.{needs}
 use Rattle.meaning.specs.Limits.{mostStarts, headWords, entryWords}
 use Rattle.meaning.specs.Index.{formatOf, rowCount}
 use Rattle.meaning.specs.NewIndex.{indexRoom}
+use Rattle.meaning.specs.declared.Pairing.{Pairing}
 use Rattle.laws.proofs.NewIndexes.{room-within}
 use Rattle.new_index.specs.Layouts.{StartsOf, Headed}
 use Rattle.new_index.specs.Writers.{writerOf, Laid}
 use Rattle.pairs.specs.Passes.{Columns, bodyOf}
-use Rattle.column_sum.specs.Sums.{sumIndex}
+use Rattle.column_pair.specs.Written.{pairedIndex}
 use Rattle.pairs.proofs.Rows.{zeros}
-use Rattle.column_sum.proofs.Summing.{nowhere-laid, nothing-kept, none-stored, headed-as, body-low, need-is, laid, contents-fit, exact, written}
-use Rattle.column_sum.proofs.sum.sum.Statement.{statement}
-use Rattle.column_sum.proofs.sum.sum.Tie as tie
+use Rattle.column_pair.proofs.Laying.{nowhere-laid, nothing-kept, none-stored, headed-as, body-low, need-is, laid, contents-fit, exact, written}
+use Rattle.column_pair.proofs.write.write.Statement.{statement}
+use Rattle.column_pair.proofs.write.write.Tie as tie
 
 -- ---- where the bodies are measured and laid out
 module _ (s : tie.After-starts) where
   abbrev call : tie.Start
   call = s .before .before .before .before .before .before .before .before .before .before .before .before
+
+  abbrev op : Pairing
+  op = call .args .op
 
   abbrev index : List ℕ
   index = now (call .args .index)
@@ -49,21 +53,21 @@ module _ (s : tie.After-starts) where
   cs : Columns index first second n
   cs = call .pre
 
-  used : (i : ℕ) → i ≤ n → writerOf ws i .used ≡ length (bodyOf index first second n i)
+  used : (i : ℕ) → i ≤ n → writerOf ws i .used ≡ length (bodyOf op index first second n i)
   used = s .before .before .before .before .before .pass .ensures .used
 
   st : StartsOf ws (n + 1) (headWords + entryWords * (n + 1)) starts
   st = s .starts .ensures
 
   -- measuring stored nothing
-  same : s .before .before .before .before .before .pass .last .1 .1 .1 .1 .0 ≡ old
+  same : s .before .before .before .before .before .pass .last .1 .1 .1 .1 .1 .0 ≡ old
   same = nothing-kept (replicate mostStarts 0) old _ (n + 1) (zeros mostStarts) (s .before .before .before .before .before .pass .ensures .back)
 
-  need : getD starts (n + 1) 0 ≡ length (sumIndex index first second n)
-  need = need-is index first second n cs ws starts used st
+  need : getD starts (n + 1) 0 ≡ length (pairedIndex op index first second n)
+  need = need-is op index first second n cs ws starts used st
 
   in-order : (room : ℕ) → getD starts (n + 1) 0 ≤ room → Laid starts (n + 1) room
-  in-order = laid index first second n cs ws starts used st
+  in-order = laid op index first second n cs ws starts used st
 
 -- ---- where the buffer's room is known
 abbrev measured : tie.After-room → tie.After-starts
@@ -88,7 +92,7 @@ pass-requires c κs =
       a .pre,
       (
         nowhere-laid (replicate mostStarts 0) (a .args .n + 1) _ (omega (arith, a .pre .few)) (zeros mostStarts),
-        none-stored (now (a .args .index)) (now (a .args .first)) (now (a .args .second)) (a .args .n) (replicate mostStarts 0) (now (a .args .out)),
+        none-stored (a .args .op) (now (a .args .index)) (now (a .args .first)) (now (a .args .second)) (a .args .n) (replicate mostStarts 0) (now (a .args .out)),
       ),
     )
 
@@ -105,7 +109,7 @@ starts-requires c κs =
       omega (arith, a .pre .few),
       p .numbers-long,
       omega (arith, a .pre .few),
-      λ i h. omega (arith, p .used i (omega arith), body-low (now (a .args .index)) (now (a .args .first)) (now (a .args .second)) (a .args .n) (a .pre) i),
+      λ i h. omega (arith, p .used i (omega arith), body-low (a .args .op) (now (a .args .index)) (now (a .args .first)) (now (a .args .second)) (a .args .n) (a .pre) i),
     )
 
 mul-need : tie.Need-mul-need
@@ -150,7 +154,7 @@ write-contents-requires c κs =
         l .many,
         omega (
           arith,
-          contents-fit (index s) (first s) (second s) (n s) (cs s) (ws s) (starts s) (used s) (st s),
+          contents-fit (op s) (index s) (first s) (second s) (n s) (cs s) (ws s) (starts s) (used s) (st s),
           w .0,
           ap length (same s),
         ),
@@ -199,7 +203,7 @@ pass-requires-2 c κs =
         λ e i l.
             omega (
               arith,
-              exact (index s) (first s) (second s) (n s) (cs s) (ws s) (starts s) (used s) (st s) (mid h) i
+              exact (op s) (index s) (first s) (second s) (n s) (cs s) (ws s) (starts s) (used s) (st s) (mid h) i
                   (omega (arith, headed h .long, room h)) l,
             ),
       ),
@@ -213,12 +217,12 @@ returns-2 c =
     let h = c .before .before .before .before .before .before .before in
     let s = laid-out h in
     let out =
-    written (index s) (first s) (second s) (n s) (cs s) (ws s) (starts s) (used s) (st s) (old s) (mid h) _ _ (room h)
+    written (op s) (index s) (first s) (second s) (n s) (cs s) (ws s) (starts s) (used s) (st s) (old s) (mid h) _ _ (room h)
     (headed h) (c .before .before .pass2 .ensures) in
     record { need-is = need s; fits = λ l. out; lacks = λ l. absurd (omega (arith, within h)) }
 
-pub sum-spec : {M : Type 1} → statement M
-sum-spec =
+pub write-spec : {M : Type 1} → statement M
+write-spec =
     tie.close
     (tie.spec
     add-count
