@@ -11,7 +11,9 @@ use Rattle.answers.specs.declared.answer.Value.{Value}
 use Rattle.answers.specs.declared.answer.Value.the-variants as value
 use Rattle.answers.specs.declared.answer.Written.{Written}
 use Rattle.answers.specs.declared.answer.Written.the-variants as written
-use Rattle.answers.specs.Told.{refusedBy, valueTold, writtenOf, wordsOf, Wrote}
+use Rattle.answers.specs.declared.answer.SignedValue.{SignedValue}
+use Rattle.answers.specs.declared.answer.SignedValue.the-variants as signed
+use Rattle.answers.specs.Told.{refusedBy, valueTold, signedTold, writtenOf, wordsOf, Wrote}
 
 refusal-one : {A : Type 0} (r s : Refusal) → _≡_ {A = Outcome A} (refusedBy r) (refusedBy s) → r ≡ s
 refusal-one r s e =
@@ -26,6 +28,13 @@ value-one (value.Is n) (value.Is m) e = let a : n ≡ m = cc in ap value.Is a
 value-one (value.Is n) (value.Refused s) e = let z : _≡_ {A = ℕ} 0 1 = cc in absurd (omega arith)
 value-one (value.Refused r) (value.Is m) e = let z : _≡_ {A = ℕ} 0 1 = cc in absurd (omega arith)
 value-one (value.Refused r) (value.Refused s) e = ap value.Refused (refusal-one r s e)
+
+pub signed-one : (r s : SignedValue) → signedTold r ≡ signedTold s → r ≡ s
+unfolding signedTold
+signed-one (signed.Is z) (signed.Is y) e = let a : z ≡ y = cc in ap signed.Is a
+signed-one (signed.Is z) (signed.Refused s) e = let z : _≡_ {A = ℕ} 0 1 = cc in absurd (omega arith)
+signed-one (signed.Refused r) (signed.Is y) e = let z : _≡_ {A = ℕ} 0 1 = cc in absurd (omega arith)
+signed-one (signed.Refused r) (signed.Refused s) e = ap signed.Refused (refusal-one r s e)
 
 written-one : (r s : Written) (b c : List ℕ) → writtenOf r b ≡ writtenOf s c → wordsOf r ≡ wordsOf s → r ≡ s
 unfolding writtenOf wordsOf

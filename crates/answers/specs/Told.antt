@@ -3,6 +3,7 @@
 use Prim.Native.Nat.{ℕ}
 use mathlib.Core.Path.{_≡_}
 use mathlib.Core.List.{List}
+use lib.IntN.{ℤ}
 use lib.ListN.{take}
 use Rattle.meaning.specs.Refusal.{Outcome, Verdict, sound, refused, answer}
 use Rattle.meaning.specs.declared.Row.{Row}
@@ -19,6 +20,8 @@ use Rattle.answers.specs.declared.answer.Found.{Found}
 use Rattle.answers.specs.declared.answer.Found.the-variants as found
 use Rattle.answers.specs.declared.answer.Value.{Value}
 use Rattle.answers.specs.declared.answer.Value.the-variants as value
+use Rattle.answers.specs.declared.answer.SignedValue.{SignedValue}
+use Rattle.answers.specs.declared.answer.SignedValue.the-variants as signed
 use Rattle.answers.specs.declared.answer.Answered.{Answered}
 use Rattle.answers.specs.declared.answer.Answered.the-variants as answered
 use Rattle.answers.specs.declared.answer.Written.{Written}
@@ -56,6 +59,10 @@ foundOf found.Past = refused 8 0 0
 unfoldable pub valueTold : Value → Outcome ℕ
 valueTold (value.Is n) = answer n
 valueTold (value.Refused r) = refusedBy r
+
+unfoldable pub signedTold : SignedValue → Outcome ℤ
+signedTold (signed.Is z) = answer z
+signedTold (signed.Refused r) = refusedBy r
 
 -- of a call that wrote: its words are those that the buffer begins with
 unfoldable pub writtenOf : Written → (buffer′ : List ℕ) → Outcome (List ℕ)

@@ -30,6 +30,12 @@ pub enum Value {
     Refused(Refusal),
 }
 
+// A value of a signed column.
+pub enum SignedValue {
+    Is(i64),
+    Refused(Refusal),
+}
+
 // How many words were written, at the front of the buffer.
 pub enum Written {
     Words(usize),

@@ -2,13 +2,18 @@
 -- Assumes nothing.
 use Prim.Native.Nat.{ℕ, suc, _+_, _-_, _*_, _^_, _≤_, _<_}
 use mathlib.Core.Bool.{Bool}
-use mathlib.Core.Path.{_≡_, refl, ap, _∙_}
+use mathlib.Core.Path.{_≡_, refl, sym, ap, ap₂, _∙_, subst}
 use mathlib.Core.List.{List, [], _∷_}
 use native.Mathlib.Omega.{arith}
 use borrow.Author.Tests.{lt-ltb}
 use lib.Dec.{ltb}
-use lib.ListN.{length, getD, drop, drop-of-length-le}
+use lib.IntN.{ℤ, pos, negsuc, negℤ, _+ℤ_, _-ℤ_, _*ℤ_, +ℤ-idl}
+use lib.ListN.{length, getD, drop, length-drop, drop-of-length-le}
 use lib.Pow.{pow-mono}
+use lib.Signed.{mag}
+use mir.Syntax.{w64}
+use mir.Val.{SFits, ofZ, toZ}
+use mir.ValLaws.{toZ-ofZ}
 use Rattle.meaning.specs.Limits.{mostValueColumn}
 use Rattle.meaning.specs.Rows.{bit, countBelow}
 use Rattle.meaning.specs.Refusal.{refused, sound}
@@ -16,11 +21,14 @@ use Rattle.meaning.specs.Index.{formatOf, rowCount, rowsAt, bodyAt}
 use Rattle.meaning.specs.declared.Format.{Format}
 use Rattle.laws.specs.Laws.{SoundFacts}
 use Rattle.meaning.specs.Answer.{named}
-use Rattle.meaning.specs.Column.{valueOf}
-use Rattle.meaning.specs.Columns.{existing, slicesOf, valueAt, strayRows, straysIn, strays}
+use Rattle.meaning.specs.Column.{valueOf, signedOf}
+use Rattle.meaning.specs.Columns.{existing, slicesOf, valueAt, signedAt, strayRows, straysIn, strays}
 use Rattle.laws.specs.Demands.{IsNth}
 use Rattle.laws.proofs.Outcomes.{refuse-no, refuse-yes}
+use Rattle.laws.proofs.RowWords.{bit-le}
 use Rattle.laws.proofs.Counted.{count-none, nth-below, nth-eq}
+use Rattle.laws.proofs.NamedBitmaps.{named-length}
+use Rattle.laws.proofs.SignedValues.{signed-range}
 use Rattle.ewah.proofs.Pieces.{cons-at}
 use Rattle.column.specs.declared.outside.Found.{Found}
 use Rattle.column.specs.Outside.{outside, NoneBelow, Lowest, FoundIn}
@@ -106,6 +114,66 @@ module _ (index : List ℕ) where
   unfolding valueAt slicesOf
   value-all [] row h = absurd (omega arith)
   value-all (k ∷ ks) row h = refl
+
+  -- ---- the digits of a signed value
+
+  -- of the slices from place i on
+  abbrev pub signedFrom : (list : List ℕ) (row i : ℕ) → ℤ
+  signedFrom list row i = signedOf (named index (drop i list)) row
+
+  -- the top slice alone: its digit is negated
+  pub signed-top : (list : List ℕ) (row i : ℕ) (d : ℤ) → i + 1 ≡ length list
+      → d ≡ pos (bit (rowsAt index (getD list i 0) row)) → pos 0 -ℤ d ≡ signedFrom list row i
+  unfolding signedOf named
+  signed-top list row i d e g =
+      let last : drop (i + 1) list ≡ [] = drop-of-length-le list {i = i + 1} (omega arith) in
+      +ℤ-idl (negℤ d) ∙ rw (cons-at list i (omega arith), last, g)
+
+  pub signed-more : (list : List ℕ) (row i : ℕ) (v d : ℤ) → i + 1 < length list → v ≡ signedFrom list row (i + 1)
+      → d ≡ pos (bit (rowsAt index (getD list i 0) row)) → d +ℤ pos 2 *ℤ v ≡ signedFrom list row i
+  signed-more list row i v d h e g =
+      ap₂ (λ (a b : ℤ). a +ℤ pos 2 *ℤ b) g (e ∙ ap (λ (ks : List ℕ). signedOf (named index ks) row) next)
+      ∙ sym (ap (λ (ks : List ℕ). signedOf (named index ks) row)
+      (cons-at list i (omega arith) ∙ ap (λ (ks : List ℕ). getD list i 0 ∷ ks) next) ∙ step)
+    where
+      next : drop (i + 1) list ≡ getD list (i + 1) 0 ∷ drop (i + 1 + 1) list
+      next = cons-at list (i + 1) h
+
+      step : signedOf (named index (getD list i 0 ∷ getD list (i + 1) 0 ∷ drop (i + 1 + 1) list)) row
+          ≡ pos (bit (rowsAt index (getD list i 0) row))
+          +ℤ pos 2 *ℤ signedOf (named index (getD list (i + 1) 0 ∷ drop (i + 1 + 1) list)) row
+      step = unfold signedOf in unfold named in refl
+
+  pub signed-all : (list : List ℕ) (row : ℕ) → 1 ≤ length list → signedFrom list row 1 ≡ signedAt index list row
+  unfolding signedAt slicesOf
+  signed-all [] row h = absurd (omega arith)
+  signed-all (k ∷ ks) row h = refl
+
+  -- of 33 slices at most
+  pub signed-few : (list : List ℕ) (row i : ℕ) → 1 ≤ i → i < length list → length list ≤ mostValueColumn
+      → mag (signedFrom list row i) < 2 ^ 32
+  signed-few list row i g h l =
+      let n : ℕ = length list - i - 1 in
+      let many : length (named index (drop i list)) ≡ suc n =
+      named-length index (drop i list) ∙ length-drop i list ∙ omega arith in
+      let few : n ≤ 32 = omega arith in
+      omega (arith, signed-range (named index (drop i list)) row n many, pow-mono few)
+
+-- twice such a number fits
+pub doubled-fits : (z : ℤ) → mag z < 2 ^ 32 → SFits w64 (pos 2 *ℤ z)
+doubled-fits (pos n) h = record { sfits = omega arith }
+doubled-fits (negsuc n) h =
+    let e : 2 * suc n ≡ suc (suc (2 * n)) = omega arith in
+    record { sfits = subst (λ (m : ℕ). mag (negℤ (pos m)) < 2 ^ 63) (sym e) (omega arith) }
+
+-- so does one of them
+pub few-fits : (z : ℤ) → mag z < 2 ^ 32 → SFits w64 z
+few-fits z h = record { sfits = omega arith }
+
+-- and a digit, whose bits are read back
+pub digit-back : (d : ℤ) (b : Bool) → d ≡ pos (bit b) → toZ w64 (ofZ w64 d) ≡ d
+digit-back d b e =
+    toZ-ofZ w64 d (subst (SFits w64) (sym e) (record { sfits = omega (arith, bit-le b) }))
 
 -- of 33 digits at most
 pub value-few : (n i v : ℕ) → 1 ≤ i → n ≤ mostValueColumn → v < 2 ^ (n - i) → v < 2 ^ 33

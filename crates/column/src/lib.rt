@@ -1,8 +1,9 @@
-// One column of a sound index: rows that a slice has and that do not exist, and the value at a row.
+// One column of a sound index: rows that a slice has and that do not exist, and the value at a row, plain or signed.
 // Calls here have a `requires`; the public ones of `zvonurel` test their input first.
 ghost use mathlib.Core.Path.{_≡_};
 ghost use Prim.Native.Nat.{ℕ, _≤_, _<_};
 ghost use lib.ListN.{length, getD};
+ghost use lib.IntN.{pos};
 ghost use Rattle.meaning.specs.Rows.{bit};
 ghost use Rattle.meaning.specs.Index.{formatOf, rowCount, bitmapCount, rowsAt};
 ghost use Rattle.laws.specs.Laws.{IndexFacts};
@@ -74,6 +75,38 @@ pub fn value(index: &[u32], list: &[u32], row: u32) -> u64
     while 1 < i {
         i -= 1;
         v = 2 * v + digit(format, index, list[i], row);
+    }
+    v
+}
+
+// A digit as a signed number.
+fn signed_digit(format: Format, index: &[u32], k: u32, row: u32) -> i64
+    requires { ⌜ IndexFacts (now index) ⌝ }
+    requires { ⌜ (format ≡ formatOf (now index)) × (k < bitmapCount (now index)) × (row < rowCount (now index)) ⌝ }
+    ensures { λ r. ⌜ r ≡ pos (bit (rowsAt (now (index .entry)) k row)) ⌝ }
+{
+    if has(format, index, k, row) {
+        return 1;
+    }
+    0
+}
+
+// The value at a row of a signed column, which is two's complement: the top slice, its sign, is negated, and then come the others,
+// the highest first.
+pub fn signed_value(index: &[u32], list: &[u32], row: u32) -> i64
+    requires { ⌜ IndexFacts (now index) ⌝ }
+    requires { ⌜ (leastColumn ≤ length (now list)) × (length (now list) ≤ mostValueColumn)
+        × ((i : ℕ) → i < length (now list) → getD (now list) i 0 < bitmapCount (now index))
+        × (row < rowCount (now index)) ⌝ }
+    ensures { λ r. ⌜ r ≡ meaning.signedAt (now (index .entry)) (now (list .entry)) row ⌝ }
+{
+    let format = contents::format(index);
+    let mut i = list.len() - 1;
+    let sign = signed_digit(format, index, list[i], row);
+    let mut v: i64 = -sign;
+    while 1 < i {
+        i -= 1;
+        v = signed_digit(format, index, list[i], row) + 2 * v;
     }
     v
 }

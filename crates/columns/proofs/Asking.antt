@@ -2,29 +2,38 @@
 -- Assumes nothing.
 use Prim.Native.Nat.{ℕ, suc, _+_, _-_, _≤_, _<_}
 use mathlib.Core.Bool.{Bool, true, false, not, _||_}
-use mathlib.Core.Path.{_≡_, ap, _∙_, subst}
+use mathlib.Core.Path.{_≡_, refl, sym, ap, ap₂, _∙_, subst}
 use mathlib.Core.List.{List, _++_}
 use native.Mathlib.Omega.{arith}
 use borrow.Author.Tests.{lt-ltb, le-ltb, le-leb, lt-leb, leb-false}
 use lib.Dec.{leb, ltb}
 use lib.ListN.{length, getD, drop}
 use Rattle.meaning.specs.Limits.{leastColumn, mostColumn, mostValueColumn}
-use Rattle.meaning.specs.Refusal.{Outcome, answer, refuseIf, _then_}
+use Rattle.meaning.specs.Refusal.{Outcome, answer, Verdict, sound, refuseIf, _then_}
 use Rattle.meaning.specs.Index.{formatOf, rowCount, bitmapCount}
 use Rattle.laws.specs.Laws.{IndexFacts}
 use Rattle.meaning.specs.NewIndex.{indexOf, indexRoom, writeIndex}
-use Rattle.meaning.specs.Column.{sumValue}
+use Rattle.meaning.specs.Column.{pairSlices}
+use Rattle.meaning.specs.declared.Pairing.{Pairing}
 use Rattle.meaning.specs.Answer.{anyBad}
-use Rattle.meaning.specs.Columns.{sliceCount, wider, existing, badColumn, badRow, strays, valueAt, askValue, pairColumn, askPair, askSum}
+use Rattle.meaning.specs.Columns.{sliceCount, wider, pairWidth, existing, badColumn, badRow, strays, askAt, pairColumn, askPair}
 use Rattle.laws.proofs.Tests.{or-false}
 use Rattle.laws.proofs.Demanded.{good-each}
-use Rattle.laws.proofs.ColumnsHold.{column-length}
+use Rattle.laws.proofs.NamedBitmaps.{column-length, column-named}
+use Rattle.laws.proofs.ColumnsHold.{pair-slices}
+use Rattle.laws.proofs.Outcomes.{refuse-answer}
 use Rattle.answers.specs.declared.refusal.Refusal.{Refusal}
 use Rattle.answers.specs.declared.answer.Written.the-variants as written
 use Rattle.answers.specs.Told.{refusedBy, refusal, Wrote}
 use Rattle.answers.proofs.Tells.{wrote-refused, wrote-none, wrote-words}
 use Rattle.pairs.specs.Passes.{Columns}
-use Rattle.column_sum.specs.Sums.{SumWritten}
+use Rattle.column_pair.specs.Written.{PairWritten}
+
+-- a test, and what comes behind it
+refuse-then : {A : Type 0} (t : Bool) (n b w : ℕ) (v : Verdict) (o : Outcome A) → (refuseIf t n b w v then o) ≡ refuseIf t n b w (v then o)
+unfolding refuseIf _then_
+refuse-then true n b w v o = refl
+refuse-then false n b w v o = refl
 
 -- ---- a list
 
@@ -48,7 +57,7 @@ pub good-column : (index : List ℕ) (most : ℕ) (list : List ℕ) → badColum
 unfolding badColumn
 good-column index most list e =
     let l = column-length index most list e in
-    (l .0, l .1, good-each index list (or-false (ltb (length list) leastColumn || ltb most (length list)) (anyBad index list) e .1))
+    (l .0, l .1, good-each index list (column-named index most list e))
 
 -- ---- a row
 
@@ -67,17 +76,33 @@ module _ (index list : List ℕ) (r : ℕ) where
 
   -- ---- a value
 
-  pub value-bad-list : badColumn index mostValueColumn list ≡ true → refusedBy (refusal 8 0) ≡ askValue index list r
-  unfolding askValue refuseIf
-  value-bad-list h = rw h
+  -- what is refused of it
+  abbrev pub rowVerdict : Verdict
+  rowVerdict = refuseIf (badColumn index mostValueColumn list || badRow index list r) 8 0 0 (strays index list)
 
-  pub value-bad-row : badColumn index mostValueColumn list ≡ false → badRow index list r ≡ true → refusedBy (refusal 8 0) ≡ askValue index list r
-  unfolding askValue refuseIf
-  value-bad-row h g = rw (h, g)
+  pub row-bad-list : badColumn index mostValueColumn list ≡ true → refusedBy (refusal 8 0) ≡ rowVerdict
+  unfolding refuseIf
+  row-bad-list h = rw h
 
-  pub value-rest : badColumn index mostValueColumn list ≡ false → badRow index list r ≡ false → (strays index list then answer (valueAt index list r)) ≡ askValue index list r
-  unfolding askValue refuseIf
-  value-rest h g = rw (h, g)
+  pub row-bad-row : badColumn index mostValueColumn list ≡ false → badRow index list r ≡ true
+      → refusedBy (refusal 8 0) ≡ rowVerdict
+  unfolding refuseIf
+  row-bad-row h g = rw (h, g)
+
+  pub row-rest : badColumn index mostValueColumn list ≡ false → badRow index list r ≡ false → strays index list ≡ rowVerdict
+  unfolding refuseIf
+  row-rest h g = rw (h, g)
+
+  -- and else the value is told
+  pub asked-then : {A : Type 0} (v : A) → (rowVerdict then answer v) ≡ askAt index list r v
+  unfolding askAt
+  asked-then v = refuse-then (badColumn index mostValueColumn list || badRow index list r) 8 0 0 (strays index list) (answer v)
+
+  -- where nothing is refused the list names a column, and the row exists
+  pub row-passed : rowVerdict ≡ sound → (badColumn index mostValueColumn list ≡ false) × (badRow index list r ≡ false)
+  row-passed e =
+      or-false (badColumn index mostValueColumn list) (badRow index list r)
+      (refuse-answer (badColumn index mostValueColumn list || badRow index list r) 8 0 0 (strays index list) tt e .0)
 
 -- ---- two columns
 
@@ -91,17 +116,39 @@ module _ (first second : List ℕ) where
   unfolding wider sliceCount
   wider-first h = omega arith
 
-module _ (index first second : List ℕ) where
-  -- the slices of the sum
+  pub wider-low : length first ≤ mostColumn → length second ≤ mostColumn → wider first second < mostColumn
+  unfolding wider sliceCount
+  wider-low h g = omega arith
+
+-- the slices of an answer, by the operation's name
+pub width-of : (op o : Pairing) (first second : List ℕ) (w n : ℕ) → w ≡ wider first second → op ≡ o → n ≡ pairSlices o w
+    → n ≡ pairWidth op first second
+unfolding pairWidth
+width-of op o first second w n e f g = g ∙ ap₂ pairSlices (sym f) e
+
+-- at least as many as the wider has, and at most one more
+module _ (op : Pairing) (first second : List ℕ) where
+  width-least : wider first second ≤ pairWidth op first second
+  unfolding pairWidth
+  width-least = pair-slices op (wider first second) .0
+
+  width-most : pairWidth op first second ≤ suc (wider first second)
+  unfolding pairWidth
+  width-most = pair-slices op (wider first second) .1
+
+module _ (op : Pairing) (index first second : List ℕ) where
+  -- the slices of the answer
   abbrev n : ℕ
-  n = suc (wider first second)
+  n = pairWidth op first second
 
   pub two-columns : IndexFacts index → badColumn index mostColumn first ≡ false → badColumn index mostColumn second ≡ false
-      → (m : ℕ) → m ≡ wider first second → Columns index first second (m + 1)
+      → (m : ℕ) → m ≡ n → Columns index first second m
   unfolding wider sliceCount
   two-columns f a b m e =
       let p = good-column index mostColumn first a in
       let q = good-column index mostColumn second b in
+      let least = width-least op first second in
+      let most = width-most op first second in
       record {
         facts = f;
         first-listed = record { most = omega (arith, p .1); its = p .2 };
@@ -115,35 +162,32 @@ module _ (index first second : List ℕ) where
 
   -- what is left where both lists are good, and no row strays
   abbrev pub writing : (room : ℕ) → Outcome (List ℕ)
-  writing room = writeIndex (formatOf index) (rowCount index) (pairColumn index sumValue n first second) room
+  writing room = writeIndex (formatOf index) (rowCount index) (pairColumn index op n first second) room
 
-  module _ (old out : List ℕ) (m need : ℕ) (e : m ≡ wider first second) (w : SumWritten index first second (m + 1) old out need) where
-    same : m + 1 ≡ n
-    same = omega arith
-
-    w′ : SumWritten index first second n old out need
-    w′ = subst (λ (k : ℕ). SumWritten index first second k old out need) same w
+  module _ (old out : List ℕ) (m need : ℕ) (e : m ≡ n) (w : PairWritten op index first second m old out need) where
+    w′ : PairWritten op index first second n old out need
+    w′ = subst (λ (k : ℕ). PairWritten op index first second k old out need) e w
 
     pub wrote-no-room : indexRoom (length old) < need → (r : Refusal) → r ≡ refusal 9 need → Wrote (writing (length old)) (written.Refused r) old out
     unfolding writeIndex
-    wrote-no-room h r k = rw (k, w′ .lacks h) (wrote-none old (indexOf (formatOf index) (rowCount index) (pairColumn index sumValue n first second)) need (w′ .need-is) h)
+    wrote-no-room h r k = rw (k, w′ .lacks h) (wrote-none old (indexOf (formatOf index) (rowCount index) (pairColumn index op n first second)) need (w′ .need-is) h)
 
-    pub wrote-sum : need ≤ indexRoom (length old) → Wrote (writing (length old)) (written.Words need) old out
+    pub wrote-pair : need ≤ indexRoom (length old) → Wrote (writing (length old)) (written.Words need) old out
     unfolding writeIndex
-    wrote-sum h = wrote-words old (indexOf (formatOf index) (rowCount index) (pairColumn index sumValue n first second)) need (w′ .need-is) out h (w′ .fits h ∙ ap (λ (k : ℕ). indexOf (formatOf index) (rowCount index) (pairColumn index sumValue n first second) ++ drop k old) (w′ .need-is))
+    wrote-pair h = wrote-words old (indexOf (formatOf index) (rowCount index) (pairColumn index op n first second)) need (w′ .need-is) out h (w′ .fits h ∙ ap (λ (k : ℕ). indexOf (formatOf index) (rowCount index) (pairColumn index op n first second) ++ drop k old) (w′ .need-is))
 
   module _ (out : List ℕ) where
-    pub sum-bad-first : badColumn index mostColumn first ≡ true → (r : Refusal) → r ≡ refusal 8 0
-        → Wrote (askSum index first second (length out)) (written.Refused r) out out
-    unfolding askSum askPair refuseIf
-    sum-bad-first h r e = wrote-refused out r _ (ap refusedBy e ∙ rw h)
+    pub pair-bad-first : badColumn index mostColumn first ≡ true → (r : Refusal) → r ≡ refusal 8 0
+        → Wrote (askPair index op first second (length out)) (written.Refused r) out out
+    unfolding askPair refuseIf
+    pair-bad-first h r e = wrote-refused out r _ (ap refusedBy e ∙ rw h)
 
-    pub sum-bad-second : badColumn index mostColumn first ≡ false → badColumn index mostColumn second ≡ true → (r : Refusal) → r ≡ refusal 8 0
-        → Wrote (askSum index first second (length out)) (written.Refused r) out out
-    unfolding askSum askPair refuseIf
-    sum-bad-second h g r e = wrote-refused out r _ (ap refusedBy e ∙ rw (h, g))
+    pub pair-bad-second : badColumn index mostColumn first ≡ false → badColumn index mostColumn second ≡ true → (r : Refusal) → r ≡ refusal 8 0
+        → Wrote (askPair index op first second (length out)) (written.Refused r) out out
+    unfolding askPair refuseIf
+    pair-bad-second h g r e = wrote-refused out r _ (ap refusedBy e ∙ rw (h, g))
 
-    pub sum-rest : badColumn index mostColumn first ≡ false → badColumn index mostColumn second ≡ false
-        → (strays index first then strays index second then writing (length out)) ≡ askSum index first second (length out)
-    unfolding askSum askPair refuseIf
-    sum-rest h g = rw (h, g)
+    pub pair-rest : badColumn index mostColumn first ≡ false → badColumn index mostColumn second ≡ false
+        → (strays index first then strays index second then writing (length out)) ≡ askPair index op first second (length out)
+    unfolding askPair refuseIf
+    pair-rest h g = rw (h, g)

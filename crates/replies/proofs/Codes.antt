@@ -6,6 +6,7 @@ use mathlib.Core.Path.{_≡_, refl, sym, ap, _∙_, ap₂, subst}
 use mathlib.Core.List.{List}
 use native.Mathlib.Omega.{arith}
 use lib.Dec.{eqb}
+use lib.IntN.{ℤ}
 use lib.ListN.{length, take, drop}
 use lib.Seq.{take-append-seam}
 use mir.Val.{boolByte}
@@ -25,10 +26,11 @@ use Rattle.replies.specs.declared.reply.ZvChecked.{ZvChecked}
 use Rattle.replies.specs.declared.reply.ZvFlag.{ZvFlag}
 use Rattle.replies.specs.declared.reply.ZvNumber.{ZvNumber}
 use Rattle.replies.specs.declared.reply.ZvValue.{ZvValue}
+use Rattle.replies.specs.declared.reply.ZvSignedValue.{ZvSignedValue}
 use Rattle.replies.specs.declared.reply.ZvWritten.{ZvWritten}
 use Rattle.replies.specs.declared.reply.ZvAnswered.{ZvAnswered}
 use Rattle.replies.specs.declared.reply.ZvHistogram.{ZvHistogram}
-use Rattle.replies.specs.Exported.{numberIn, bitmapIn, wordIn, flagIn, firstIn, lastIn, valueIn, checkedCode, flagCode, numberCode, valueCode, writtenCode, answeredCode, writtenReply, answeredReply, told, verdictTold, flagTold, numberTold, valueRead, writtenTold, answeredTold, Checks, Flags, Numbers, Values, Writes, Reports, Counts, histogramReply, histogramCode, countsTold}
+use Rattle.replies.specs.Exported.{numberIn, bitmapIn, wordIn, flagIn, firstIn, lastIn, valueIn, signedIn, checkedCode, flagCode, numberCode, valueCode, signedCode, writtenCode, answeredCode, writtenReply, answeredReply, told, verdictTold, flagTold, numberTold, valueRead, signedRead, writtenTold, answeredTold, Checks, Flags, Numbers, Values, SignedValues, Writes, Reports, Counts, histogramReply, histogramCode, countsTold}
 use Rattle.laws.proofs.Numbered.{number-of}
 
 -- ---- reading an outcome
@@ -71,6 +73,10 @@ numbers o r n e = record { code = e; tells = ap numberTold e ∙ value-is o n }
 
 pub values : (o : Outcome ℕ) (r : ZvValue) → Numbered o → r ≡ valueCode o → Values o r
 values o r n e = record { code = e; tells = ap valueRead e ∙ value-is o n }
+
+pub signed-values : (o : Outcome ℤ) (r : ZvSignedValue) → Numbered o → r ≡ signedCode o → SignedValues o r
+unfolding signedIn
+signed-values o r n e = record { code = e; tells = ap signedRead e ∙ told-is o (signedIn o) n (λ x p. ap signedIn p) }
 
 -- ---- a call that writes
 

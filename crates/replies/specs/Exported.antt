@@ -5,6 +5,7 @@ use mathlib.Core.Bool.{cond}
 use mathlib.Core.Path.{_≡_}
 use mathlib.Core.List.{List}
 use lib.Dec.{eqb}
+use lib.IntN.{ℤ, pos}
 use lib.ListN.{length, take, drop}
 use Rattle.meaning.specs.Refusal.{Outcome, refused, answer, Verdict}
 use Rattle.meaning.specs.declared.Row.{Row}
@@ -20,6 +21,7 @@ use Rattle.replies.specs.declared.reply.ZvChecked.{ZvChecked}
 use Rattle.replies.specs.declared.reply.ZvFlag.{ZvFlag}
 use Rattle.replies.specs.declared.reply.ZvNumber.{ZvNumber}
 use Rattle.replies.specs.declared.reply.ZvValue.{ZvValue}
+use Rattle.replies.specs.declared.reply.ZvSignedValue.{ZvSignedValue}
 use Rattle.replies.specs.declared.reply.ZvWritten.{ZvWritten}
 use Rattle.replies.specs.declared.reply.ZvAnswered.{ZvAnswered}
 use Rattle.replies.specs.declared.reply.ZvPart.{ZvPart}
@@ -62,6 +64,10 @@ unfoldable pub valueIn : Outcome ℕ → ℕ
 valueIn (refused number bitmap word) = 0
 valueIn (answer n) = n
 
+unfoldable pub signedIn : Outcome ℤ → ℤ
+signedIn (refused number bitmap word) = pos 0
+signedIn (answer z) = z
+
 abbrev pub checkedCode : Verdict → ZvChecked
 checkedCode o = record { number = numberIn o; bitmap = bitmapIn o; word = wordIn o }
 
@@ -73,6 +79,9 @@ numberCode o = record { number = numberIn o; bitmap = bitmapIn o; word = wordIn 
 
 abbrev pub valueCode : Outcome ℕ → ZvValue
 valueCode o = record { number = numberIn o; bitmap = bitmapIn o; word = wordIn o; value = valueIn o }
+
+abbrev pub signedCode : Outcome ℤ → ZvSignedValue
+signedCode o = record { number = numberIn o; bitmap = bitmapIn o; word = wordIn o; value = signedIn o }
 
 abbrev pub writtenCode : Outcome (List ℕ) → ZvWritten
 writtenCode o = record { number = numberIn o; bitmap = bitmapIn o; word = wordIn o; words = wordsReported o }
@@ -130,6 +139,9 @@ numberTold r = told (r .number) (r .bitmap) (r .word) (r .value)
 abbrev pub valueRead : ZvValue → Outcome ℕ
 valueRead r = told (r .number) (r .bitmap) (r .word) (r .value)
 
+abbrev pub signedRead : ZvSignedValue → Outcome ℤ
+signedRead r = told (r .number) (r .bitmap) (r .word) (r .value)
+
 -- of a call that wrote: its words are those that the buffer begins with
 abbrev pub writtenTold : ZvWritten → (buffer′ : List ℕ) → Outcome (List ℕ)
 writtenTold r buffer′ = told (r .number) (r .bitmap) (r .word) (take (r .words) buffer′)
@@ -160,6 +172,10 @@ pub record Numbers (o : Outcome ℕ) (r : ZvNumber) : Type 0 where
 pub record Values (o : Outcome ℕ) (r : ZvValue) : Type 0 where
   pub code : r ≡ valueCode o
   pub tells : valueRead r ≡ o
+
+pub record SignedValues (o : Outcome ℤ) (r : ZvSignedValue) : Type 0 where
+  pub code : r ≡ signedCode o
+  pub tells : signedRead r ≡ o
 
 pub record Writes (o : Outcome (List ℕ)) (r : ZvWritten) (buffer buffer′ : List ℕ) : Type 0 where
   pub code : r ≡ writtenCode o

@@ -1,12 +1,13 @@
 // What an exported call returns: the three numbers of a refusal, all 0 where there is none, and the values, 0 on a refusal.
 // A struct of numbers, since C has no enum that holds values.
 ghost use mathlib.Core.Path.{_≡_};
-ghost use Rattle.answers.specs.Told.{verdictOf, flagOf, numberOf, valueTold};
-ghost use Rattle.replies.specs.Exported.{checkedCode, flagCode, numberCode, valueCode, writtenReply, answeredReply, partReply, histogramReply};
+ghost use Rattle.answers.specs.Told.{verdictOf, flagOf, numberOf, valueTold, signedTold};
+ghost use Rattle.replies.specs.Exported.{checkedCode, flagCode, numberCode, valueCode, signedCode, writtenReply, answeredReply, partReply, histogramReply};
 use answers::answer::Answered;
 use answers::answer::Flag;
 use answers::answer::Histogram;
 use answers::answer::Number;
+use answers::answer::SignedValue;
 use answers::answer::Value;
 use answers::answer::Written;
 use answers::refusal::Checked;
@@ -45,6 +46,14 @@ pub struct ZvValue {
     pub bitmap: u32,
     pub word: u64,
     pub value: u64,
+}
+
+#[repr(C)]
+pub struct ZvSignedValue {
+    pub number: u32,
+    pub bitmap: u32,
+    pub word: u64,
+    pub value: i64,
 }
 
 #[repr(C)]
@@ -153,6 +162,25 @@ pub fn value(told: Value) -> ZvValue
             value: 0,
         },
         Value::Is(n) => ZvValue {
+            number: 0,
+            bitmap: 0,
+            word: 0,
+            value: n,
+        },
+    }
+}
+
+pub fn signed_value(told: SignedValue) -> ZvSignedValue
+    ensures { λ r. ⌜ r ≡ signedCode (signedTold told) ⌝ }
+{
+    match told {
+        SignedValue::Refused(refusal) => ZvSignedValue {
+            number: refusal.number,
+            bitmap: refusal.bitmap,
+            word: refusal.word,
+            value: 0,
+        },
+        SignedValue::Is(n) => ZvSignedValue {
             number: 0,
             bitmap: 0,
             word: 0,

@@ -14,18 +14,20 @@ ghost use Rattle.meaning.specs.Answer as meaning;
 ghost use Rattle.meaning.specs.Columns as columns;
 ghost use Rattle.meaning.specs.Rewriting as rewriting;
 ghost use Rattle.laws.specs.Demands.{Asked, ThresholdDemand};
-ghost use Rattle.answers.specs.Told.{verdictOf, flagOf, numberOf, valueTold, answeredOf, Wrote, Reported, Counted};
+ghost use Rattle.answers.specs.Told.{verdictOf, flagOf, numberOf, valueTold, signedTold, answeredOf, Wrote, Reported, Counted};
 use answers::answer;
 pub use answers::answer::Answered;
 pub use answers::answer::Flag;
 pub use answers::answer::Histogram;
 pub use answers::answer::Number;
+pub use answers::answer::SignedValue;
 pub use answers::answer::Value;
 pub use answers::answer::Written;
 pub use answers::refusal::Checked;
 pub use answers::refusal::Refusal;
 pub use meaning::Format;
 use meaning::MOST_ROWS;
+use meaning::Pairing;
 pub use meaning::Row;
 
 // ---- one body alone, of a format: bitmap 0, with places counted in the body; too many rows are refused first
@@ -331,15 +333,60 @@ pub fn value(index: &[u32], column: &[u32], row: u32) -> Value
     }
 }
 
-// The sum of two columns of up to `MOST_COLUMN` numbers each, as a new index of the same format: the rows that exist
-// in both, then one slice more than the wider has.
-pub fn sum(index: &[u32], first: &[u32], second: &[u32], out: &mut [u32]) -> Written
-    ensures { λ r. ⌜ Wrote (columns.sum (now (index .entry)) (now (first .entry)) (now (second .entry))
+// The same of a signed column, which is two's complement with the top slice as its sign.
+pub fn signed_value(index: &[u32], column: &[u32], row: u32) -> SignedValue
+    ensures { λ r. ⌜ signedTold r ≡ columns.signedValue (now (index .entry)) (now (column .entry)) row ⌝ }
+{
+    let checked = check(index);
+    match checked {
+        Checked::Refused(refusal) => SignedValue::Refused(refusal),
+        Checked::Sound => columns::ask::signed_value(index, column, row),
+    }
+}
+
+// ---- two columns of up to `MOST_COLUMN` numbers each, as a new index of the same format: the rows that exist in both,
+// then the slices
+
+// What an operation makes of them.
+fn pair(op: Pairing, index: &[u32], first: &[u32], second: &[u32], out: &mut [u32]) -> Written
+    ensures { λ r. ⌜ Wrote (columns.pair (now (index .entry)) op (now (first .entry)) (now (second .entry))
         (length (now (out .entry)))) r (now (out .entry)) (now (out .exit)) ⌝ }
 {
     let checked = check(index);
     match checked {
         Checked::Refused(refusal) => Written::Refused(refusal),
-        Checked::Sound => columns::ask::sum(index, first, second, out),
+        Checked::Sound => columns::pair::pair(op, index, first, second, out),
     }
+}
+
+// The sums, with one slice more than the wider column has.
+pub fn sum(index: &[u32], first: &[u32], second: &[u32], out: &mut [u32]) -> Written
+    ensures { λ r. ⌜ Wrote (columns.sum (now (index .entry)) (now (first .entry)) (now (second .entry))
+        (length (now (out .entry)))) r (now (out .entry)) (now (out .exit)) ⌝ }
+{
+    pair(Pairing::Sum, index, first, second, out)
+}
+
+// The differences, the first less the second, as a signed column of one slice more than the wider has.
+pub fn signed_difference(index: &[u32], first: &[u32], second: &[u32], out: &mut [u32]) -> Written
+    ensures { λ r. ⌜ Wrote (columns.signedDifference (now (index .entry)) (now (first .entry)) (now (second .entry))
+        (length (now (out .entry)))) r (now (out .entry)) (now (out .exit)) ⌝ }
+{
+    pair(Pairing::Difference, index, first, second, out)
+}
+
+// The smaller of both values, with as many slices as the wider column has.
+pub fn smaller(index: &[u32], first: &[u32], second: &[u32], out: &mut [u32]) -> Written
+    ensures { λ r. ⌜ Wrote (columns.smaller (now (index .entry)) (now (first .entry)) (now (second .entry))
+        (length (now (out .entry)))) r (now (out .entry)) (now (out .exit)) ⌝ }
+{
+    pair(Pairing::Smaller, index, first, second, out)
+}
+
+// The differences, and 0 where they are negative, with as many slices as the wider column has.
+pub fn difference_or_zero(index: &[u32], first: &[u32], second: &[u32], out: &mut [u32]) -> Written
+    ensures { λ r. ⌜ Wrote (columns.differenceOrZero (now (index .entry)) (now (first .entry)) (now (second .entry))
+        (length (now (out .entry)))) r (now (out .entry)) (now (out .exit)) ⌝ }
+{
+    pair(Pairing::DifferenceOrZero, index, first, second, out)
 }

@@ -10,7 +10,7 @@ ghost use Rattle.meaning.specs.declared.Format.the-variants.{Ewah};
 ghost use Rattle.meaning.specs.Answer as meaning;
 ghost use Rattle.meaning.specs.Columns as columns;
 ghost use Rattle.laws.specs.Demands.{Asked, ThresholdDemand};
-ghost use Rattle.replies.specs.Exported.{Checks, Flags, Numbers, Values, Writes, Reports, Lends, Counts, answeredTold};
+ghost use Rattle.replies.specs.Exported.{Checks, Flags, Numbers, Values, SignedValues, Writes, Reports, Lends, Counts, answeredTold};
 use replies::reply;
 pub use replies::reply::ZvAnswered;
 pub use replies::reply::ZvChecked;
@@ -18,6 +18,7 @@ pub use replies::reply::ZvFlag;
 pub use replies::reply::ZvHistogram;
 pub use replies::reply::ZvNumber;
 pub use replies::reply::ZvPart;
+pub use replies::reply::ZvSignedValue;
 pub use replies::reply::ZvValue;
 pub use replies::reply::ZvWritten;
 use zvonurel::Checked;
@@ -216,9 +217,55 @@ pub extern "C" fn zv_value(index: &[u32], column: &[u32], row: u32) -> ZvValue
 }
 
 #[no_mangle]
+pub extern "C" fn zv_signed_value(index: &[u32], column: &[u32], row: u32) -> ZvSignedValue
+    ensures { λ r. ⌜ SignedValues (columns.signedValue (now (index .entry)) (now (column .entry)) row) r ⌝ }
+{
+    reply::signed_value(zvonurel::signed_value(index, column, row))
+}
+
+#[no_mangle]
 pub extern "C" fn zv_sum(index: &[u32], first: &[u32], second: &[u32], out: &mut [u32]) -> ZvWritten
     ensures { λ r. ⌜ Writes (columns.sum (now (index .entry)) (now (first .entry)) (now (second .entry))
         (length (now (out .entry)))) r (now (out .entry)) (now (out .exit)) ⌝ }
 {
     reply::written(zvonurel::sum(index, first, second, out))
+}
+
+#[no_mangle]
+pub extern "C" fn zv_signed_difference(
+    index: &[u32],
+    first: &[u32],
+    second: &[u32],
+    out: &mut [u32],
+) -> ZvWritten
+    ensures { λ r. ⌜ Writes (columns.signedDifference (now (index .entry)) (now (first .entry)) (now (second .entry))
+        (length (now (out .entry)))) r (now (out .entry)) (now (out .exit)) ⌝ }
+{
+    reply::written(zvonurel::signed_difference(index, first, second, out))
+}
+
+#[no_mangle]
+pub extern "C" fn zv_smaller(
+    index: &[u32],
+    first: &[u32],
+    second: &[u32],
+    out: &mut [u32],
+) -> ZvWritten
+    ensures { λ r. ⌜ Writes (columns.smaller (now (index .entry)) (now (first .entry)) (now (second .entry))
+        (length (now (out .entry)))) r (now (out .entry)) (now (out .exit)) ⌝ }
+{
+    reply::written(zvonurel::smaller(index, first, second, out))
+}
+
+#[no_mangle]
+pub extern "C" fn zv_difference_or_zero(
+    index: &[u32],
+    first: &[u32],
+    second: &[u32],
+    out: &mut [u32],
+) -> ZvWritten
+    ensures { λ r. ⌜ Writes (columns.differenceOrZero (now (index .entry)) (now (first .entry)) (now (second .entry))
+        (length (now (out .entry)))) r (now (out .entry)) (now (out .exit)) ⌝ }
+{
+    reply::written(zvonurel::difference_or_zero(index, first, second, out))
 }

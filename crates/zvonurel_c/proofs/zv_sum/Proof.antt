@@ -2,6 +2,7 @@
 use denote.Ref.{now}
 use lib.ListN.{length}
 use Rattle.meaning.specs.Columns as columns
+use Rattle.meaning.specs.declared.Pairing.the-variants.{Sum}
 use Rattle.laws.proofs.Numbered as numbered
 use Rattle.replies.proofs.Codes.{writes}
 use borrow.Author.Needs.{needs}
@@ -21,7 +22,7 @@ returns : tie.Need-returns
 returns c =
     let w = c .before .before .before in
     let a = w .before .before .before .before .before .before .args in
-    writes (columns.sum (now (a .index)) (now (a .first)) (now (a .second)) (length (now (a .out)))) (w .sum .result) (c .written .result) (now (a .out)) (w .sum .last .1 .1 .1 .0) (numbered.sum (now (a .index)) (now (a .first)) (now (a .second)) (length (now (a .out)))) (c .written .ensures) (w .sum .ensures)
+    writes (columns.sum (now (a .index)) (now (a .first)) (now (a .second)) (length (now (a .out)))) (w .sum .result) (c .written .result) (now (a .out)) (w .sum .last .1 .1 .1 .0) (numbered.pair (now (a .index)) Sum (now (a .first)) (now (a .second)) (length (now (a .out)))) (c .written .ensures) (w .sum .ensures)
 
 pub zv-sum-spec : {M : Type 1} → statement M
 zv-sum-spec = tie.close (tie.spec sum-requires written-requires same-length returns)

@@ -1,53 +1,18 @@
--- `columns::ask::value` meets its contract: 8, then 11, then the value.
+-- `columns::ask::value` meets its contract: what `check_row` refuses, and then the value.
 -- Assumes nothing.
-use mathlib.Core.Bool.{false}
-use mathlib.Core.Path.{_≡_, sym, ap, _∙_}
+use mathlib.Core.Path.{ap, _∙_}
 use denote.Ref.{now}
-use Rattle.meaning.specs.Limits.{mostValueColumn}
-use Rattle.meaning.specs.Refusal.{answer}
-use Rattle.meaning.specs.Columns.{badColumn, badRow}
-use Rattle.answers.specs.Told.{refusedBy, valueTold}
-use Rattle.answers.proofs.Checks.{refuses, answers}
-use Rattle.columns.proofs.Asking.{good-column, good-row, value-bad-list, value-bad-row, value-rest}
+use Rattle.meaning.specs.Refusal.{answer, Verdict}
+use Rattle.meaning.specs.Columns.{valueAt, askValue}
+use Rattle.answers.specs.Told.{valueTold}
+use Rattle.answers.proofs.Checks.{sound-is, refuses, answers}
+use Rattle.columns.proofs.Asking.{rowVerdict, asked-then, row-passed, good-column, good-row}
 use borrow.Author.Needs.{needs}
 use Rattle.columns.proofs.ask.value.Statement.{statement}
 use Rattle.columns.proofs.ask.value.Tie as tie
 
--- behind the two tests
-good-list : (e : tie.Else1) → badColumn (now (e .before .before .before .before .args .index)) mostValueColumn (now (e .before .before .before .before .args .list)) ≡ false
-good-list e = sym (e .before .column-is-bad .ensures) ∙ e .if1 .left
-
-row-good : (e : tie.Else2) → badRow (now (e .before .before .before .before .before .before .args .index)) (now (e .before .before .before .before .before .before .args .list)) (e .before .before .before .before .before .before .args .row) ≡ false
-row-good e = sym (e .before .row-is-bad .ensures) ∙ e .if2 .left
-
-column-is-bad-requires : tie.Need-column-is-bad-requires
-column-is-bad-requires c κs = search needs
-
-bad-argument-requires : tie.Need-bad-argument-requires
-bad-argument-requires c κs = search needs
-
-returns : tie.Need-returns
-unfolding valueTold
-returns c =
-    ap refusedBy (c .bad-argument .ensures) ∙ value-bad-list _ _ _ (sym (c .before .before .column-is-bad .ensures) ∙ c .before .if1 .taken)
-
-row-is-bad-requires : tie.Need-row-is-bad-requires
-row-is-bad-requires c κs =
-    (c .before .before .before .before .pre, sym (c .before .column-is-bad .ensures) ∙ c .if1 .left)
-
-bad-argument-requires-2 : tie.Need-bad-argument-requires-2
-bad-argument-requires-2 c κs = search needs
-
-returns-2 : tie.Need-returns-2
-unfolding valueTold
-returns-2 c =
-    ap refusedBy (c .bad-argument2 .ensures)
-    ∙ value-bad-row _ _ _ (good-list (c .before .before .before)) (sym (c .before .before .row-is-bad .ensures) ∙ c .before .if2 .taken)
-
-strays-requires : tie.Need-strays-requires
-strays-requires c κs =
-    let g = good-column _ _ _ (good-list (c .before .before)) in
-    (c .before .before .before .before .before .before .pre, (g .0, g .1, g .2))
+check-row-requires : tie.Need-check-row-requires
+check-row-requires c κs = search needs
 
 enum-known-checked : tie.Need-enum-known-checked
 enum-known-checked c = search needs
@@ -57,36 +22,38 @@ enum-told c = search needs
 
 value-requires : tie.Need-value-requires
 value-requires c κs =
-    let g = good-column _ _ _ (good-list (c .before .before .before .before .before)) in
-    (c .before .before .before .before .before .before .before .before .before .pre, (g .0, g .1, g .2, good-row _ _ _ (row-good (c .before .before .before))))
+    let k = c .before .before in
+    let a = k .before .before .before .args in
+    let v : Verdict = rowVerdict (now (a .index)) (now (a .list)) (a .row) in
+    let p = row-passed _ _ _ (sound-is (k .check-row .result) v (k .check-row .ensures) (c .enum-told .given .1)) in
+    let g = good-column _ _ _ (p .0) in
+    (k .before .before .before .pre, (g .0, g .1, g .2, good-row _ _ _ (p .1)))
 
-returns-3 : tie.Need-returns-3
-unfolding valueTold
-returns-3 c =
+returns : tie.Need-returns
+unfolding valueTold askValue
+returns c =
     let k = c .before .before .before in
-    refuses (k .strays .result) _ (k .strays .ensures) _ _ (c .before .checked .given .1)
-    ∙ value-rest _ _ _ (good-list (k .before .before .before)) (row-good (k .before))
+    let a = k .before .before .before .args in
+    refuses (k .check-row .result) (rowVerdict (now (a .index)) (now (a .list)) (a .row)) (k .check-row .ensures)
+    (answer (valueAt (now (a .index)) (now (a .list)) (a .row))) _ (c .before .checked .given .1)
+    ∙ asked-then (now (a .index)) (now (a .list)) (a .row) _
 
-returns-4 : tie.Need-returns-4
-unfolding valueTold
-returns-4 c =
+returns-2 : tie.Need-returns-2
+unfolding valueTold askValue
+returns-2 c =
     let k = c .before .before .before in
-    answers (k .strays .result) _ (k .strays .ensures) _ _ (c .before .enum-told .given .1) (ap answer (c .value .ensures))
-    ∙ value-rest _ _ _ (good-list (k .before .before .before)) (row-good (k .before))
+    let a = k .before .before .before .args in
+    answers (k .check-row .result) (rowVerdict (now (a .index)) (now (a .list)) (a .row)) (k .check-row .ensures)
+    _ _ (c .before .enum-told .given .1) (ap answer (c .value .ensures))
+    ∙ asked-then (now (a .index)) (now (a .list)) (a .row) _
 
 pub value-spec : {M : Type 1} → statement M
 value-spec =
     tie.close
     (tie.spec
-    column-is-bad-requires
-    bad-argument-requires
-    returns
-    row-is-bad-requires
-    bad-argument-requires-2
-    returns-2
-    strays-requires
+    check-row-requires
     enum-known-checked
     enum-told
     value-requires
-    returns-3
-    returns-4)
+    returns
+    returns-2)

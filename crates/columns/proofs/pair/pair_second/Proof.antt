@@ -1,4 +1,4 @@
--- `columns::ask::sum_second` meets its contract: 11 of the second column, then the sum.
+-- `columns::pair::pair_second` meets its contract: 11 of the second column, then what is written.
 -- Assumes nothing.
 use denote.Ref.{now}
 use lib.ListN.{length}
@@ -7,8 +7,8 @@ use Rattle.answers.proofs.Tells.{wrote-refused, wrote-then}
 use Rattle.columns.proofs.Asking.{good-column, writing}
 use native.Mathlib.Omega.{arith}
 use borrow.Author.Needs.{needs}
-use Rattle.columns.proofs.ask.sum_second.Statement.{statement}
-use Rattle.columns.proofs.ask.sum_second.Tie as tie
+use Rattle.columns.proofs.pair.pair_second.Statement.{statement}
+use Rattle.columns.proofs.pair.pair_second.Tie as tie
 
 strays-requires : tie.Need-strays-requires
 strays-requires c κs =
@@ -22,14 +22,14 @@ enum-known-checked c = search needs
 enum-told : tie.Need-enum-told
 enum-told c = search needs
 
-write-sum-requires : tie.Need-write-sum-requires
-write-sum-requires c κs = search needs
+write-pair-requires : tie.Need-write-pair-requires
+write-pair-requires c κs = search needs
 
 returns : tie.Need-returns
 returns c =
     let k = c .before .before .before in
     let a = k .before .before .before .before .before .args in
-    wrote-refused (now (a .out)) _ _ (refuses (k .strays .result) _ (k .strays .ensures) (writing (now (a .index)) (now (a .first)) (now (a .second)) (length (now (a .out)))) _ (c .before .checked .given .1))
+    wrote-refused (now (a .out)) _ _ (refuses (k .strays .result) _ (k .strays .ensures) (writing (a .op) (now (a .index)) (now (a .first)) (now (a .second)) (length (now (a .out)))) _ (c .before .checked .given .1))
 
 same-length : tie.Need-same-length
 same-length c = search needs
@@ -40,16 +40,16 @@ returns-2 c =
     let t = w .before .before in
     let k = t .before .before in
     let a = k .before .before .before .before .before .args in
-    wrote-then (k .strays .result) _ (writing (now (a .index)) (now (a .first)) (now (a .second)) (length (now (a .out)))) (w .write-sum .result) (now (a .out)) (w .write-sum .last .1 .1 .1 .0) (k .strays .ensures) (t .enum-told .given .1) (w .write-sum .ensures)
+    wrote-then (k .strays .result) _ (writing (a .op) (now (a .index)) (now (a .first)) (now (a .second)) (length (now (a .out)))) (w .write-pair .result) (now (a .out)) (w .write-pair .last .1 .1 .1 .1 .0) (k .strays .ensures) (t .enum-told .given .1) (w .write-pair .ensures)
 
-pub sum-second-spec : {M : Type 1} → statement M
-sum-second-spec =
+pub pair-second-spec : {M : Type 1} → statement M
+pair-second-spec =
     tie.close
     (tie.spec
     strays-requires
     enum-known-checked
     enum-told
-    write-sum-requires
+    write-pair-requires
     returns
     same-length
     returns-2)

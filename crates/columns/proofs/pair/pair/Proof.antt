@@ -1,4 +1,4 @@
--- `columns::ask::sum` meets its contract: 8 of either list, 11 of the first column, and then `sum_second`.
+-- `columns::pair::pair` meets its contract: 8 of either list, 11 of the first column, and then `pair_second`.
 -- Assumes nothing.
 use Prim.Native.Nat.{ℕ}
 use mathlib.Core.Bool.{false}
@@ -12,11 +12,11 @@ use Rattle.meaning.specs.Columns.{badColumn, strays}
 use Rattle.answers.specs.Told.{Wrote}
 use Rattle.answers.proofs.Checks.{refuses}
 use Rattle.answers.proofs.Tells.{wrote-refused, wrote-then}
-use Rattle.columns.proofs.Asking.{good-column, writing, sum-bad-first, sum-bad-second, sum-rest}
+use Rattle.columns.proofs.Asking.{good-column, writing, pair-bad-first, pair-bad-second, pair-rest}
 use native.Mathlib.Omega.{arith}
 use borrow.Author.Needs.{needs}
-use Rattle.columns.proofs.ask.sum.Statement.{statement}
-use Rattle.columns.proofs.ask.sum.Tie as tie
+use Rattle.columns.proofs.pair.pair.Statement.{statement}
+use Rattle.columns.proofs.pair.pair.Tie as tie
 
 -- behind the two tests
 good-first : (e : tie.Else1) → badColumn (now (e .before .before .before .before .before .before .args .index)) mostColumn (now (e .before .before .before .before .before .before .args .first)) ≡ false
@@ -34,7 +34,7 @@ bad-argument-requires c κs = search needs
 returns : tie.Need-returns
 returns c =
     let a = c .before .before .before .before .before .before .before .args in
-    sum-bad-first (now (a .index)) (now (a .first)) (now (a .second)) (now (a .out)) (sym (c .before .before .column-is-bad .ensures) ∙ c .before .if1 .taken) (c .bad-argument .result) (c .bad-argument .ensures)
+    pair-bad-first (a .op) (now (a .index)) (now (a .first)) (now (a .second)) (now (a .out)) (sym (c .before .before .column-is-bad .ensures) ∙ c .before .if1 .taken) (c .bad-argument .result) (c .bad-argument .ensures)
 
 column-is-bad-requires-2 : tie.Need-column-is-bad-requires-2
 column-is-bad-requires-2 c κs = search needs
@@ -45,7 +45,7 @@ bad-argument-requires-2 c κs = search needs
 returns-2 : tie.Need-returns-2
 returns-2 c =
     let a = c .before .before .before .before .before .before .before .before .before .args in
-    sum-bad-second (now (a .index)) (now (a .first)) (now (a .second)) (now (a .out)) (good-first (c .before .before .before)) (sym (c .before .before .column-is-bad2 .ensures) ∙ c .before .if2 .taken) (c .bad-argument2 .result) (c .bad-argument2 .ensures)
+    pair-bad-second (a .op) (now (a .index)) (now (a .first)) (now (a .second)) (now (a .out)) (good-first (c .before .before .before)) (sym (c .before .before .column-is-bad2 .ensures) ∙ c .before .if2 .taken) (c .bad-argument2 .result) (c .bad-argument2 .ensures)
 
 strays-requires : tie.Need-strays-requires
 strays-requires c κs =
@@ -58,8 +58,8 @@ enum-known-checked c = search needs
 enum-told : tie.Need-enum-told
 enum-told c = search needs
 
-sum-second-requires : tie.Need-sum-second-requires
-sum-second-requires c κs =
+pair-second-requires : tie.Need-pair-second-requires
+pair-second-requires c κs =
     let e = c .before .before .before .before in
     (e .before .before .before .before .before .before .before .before .pre, (good-first (e .before .before), good-second e))
 
@@ -68,8 +68,8 @@ returns-3 c =
     let k = c .before .before .before in
     let a = k .before .before .before .before .before .before .before .before .before .args in
     wrote-refused (now (a .out)) _ _
-    (refuses (k .strays .result) _ (k .strays .ensures) (strays (now (a .index)) (now (a .second)) then writing (now (a .index)) (now (a .first)) (now (a .second)) (length (now (a .out)))) _ (c .before .checked .given .1)
-    ∙ sum-rest (now (a .index)) (now (a .first)) (now (a .second)) (now (a .out)) (good-first (k .before .before .before)) (good-second (k .before)))
+    (refuses (k .strays .result) _ (k .strays .ensures) (strays (now (a .index)) (now (a .second)) then writing (a .op) (now (a .index)) (now (a .first)) (now (a .second)) (length (now (a .out)))) _ (c .before .checked .given .1)
+    ∙ pair-rest (a .op) (now (a .index)) (now (a .first)) (now (a .second)) (now (a .out)) (good-first (k .before .before .before)) (good-second (k .before)))
 
 same-length : tie.Need-same-length
 same-length c = search needs
@@ -80,12 +80,12 @@ returns-4 c =
     let t = w .before .before in
     let k = t .before .before in
     let a = k .before .before .before .before .before .before .before .before .before .args in
-    subst (λ (o : Outcome (List ℕ)). Wrote o (w .sum-second .result) (now (a .out)) (w .sum-second .last .1 .1 .1 .0))
-    (sum-rest (now (a .index)) (now (a .first)) (now (a .second)) (now (a .out)) (good-first (k .before .before .before)) (good-second (k .before)))
-    (wrote-then (k .strays .result) _ (strays (now (a .index)) (now (a .second)) then writing (now (a .index)) (now (a .first)) (now (a .second)) (length (now (a .out)))) (w .sum-second .result) (now (a .out)) (w .sum-second .last .1 .1 .1 .0) (k .strays .ensures) (t .enum-told .given .1) (w .sum-second .ensures))
+    subst (λ (o : Outcome (List ℕ)). Wrote o (w .pair-second .result) (now (a .out)) (w .pair-second .last .1 .1 .1 .1 .0))
+    (pair-rest (a .op) (now (a .index)) (now (a .first)) (now (a .second)) (now (a .out)) (good-first (k .before .before .before)) (good-second (k .before)))
+    (wrote-then (k .strays .result) _ (strays (now (a .index)) (now (a .second)) then writing (a .op) (now (a .index)) (now (a .first)) (now (a .second)) (length (now (a .out)))) (w .pair-second .result) (now (a .out)) (w .pair-second .last .1 .1 .1 .1 .0) (k .strays .ensures) (t .enum-told .given .1) (w .pair-second .ensures))
 
-pub sum-spec : {M : Type 1} → statement M
-sum-spec =
+pub pair-spec : {M : Type 1} → statement M
+pair-spec =
     tie.close
     (tie.spec
     column-is-bad-requires
@@ -97,7 +97,7 @@ sum-spec =
     strays-requires
     enum-known-checked
     enum-told
-    sum-second-requires
+    pair-second-requires
     returns-3
     same-length
     returns-4)

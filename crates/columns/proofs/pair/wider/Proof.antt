@@ -1,9 +1,9 @@
--- `columns::ask::wider` meets its contract.
+-- `columns::pair::wider` meets its contract.
 -- Assumes nothing.
 use Rattle.columns.proofs.Asking.{wider-first, wider-second}
 use borrow.Author.Needs.{needs}
-use Rattle.columns.proofs.ask.wider.Statement.{statement}
-use Rattle.columns.proofs.ask.wider.Tie as tie
+use Rattle.columns.proofs.pair.wider.Statement.{statement}
+use Rattle.columns.proofs.pair.wider.Tie as tie
 
 sub-result : tie.Need-sub-result
 sub-result c = search needs
