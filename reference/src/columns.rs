@@ -2,13 +2,13 @@
 
 use std::ops::Range;
 
-use crate::body::settled;
 use crate::format::Format;
-use crate::index::{open, Bodies, Index};
-use crate::limits::{LEAST_COLUMN, MOST_SUMMED, MOST_VALUED};
-use crate::mistakes::{mistaken, mistaken_in, with_mistake, Mistake};
+use crate::index::{open, Index};
+use crate::limits::{LEAST_COLUMN, MOST_VALUED};
+use crate::mistakes::{limit, mistaken, Mistake};
 use crate::refusal::{bad_argument, refusal, Refusal};
 use crate::spans::Spans;
+use crate::widths::by_32;
 
 /// A bitmap that a list names as a slice, or as several.
 struct Slice {
@@ -17,38 +17,38 @@ struct Slice {
     /// Its first place among the slices.
     place: usize,
     /// What it adds to the number of a row, by all its places.
-    worth: u64,
+    worth: i64,
     /// Its rows, and behind them its pads, which only mistakes look at.
     rows: Spans<bool>,
 }
 
 /// A column as its list names it, strays and all.
-struct Column {
+pub(crate) struct Column {
     /// That of the index.
-    format: Format,
+    pub format: Format,
     /// R.
-    count: usize,
+    pub count: usize,
     /// Like a slice's rows.
-    exists: Spans<bool>,
+    pub exists: Spans<bool>,
     /// How many slices the list names.
-    digits: usize,
+    pub digits: usize,
     /// Lowest digit first, each bitmap once.
     slices: Vec<Slice>,
 }
 
 impl Column {
     /// The rows, and for a mistake the pads as well.
-    fn rows_taking(&self, pads_too: bool) -> Range<usize> {
+    pub fn rows_taking(&self, pads_too: bool) -> Range<usize> {
         0..if pads_too { self.exists.len() } else { self.count }
     }
 
     /// The number that the slices spell at a row.
-    fn number(&self, row: usize) -> u64 {
+    fn number(&self, row: usize) -> i64 {
         self.slices.iter().filter(|slice| slice.rows.get(row) == Some(true)).map(|slice| slice.worth).sum()
     }
 
     /// The same for each row.
-    fn numbers(&self) -> Spans<u64> {
+    pub fn numbers(&self) -> Spans<i64> {
         let mut numbers = Spans::alike(self.exists.len(), 0);
         for slice in &self.slices {
             numbers = numbers.with(&slice.rows, |number, set| if set { number + slice.worth } else { number });
@@ -58,7 +58,7 @@ impl Column {
 }
 
 /// Existence first, then the slices; `most` numbers at most.
-fn column(index: &Index, list: &[u32], most: usize) -> Result<Column, Refusal> {
+pub(crate) fn column(index: &Index, list: &[u32], most: usize) -> Result<Column, Refusal> {
     if !(LEAST_COLUMN..=most).contains(&list.len()) {
         return Err(bad_argument());
     }
@@ -80,7 +80,7 @@ fn strays(slice: &Slice, exists: &Spans<bool>) -> Spans<bool> {
 }
 
 /// Refusal 11: a stray row, told of the first slice in list order that has one.
-fn no_strays(column: &Column) -> Result<(), Refusal> {
+pub(crate) fn no_strays(column: &Column) -> Result<(), Refusal> {
     none_where(&column.exists.part(column.rows_taking(mistaken(Mistake::PadIsStray))), &column.slices)
 }
 
@@ -113,7 +113,7 @@ fn none_where(exists: &Spans<bool>, slices: &[Slice]) -> Result<(), Refusal> {
 }
 
 /// The same for two columns.
-fn no_strays_in_either(first: &Column, second: &Column) -> Result<(), Refusal> {
+pub(crate) fn no_strays_in_either(first: &Column, second: &Column) -> Result<(), Refusal> {
     if mistaken(Mistake::SecondColumnFirst) {
         no_strays(second)?;
     }
@@ -128,101 +128,71 @@ fn no_strays_in_either(first: &Column, second: &Column) -> Result<(), Refusal> {
 
 // ---- the value at a row ----
 
-/// The number that a column has at a row.
-pub fn value(index: &[u32], list: &[u32], row: u32) -> Result<u64, Refusal> {
-    let index = open(index)?;
-    let most = if mistaken(Mistake::ValueTakesOneLess) { MOST_VALUED - 1 } else { MOST_VALUED };
-    let column = column(&index, list, most)?;
+/// The column whose number at a row may be told. The mistakes are those of a value, or of a signed one.
+fn asked(
+    index: &[u32],
+    list: &[u32],
+    row: usize,
+    most: usize,
+    missing_is_zero: Mistake,
+    skips_strays: Mistake,
+) -> Result<Column, Refusal> {
+    let column = column(&open(index)?, list, most)?;
     if mistaken(Mistake::StrayBeforeRow) {
         no_strays(&column)?;
     }
-    let row = row as usize;
     if !column.rows_taking(mistaken(Mistake::ValueInPads)).contains(&row) {
         return Err(bad_argument());
     }
     // Without strays a row that doesn't exist spells 0, which is what the mistake says.
-    if column.exists.get(row) == Some(false) && !mistaken(Mistake::MissingRowIsZero) {
+    if column.exists.get(row) == Some(false) && !mistaken(missing_is_zero) {
         return Err(bad_argument());
     }
-    if !mistaken(Mistake::ValueSkipsStrays) {
+    if !mistaken(skips_strays) {
         no_strays(&column)?;
     }
-    Ok(column.number(row))
+    Ok(column)
 }
 
-// ---- the sum of two columns ----
-
-/// The sum as a new index: contents, existence, slices.
-pub fn sum(index: &[u32], first: &[u32], second: &[u32], room: usize) -> Result<Vec<u32>, Refusal> {
-    let index = open(index)?;
-    let most = if mistaken(Mistake::SumTakesOneMore) { MOST_SUMMED + 1 } else { MOST_SUMMED };
-    let first = column(&index, first, most)?;
-    if mistaken(Mistake::StrayBeforeSecondList) {
-        no_strays(&first)?;
-    }
-    let second = column(&index, second, most)?;
-
-    if !mistaken(Mistake::NoRoomBeforeStray) {
-        no_strays_in_either(&first, &second)?;
-    }
-    let format = if mistaken(Mistake::SumKindOne) { Format::Ewah } else { index.format };
-    let mut bodies = Bodies::within(room, Mistake::SumByBufferAlone, Mistake::NeedWithoutContents);
-    push_sum(&mut bodies, &first, &second);
-    let words = bodies.write(format, index.rows)?;
-    if mistaken(Mistake::NoRoomBeforeStray) {
-        no_strays_in_either(&first, &second)?;
-    }
-    Ok(words)
+/// The number that a column has at a row.
+pub fn value(index: &[u32], list: &[u32], row: u32) -> Result<u64, Refusal> {
+    let most = if mistaken(Mistake::ValueTakesOneLess) { MOST_VALUED - 1 } else { MOST_VALUED };
+    let row = row as usize;
+    let column = asked(index, list, row, most, Mistake::MissingRowIsZero, Mistake::ValueSkipsStrays)?;
+    Ok(column.number(row) as u64)
 }
 
-/// The bodies of the sum: existence, then its slices, lowest first.
-fn push_sum(bodies: &mut Bodies, first: &Column, second: &Column) {
-    let rows = first.rows_taking(mistaken_in(first.format, Mistake::SumKeepsPads, Mistake::WahSumKeepsPads));
-    let exists = first.exists.with(&second.exists, exists_in_sum).part(rows.clone());
-    let numbers = first.numbers().with(&second.numbers(), added).part(rows);
-
-    let wider = first.digits.max(second.digits);
-    let digits = if mistaken(Mistake::TopSliceLeftOut) { wider } else { wider + 1 };
-    bodies.push(&sum_body(exists.clone(), first.count, first.format));
-    for place in 0..digits {
-        let masked = !(mistaken(Mistake::SumSliceUnmasked) && place + 1 == wider);
-        let slice = numbers.with(&exists, |number, exists| (number >> place) & 1 == 1 && (exists || !masked));
-        if mistaken(Mistake::EmptySlicesLeftOut) && !slice.any() {
-            continue;
-        }
-        bodies.push(&sum_body(slice, first.count, first.format));
+/// The number that a signed column has at a row: two's complement, the top slice being its sign.
+pub fn signed_value(index: &[u32], list: &[u32], row: u32) -> Result<i64, Refusal> {
+    let (one_more, one_less) = (Mistake::SignedTakesOneMore, Mistake::SignedTakesOneLess);
+    let most = limit(MOST_VALUED, one_more, one_less, MOST_VALUED - 1);
+    let row = row as usize;
+    let column = asked(index, list, row, most, Mistake::SignedMissingIsZero, Mistake::SignedSkipsStrays)?;
+    let number = signed(&column, row);
+    if mistaken(Mistake::SignedCutAtWord) {
+        return Ok(i64::from(number as i32));
     }
+    Ok(number)
 }
 
-/// The settled body of so many rows; pads behind them, which come of a mistake, are left out unless they are set.
-fn sum_body(mut rows: Spans<bool>, count: usize, format: Format) -> Vec<u32> {
-    let pads = rows.split_off(count);
-    if pads.any() {
-        rows.append(&pads);
+/// From the top digit's worth on, a number stands for one that is less by all that the digits can spell.
+fn signed(column: &Column, row: usize) -> i64 {
+    let (number, top) = (column.number(row), 1 << (column.digits - 1));
+    if mistaken(Mistake::SignBy32) && column.format == Format::Wah {
+        let sign = if column.number(by_32(row)) < top { 0 } else { top };
+        return number % top - sign;
     }
-    if mistaken(Mistake::SumFullTailDirty) {
-        return with_mistake(Mistake::FullTailDirty, || settled(&rows, format));
+    let no_sign =
+        mistaken(Mistake::SignNotNegated) || mistaken(Mistake::SignInWidestOnly) && column.digits + 1 < MOST_VALUED;
+    if number < top || no_sign {
+        return number;
     }
-    if mistaken(Mistake::SumBodiesInEwah) {
-        return settled(&rows, Format::Ewah);
+    if mistaken(Mistake::SignAndMagnitude) {
+        return top - number;
     }
-    settled(&rows, format)
-}
-
-fn exists_in_sum(first: bool, second: bool) -> bool {
-    if mistaken(Mistake::SumExistsInEither) {
-        return first || second;
+    if mistaken(Mistake::SignNegatedInAllPlaces) {
+        let of_sign = column.slices.iter().find(|slice| slice.worth >= top);
+        return number - 2 * of_sign.map_or(0, |slice| slice.worth);
     }
-    first && second
-}
-
-/// Two numbers of a row; the mistakes add each digit by itself, or drop the high ones.
-fn added(first: u64, second: u64) -> u64 {
-    if mistaken(Mistake::CarryDropped) {
-        return first ^ second;
-    }
-    if mistaken(Mistake::SumCutAtWord) {
-        return (first + second) & u64::from(u32::MAX);
-    }
-    first + second
+    number - 2 * top
 }

@@ -13,9 +13,9 @@ pub const TALLY_ENTRIES: usize = MOST_NAMED + 1;
 
 /// Numbers in a column's list, at least: existence and one slice.
 pub const LEAST_COLUMN: usize = 2;
-/// Numbers in a summed column's list, at most: existence and 32 slices.
+/// Numbers in the list of either of two columns, at most: existence and 32 slices.
 pub const MOST_SUMMED: usize = 33;
-/// Numbers in the list where only a value is asked, at most: a sum has one slice more.
+/// Numbers in the list where only a value is asked, at most: a sum and a difference have one slice more.
 pub const MOST_VALUED: usize = 34;
 
 /// Word 0 of an index with EWAH bodies.

@@ -71,9 +71,9 @@ pub enum Mistake {
     SumExistsInEither,
     /// A sum has as many slices as the wider column.
     TopSliceLeftOut,
-    /// At a value, refusal 11 comes before 8 for the row.
+    /// At a value, signed or not, refusal 11 comes before 8 for the row.
     StrayBeforeRow,
-    /// At a sum, the first column's 11 comes before 8 for the second list.
+    /// Of two columns, the first one's 11 comes before 8 for the second list.
     StrayBeforeSecondList,
     /// Refusal 9 comes before 11.
     NoRoomBeforeStray,
@@ -85,9 +85,9 @@ pub enum Mistake {
     ValueTakesOneLess,
     /// Refusal 11 tells a column's lowest stray of all, and the slice that has it.
     StrayLowestOfAll,
-    /// At a sum, the rows that exist are those that both columns have.
+    /// Of two columns, each is held against the rows that both have.
     StrayAgainstBoth,
-    /// Refusal 9 of a sum counts its bodies alone, without head and contents.
+    /// Refusal 9 of an index made of two columns counts its bodies alone, without head and contents.
     NeedWithoutContents,
     /// A sum's numbers are cut to a word's bits.
     SumCutAtWord,
@@ -139,7 +139,7 @@ pub enum Mistake {
     TallyCountsRunPads,
     /// A pad under a slice's run of ones is a stray row where existence has a dirty word.
     PadIsStray,
-    /// The value at a pad is told, if existence has a run of ones over it.
+    /// The value at a pad, signed or not, is told, if existence has a run of ones over it.
     ValueInPads,
     /// A sum's bodies have the pad bits that come of adding the runs over them.
     SumKeepsPads,
@@ -317,9 +317,10 @@ pub enum Mistake {
     TableInByte,
     /// The tally does.
     TallyInByte,
-    /// A sum of over `MOST_INDEX_WORDS` words is written where the buffer has room.
+    /// An index made of two columns, but for a difference, of over `MOST_INDEX_WORDS` words is written where the buffer
+    /// has room.
     SumByBufferAlone,
-    /// The same of a rewritten index.
+    /// The same of an index that is rewritten.
     RewriteByBufferAlone,
     /// An answer that is an index of just `MOST_INDEX_WORDS` words is refused with 9.
     LongestIndexRefused,
@@ -341,6 +342,95 @@ pub enum Mistake {
     TallyListAsOnce,
     /// The tally's entries over `NAMED_ONCE` stay 0.
     TallyAsOnce,
+    /// The top slice of a signed column counts like the others.
+    SignNotNegated,
+    /// A signed value is the number of the lower slices, made negative by the top one.
+    SignAndMagnitude,
+    /// A list of under `MOST_VALUED` numbers has no sign.
+    SignInWidestOnly,
+    /// A bitmap that is the sign and a lower slice too is negated in all its places.
+    SignNegatedInAllPlaces,
+    /// The sign of a row of a WAH column is looked for in segment r / 32, at bit r % 32.
+    SignBy32,
+    /// A signed value takes lists of under `MOST_VALUED` numbers only.
+    SignedTakesOneLess,
+    /// A signed value takes lists of `MOST_VALUED` numbers and one more.
+    SignedTakesOneMore,
+    /// The signed value at a row that doesn't exist is 0.
+    SignedMissingIsZero,
+    /// A signed value looks at its own row only, so never refuses with 11.
+    SignedSkipsStrays,
+    /// A signed value is cut to a word's bits, and read as signed again.
+    SignedCutAtWord,
+    /// A difference takes each digit by itself.
+    BorrowDropped,
+    /// The borrow out of the wider column's top digit is lost: no difference has a sign.
+    SignNeverSet,
+    /// A difference of 0 has its sign set, as if the first number were less.
+    ZeroIsNegative,
+    /// A difference is the second column less the first.
+    DifferenceSwapped,
+    /// A negative difference is written as its magnitude, under the sign.
+    MagnitudeWritten,
+    /// A negative difference is written in ones' complement.
+    OnesComplement,
+    /// A difference is taken in a word's bits, the top one being its sign.
+    DifferenceInWord,
+    /// In a difference the narrower column is taken for a signed one.
+    NarrowerExtended,
+    /// A difference has as many slices as the wider column.
+    SignSliceLeftOut,
+    /// A difference that is negative nowhere has no sign slice.
+    EmptySignLeftOut,
+    /// The sign slice also holds rows that the second column alone has.
+    SignUnmasked,
+    /// A row exists in the difference if one column or both have it.
+    DifferenceExistsInEither,
+    /// A row exists in the difference if the first column has it.
+    DifferenceExistsInFirst,
+    /// A difference takes lists of `MOST_SUMMED` numbers and one more.
+    DifferenceTakesOneMore,
+    /// Word 0 of a WAH difference is that of EWAH.
+    DifferenceKindOne,
+    /// A difference's bodies, with negatives or without, have the pad bits that come of the runs over them.
+    DifferenceKeepsPads,
+    /// `DifferenceKeepsPads` in WAH alone.
+    WahDifferenceKeepsPads,
+    /// `SumByBufferAlone` for a difference.
+    DifferenceByBufferAlone,
+    /// The larger number is taken for the smaller one.
+    LargerTaken,
+    /// Of two equal numbers the smaller one is 0.
+    TieIsZero,
+    /// The smaller number has each digit that both numbers have.
+    SmallerByDigits,
+    /// The smaller number is found by the slices that both columns have.
+    ComparedByNarrower,
+    /// A column of the smaller numbers has one slice more than the wider one.
+    SmallerSliceTooMany,
+    /// A column of the smaller numbers has as many slices as the narrower one.
+    SmallerCutAtNarrower,
+    /// A row exists among the smaller numbers if one column or both have it; a number that is missing counts as 0.
+    SmallerExistsInEither,
+    /// The bodies of a WAH column of the smaller numbers are written in EWAH.
+    SmallerBodiesInEwah,
+    /// The bodies of the smaller numbers have the pad bits under the runs of both columns.
+    SmallerKeepsPads,
+    /// `SmallerKeepsPads` in WAH alone.
+    WahSmallerKeepsPads,
+    /// A negative difference that should be made 0 is kept, as far as its digits are written.
+    NegativeKept,
+    /// A negative difference that should be made 0 is turned positive.
+    NegativeMadeAbsolute,
+    /// A row whose negative difference should be made 0 doesn't exist.
+    NegativeRowsGone,
+    /// A difference with negatives made 0 has one slice more than the wider column.
+    ZeroedSliceTooMany,
+    /// A difference with negatives made 0 has as many slices as the first column.
+    ZeroedAsWideAsFirst,
+    /// Where negatives are made 0, a row exists if the first column has it; a second number that is missing counts as
+    /// 0.
+    ZeroedExistsInFirst,
 }
 
 /// The most rows of a bitmap as they once were, for mistakes only.
@@ -519,6 +609,50 @@ impl Mistake {
         Mistake::TableListAsOnce,
         Mistake::TallyListAsOnce,
         Mistake::TallyAsOnce,
+        Mistake::SignNotNegated,
+        Mistake::SignAndMagnitude,
+        Mistake::SignInWidestOnly,
+        Mistake::SignNegatedInAllPlaces,
+        Mistake::SignBy32,
+        Mistake::SignedTakesOneLess,
+        Mistake::SignedTakesOneMore,
+        Mistake::SignedMissingIsZero,
+        Mistake::SignedSkipsStrays,
+        Mistake::SignedCutAtWord,
+        Mistake::BorrowDropped,
+        Mistake::SignNeverSet,
+        Mistake::ZeroIsNegative,
+        Mistake::DifferenceSwapped,
+        Mistake::MagnitudeWritten,
+        Mistake::OnesComplement,
+        Mistake::DifferenceInWord,
+        Mistake::NarrowerExtended,
+        Mistake::SignSliceLeftOut,
+        Mistake::EmptySignLeftOut,
+        Mistake::SignUnmasked,
+        Mistake::DifferenceExistsInEither,
+        Mistake::DifferenceExistsInFirst,
+        Mistake::DifferenceTakesOneMore,
+        Mistake::DifferenceKindOne,
+        Mistake::DifferenceKeepsPads,
+        Mistake::WahDifferenceKeepsPads,
+        Mistake::DifferenceByBufferAlone,
+        Mistake::LargerTaken,
+        Mistake::TieIsZero,
+        Mistake::SmallerByDigits,
+        Mistake::ComparedByNarrower,
+        Mistake::SmallerSliceTooMany,
+        Mistake::SmallerCutAtNarrower,
+        Mistake::SmallerExistsInEither,
+        Mistake::SmallerBodiesInEwah,
+        Mistake::SmallerKeepsPads,
+        Mistake::WahSmallerKeepsPads,
+        Mistake::NegativeKept,
+        Mistake::NegativeMadeAbsolute,
+        Mistake::NegativeRowsGone,
+        Mistake::ZeroedSliceTooMany,
+        Mistake::ZeroedAsWideAsFirst,
+        Mistake::ZeroedExistsInFirst,
     ];
 }
 

@@ -16,6 +16,11 @@ pub(crate) fn looked_up(body: &Body, row: usize) -> usize {
     if !made(body.format, Mistake::RowBy32) || row >= body.rows.len() {
         return row;
     }
+    by_32(row)
+}
+
+/// The row of WAH that lies where this one would if segments had a whole word of rows.
+pub(crate) fn by_32(row: usize) -> usize {
     row / WORD_BITS * WAH_ROWS + row % WORD_BITS
 }
 

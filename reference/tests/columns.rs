@@ -1,6 +1,7 @@
 //! Columns: values, sums and their refusals, worked out by hand.
 
 mod common;
+use common::columns::*;
 use common::*;
 use reference::limits::*;
 use reference::*;
@@ -8,30 +9,8 @@ use reference::*;
 const ANY: usize = usize::MAX;
 const BAD: Refusal = Refusal { number: 8, bitmap: 0, word: 0 };
 
-/// One segment with these rows set.
-const fn one(rows: u32) -> [u32; 2] {
-    [0x0002_0000, rows]
-}
-
-/// 4 rows. Bitmaps 0 to 2 have 1, 2, 3 at rows 0, 1, 2; bitmaps 3 and 4 have 1, 1, 0 at rows 1, 2, 3.
-fn small() -> Vec<u32> {
-    index_of(4, &[&one(0x7), &one(0x5), &one(0x6), &one(0xE), &one(0x6)])
-}
-
-/// 64 rows: none, all, the first segment, the second.
-fn halves() -> Vec<u32> {
-    index_of(64, &[&[4], &[5], &[3, 2], &[2, 3]])
-}
-
-/// A sum with just the room it needs; one word less is refused with that number.
 fn sum_of(index: &[u32], first: &[u32], second: &[u32]) -> Vec<u32> {
-    let words = sum(index, first, second, ANY).unwrap();
-    let need = words.len();
-    assert_eq!(sum(index, first, second, need).as_ref(), Ok(&words));
-    assert_eq!(sum(index, first, second, need - 1), Err(no(9, 0, need as u64)));
-    assert_eq!(sum(index, first, second, 0), Err(no(9, 0, need as u64)));
-    assert_eq!(check(&words), Ok(()));
-    words
+    written(sum, index, first, second)
 }
 
 #[test]
@@ -187,13 +166,6 @@ fn eight_lists_and_rows() {
     for row in [3, 4, 31, 32, u32::MAX] {
         assert_eq!(value(&index, &good, row), Err(BAD));
     }
-}
-
-/// 40 rows: 0 to 31; 32 to 39; row 39; rows 3 and 35; row 7; none.
-fn strays() -> Vec<u32> {
-    let bodies: [&[u32]; 6] =
-        [&[3, 2], &[0x0002_0002, 0xFF], &[0x0002_0002, 0x80], &[0x0004_0000, 8, 8], &[0x0002_0000, 0x80, 2], &[4]];
-    index_of(40, &bodies)
 }
 
 #[test]

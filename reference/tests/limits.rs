@@ -203,6 +203,13 @@ fn most_rows_in_an_index() {
         assert_eq!(value(&index, &[1, 0, 1, 2, 3], 536_870_912), Ok(2 + 4 + 8));
         let twice = sum(&index, &[1, 1], &[1, 1], ANY).unwrap();
         assert_eq!(twice, index_in(format, MOST_ROWS, &[all, none, all]));
+        // 0 - 1 everywhere; the smaller is 0.
+        let less = signed_difference(&index, &[1, 0], &[1, 1], ANY).unwrap();
+        assert_eq!(less, index_in(format, MOST_ROWS, &[all, all, all]));
+        assert_eq!(signed_value(&less, &[0, 1, 2], LAST), Ok(-1));
+        for call in [smaller, difference_or_zero] {
+            assert_eq!(call(&index, &[1, 0], &[1, 1], ANY).unwrap(), index_in(format, MOST_ROWS, &[all, none]));
+        }
         for to in Format::ALL {
             let there = rewrite_index(&index, to, ANY).unwrap();
             assert_eq!(rewrite_index(&there, format, index.len()).as_ref(), Ok(&index));
@@ -237,5 +244,8 @@ fn a_sum_too_long() {
         for room in [MOST_INDEX_WORDS, need] {
             assert_eq!(sum(&index, &[0; 33], &[0; 33], room), Err(no(9, 0, need as u64)), "{format:?} {room}");
         }
+        // The smaller of the two has no slice above theirs: all bodies are this one.
+        let need = (need - 2 - empty) as u64;
+        assert_eq!(smaller(&index, &[0; 33], &[0; 33], ANY), Err(no(9, 0, need)), "{format:?}");
     }
 }

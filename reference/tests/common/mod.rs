@@ -5,6 +5,7 @@ use reference::limits::{ENTRY_WORDS, HEAD_WORDS, WORD_BITS};
 use reference::Refusal;
 
 pub mod bodies;
+pub mod columns;
 
 pub use reference::Format::{self, Ewah, Wah};
 

@@ -89,8 +89,13 @@ fn as_once() -> Vec<Case> {
 // ---- answers that are an index: these take long, and so have no part in the tables ----
 
 /// The mistakes that need an index of `MOST_INDEX_WORDS` words or more to show.
-pub const LONG: [Mistake; 4] =
-    [Mistake::SumByBufferAlone, Mistake::RewriteByBufferAlone, Mistake::LongestIndexRefused, Mistake::LongNeedCut];
+pub const LONG: [Mistake; 5] = [
+    Mistake::SumByBufferAlone,
+    Mistake::RewriteByBufferAlone,
+    Mistake::LongestIndexRefused,
+    Mistake::LongNeedCut,
+    Mistake::DifferenceByBufferAlone,
+];
 
 /// How many words, or which number is told.
 fn length_of(words: Result<Vec<u32>, Refusal>) -> Result<usize, Refusal> {
@@ -104,16 +109,22 @@ fn mixed(rows: u32, segments: u32) -> Vec<u32> {
     compress(rows, &plain, Ewah, ANY).unwrap()
 }
 
-/// 2^32 - 1 in the rows of this body, twice: it comes 33 times, behind a slice of none.
+/// 2^32 - 1 in the rows of this body, twice: it comes 33 times, and a slice of none.
 fn doubled(rows: u32, segments: u32) -> Result<usize, Refusal> {
     let index = index_of(rows, &[&mixed(rows, segments)]);
     length_of(sum(&index, &[0; MOST_SUMMED], &[0; MOST_SUMMED], ANY))
 }
 
+/// The same less 0: so many words again.
+fn less_nothing(rows: u32, segments: u32) -> Result<usize, Refusal> {
+    let index = index_of(rows, &[&mixed(rows, segments), &mixed(rows, 0)]);
+    length_of(signed_difference(&index, &[0; MOST_SUMMED], &[0, 1], ANY))
+}
+
 /// Just the limit and one word more. 59 markers of 65,535 segments have no row. The mixed segments have 63 markers
 /// and the rest 28, so that 71 + 59 + 33 * (2,033,507 + 91) = 67,108,864; one segment more is 33 words more.
 #[test]
-#[ignore = "half a minute; cargo test -p reference --test mistakes -- --ignored"]
+#[ignore = "a minute; cargo test -p reference --test mistakes -- --ignored"]
 fn long_sums() {
     const ROWS: u32 = 59 * 65_535 * 32;
     let fits = || doubled(ROWS, 2_033_507);
@@ -123,6 +134,12 @@ fn long_sums() {
     assert_eq!(with_mistake(Mistake::LongNeedCut, passes), Err(no(9, 0, 67_108_864)));
     assert_eq!(with_mistake(Mistake::SumByBufferAlone, passes), Ok(67_108_897));
     assert_eq!(with_mistake(Mistake::RewriteByBufferAlone, passes), passes());
+    assert_eq!(with_mistake(Mistake::DifferenceByBufferAlone, passes), passes());
+
+    let less = || less_nothing(ROWS, 2_033_508);
+    assert_eq!((less_nothing(ROWS, 2_033_507), less()), (fits(), passes()));
+    assert_eq!(with_mistake(Mistake::DifferenceByBufferAlone, less), Ok(67_108_897));
+    assert_eq!(with_mistake(Mistake::SumByBufferAlone, less), passes());
 }
 
 /// 2^26 rows, every segment mixed, 31 times: 31 * 2,097,217 words behind 3 + 2 * 31. In WAH it is 31 * 2,164,803.

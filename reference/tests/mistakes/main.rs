@@ -3,6 +3,7 @@
 #[path = "../common/mod.rs"]
 mod common;
 mod limits;
+mod pairs;
 mod pieces;
 mod wah;
 use common::*;
@@ -58,9 +59,13 @@ fn column_case(m: Mistake) -> String {
     }
 }
 
-/// The bodies of a sum, one after the other, or why there is none. The contents are due by the bodies.
 fn sum_text(index: &[u32], first: &[u32], second: &[u32], room: usize) -> String {
-    match sum(index, first, second, room) {
+    bodies_text(sum(index, first, second, room))
+}
+
+/// The bodies of a new index, one after the other, or why there is none. The contents are due by the bodies.
+fn bodies_text(index: Result<Vec<u32>, Refusal>) -> String {
+    match index {
         Ok(words) => {
             let entries = words[HEAD_WORDS..].chunks(ENTRY_WORDS).take(words[2] as usize);
             let bodies = entries.map(|entry| &words[entry[0] as usize..][..entry[1] as usize]);
@@ -134,7 +139,7 @@ fn tail_case(m: Mistake) -> String {
 
 /// The mistakes that have tables of their own.
 fn tables() -> Vec<wah::Case> {
-    [wah::all(), pieces::all(), limits::all()].into_iter().flatten().collect()
+    [wah::all(), pieces::all(), limits::all(), pairs::all()].into_iter().flatten().collect()
 }
 
 fn find(m: Mistake) -> Option<wah::Case> {

@@ -22,7 +22,7 @@ pub fn all() -> Vec<Case> {
 }
 
 /// A result, numbers in hexadecimal.
-fn hex<T: Debug>(result: Result<T, Refusal>) -> String {
+pub fn hex<T: Debug>(result: Result<T, Refusal>) -> String {
     match result {
         Ok(value) => format!("{value:x?}"),
         Err(r) => format!("refused {} {} {}", r.number, r.bitmap, r.word),
@@ -51,7 +51,7 @@ fn wah(rows: u32, bodies: &[&[u32]]) -> Vec<u32> {
 }
 
 /// 40 rows: all as a fill, all as literals, all but row 39, none.
-fn tails() -> Vec<u32> {
+pub fn tails() -> Vec<u32> {
     wah(40, &[&[0xC000_0002], &[0x7FFF_FFFF, 0x1FF], &[0x7FFF_FFFF, 0xFF], &[0x8000_0002]])
 }
 
