@@ -57,27 +57,32 @@
  * A COLUMN gives each row that exists a value. A list of bitmap numbers names it: the existence bitmap, whose rows
  * exist, and then the slices, the lowest first. Slice i, counted from 0, has the rows whose value has the binary
  * digit of weight 2^i set, and may have no row that does not exist. A list has ZV_LEAST_COLUMN to ZV_MOST_COLUMN
- * numbers, which is 1 to 32 slices, and up to ZV_MOST_VALUE_COLUMN where only a value is asked, since a sum has one
- * slice more. A number may stand in it more than once.
+ * numbers, which is 1 to 32 slices, and up to ZV_MOST_VALUE_COLUMN where only a value is asked, since a sum or a
+ * signed difference has one slice more. A number may stand in it more than once.
+ *
+ * A SIGNED COLUMN is a column in two's complement: of n slices the highest, which is the sign, weighs -2^(n-1), and
+ * each other one what it always weighs, so that values go from -2^(n-1) to 2^(n-1) - 1. Nothing in an index says which
+ * columns are signed. zv_signed_difference writes one, and zv_signed_value reads any as one. Every other call takes
+ * its columns as unsigned, and writes them so.
  *
  * ANSWERS. `number` is 0 where the call was not refused. Else `number`, `bitmap` and `word` say why, every value
  * beside them is 0, and no word of the buffer changes. A call that writes puts its words at the front of the buffer;
  * the words behind them keep their values. Compare answers field by field: a struct may have unused bytes at its end.
  *
  * ROOM. A buffer of ZV_SEGMENTS(rows) words is always long enough for plain words, and one of ZV_MOST_BODY_WORDS(rows)
- * for a body. An index that is written, rewritten or a sum of columns, may be too long for any buffer: with more than
- * ZV_MOST_INDEX_WORDS words it is refused with ZV_NO_ROOM, however long the buffer is. For every other one a buffer of
- * ZV_MOST_NEW_INDEX_WORDS(rows, bitmaps) words, for a sum of ZV_MOST_SUM_WORDS(rows, slices), is long enough; neither
- * size is above ZV_MOST_INDEX_WORDS. These sizes are for EWAH; in WAH the words may be more or fewer, and the sizes are
- * ZV_WAH_MOST_BODY_WORDS, ZV_WAH_MOST_NEW_INDEX_WORDS and ZV_WAH_MOST_SUM_WORDS. A call with a buffer of length 0
- * measures: it is refused with ZV_NO_ROOM, and `word` is the words needed, unless none are, as with plain words or a
- * body of no rows. The pointer must still not be NULL.
+ * for a body. An index that is written, rewritten or made of two columns, may be too long for any buffer: with more
+ * than ZV_MOST_INDEX_WORDS words it is refused with ZV_NO_ROOM, however long the buffer is. For every other one a
+ * buffer of ZV_MOST_NEW_INDEX_WORDS(rows, bitmaps) words is long enough, and where it is made of two columns one of
+ * ZV_MOST_SUM_WORDS(rows, slices); neither size is above ZV_MOST_INDEX_WORDS. These sizes are for EWAH; in WAH the
+ * words may be more or fewer, and the sizes are ZV_WAH_MOST_BODY_WORDS, ZV_WAH_MOST_NEW_INDEX_WORDS and
+ * ZV_WAH_MOST_SUM_WORDS. A call with a buffer of length 0 measures: it is refused with ZV_NO_ROOM, and `word` is the
+ * words needed, unless none are, as with plain words or a body of no rows. The pointer must still not be NULL.
  *
  * COST. A call on an index checks the whole of it first, so it costs at least that check: the head, every entry, and
  * every body's markers and last word, but not its other dirty words; in WAH every word. For many questions on one
  * bitmap, ask zv_bitmap once where its body lies, and then the calls on a body of that format, with the index's word 1
- * as the rows: they check that body alone. zv_value looks through all slices for rows that do not exist, each time.
- * For many values of one column, expand its bitmaps once and put the values together from the bits.
+ * as the rows: they check that body alone. zv_value and zv_signed_value look through all slices for rows that do not
+ * exist, each time. For many values of one column, expand its bitmaps once and put the values together from the bits.
  *
  * LISTING. zv_nth, zv_body_nth and zv_wah_body_nth check and walk from the front each time, and so do zv_row,
  * zv_body_row and zv_wah_body_row. To list all set rows, expand the body once and scan the bits, as example/listing.c
@@ -87,9 +92,9 @@
  * matter, expand the body instead.
  *
  * STACK. A call needs less than ZV_MOST_STACK bytes of stack, whatever it is given: none recurses, and none has an
- * array whose length depends on the input. tests/c/stack.c measures some 14 KiB for zv_sum, 8 KiB for zv_histogram, 5
- * KiB for the calls that answer with a body over bitmaps of an index, and less than 1 KiB for any other. A program's
- * first memcpy or memset may add some 3 KiB, while the system looks for it.
+ * array whose length depends on the input. tests/c/stack.c measures some 14 KiB for zv_sum and the other calls on two
+ * columns, 8 KiB for zv_histogram, 5 KiB for the calls that answer with a body over bitmaps of an index, and less than
+ * 1 KiB for any other. A program's first memcpy or memset may add some 3 KiB, while the system looks for it.
  */
 #ifndef ZVONUREL_H
 #define ZVONUREL_H
@@ -164,14 +169,16 @@ extern "C" {
     (ZV_HEAD_WORDS + (uint64_t)(bitmaps) * (ZV_ENTRY_WORDS + (words)) < ZV_MOST_INDEX_WORDS \
          ? ZV_HEAD_WORDS + (uint64_t)(bitmaps) * (ZV_ENTRY_WORDS + (words)) \
          : (uint64_t)ZV_MOST_INDEX_WORDS)
-/* No index of that many rows and bitmaps that a call writes has more words, be it rewritten or a sum. A buffer of so
- * many is as good as any longer one: where it is refused with ZV_NO_ROOM, more than ZV_MOST_INDEX_WORDS words are
- * needed, and every buffer is. */
+/* No index of that many rows and bitmaps that a call writes has more words, be it rewritten or made of two columns. A
+ * buffer of so many is as good as any longer one: where it is refused with ZV_NO_ROOM, more than ZV_MOST_INDEX_WORDS
+ * words are needed, and every buffer is. */
 #define ZV_MOST_NEW_INDEX_WORDS(rows, bitmaps) ZV_INDEX_WORDS_WITHIN(bitmaps, ZV_MOST_BODY_WORDS(rows))
 /* The same of an index in WAH. */
 #define ZV_WAH_MOST_NEW_INDEX_WORDS(rows, bitmaps) ZV_INDEX_WORDS_WITHIN(bitmaps, ZV_WAH_MOST_BODY_WORDS(rows))
 /* The same of a sum of two columns of that many rows, of which the wider has at most that many slices. It is an index
- * of the existence bitmap and one slice more than these. A list of n numbers names n - 1 slices. */
+ * of the existence bitmap and one slice more than these. A list of n numbers names n - 1 slices. A signed difference
+ * has as many slices as a sum; zv_smaller and zv_difference_or_zero write one fewer, which is an index of `slices` + 1
+ * bitmaps. So the buffer is long enough for each of the four. */
 #define ZV_MOST_SUM_WORDS(rows, slices) ZV_MOST_NEW_INDEX_WORDS(rows, (uint64_t)(slices) + 2u)
 /* The same of columns of an index in WAH. */
 #define ZV_WAH_MOST_SUM_WORDS(rows, slices) ZV_WAH_MOST_NEW_INDEX_WORDS(rows, (uint64_t)(slices) + 2u)
@@ -287,6 +294,14 @@ typedef struct zv_column_value {
     uint64_t word;
     uint64_t value;
 } zv_column_value;
+
+/* A value of a signed column; 0 on a refusal. */
+typedef struct zv_signed_column_value {
+    uint32_t number;
+    uint32_t bitmap;
+    uint64_t word;
+    int64_t value;
+} zv_signed_column_value;
 
 /* How many words were written. */
 typedef struct zv_written {
@@ -459,13 +474,35 @@ zv_histogram_counts zv_histogram(const uint32_t *index, size_t index_words, cons
 zv_column_value zv_value(const uint32_t *index, size_t index_words, const uint32_t *column, size_t column_numbers,
                          uint32_t row);
 
-/* The sum of two columns, row by row, as a new index in the same format, which holds nothing else: the existence
- * bitmap as bitmap 0, then the slices, one more than the wider column has, empty ones included, each body in the form
- * with the fewest words. A row exists in the sum if it does in both. 0, 1 and so on, up to its last bitmap, name the
- * sum in the new index. 8; 11; 9: the buffer is shorter, or the new index would have more than ZV_MOST_INDEX_WORDS
- * words. */
+/* The value of a row of a signed column: what the slices that have it weigh, the highest -2^(n-1) of n. A list of two
+ * numbers has the values 0 and -1, one of ZV_MOST_VALUE_COLUMN from -4,294,967,296 to 4,294,967,295. 8 and 11 as for
+ * zv_value. */
+zv_signed_column_value zv_signed_value(const uint32_t *index, size_t index_words, const uint32_t *column,
+                                       size_t column_numbers, uint32_t row);
+
+/* ---- what is made of two columns, row by row, as a new index in the same format, which holds nothing else: the
+ * existence bitmap as bitmap 0, then the slices, empty ones included, each body in the form with the fewest words. A
+ * row exists in it if it does in both. 0, 1 and so on, up to its last bitmap, name the new column in the new index.
+ * Each call takes lists of up to ZV_MOST_COLUMN numbers. 8; 11; 9: the buffer is shorter, or the new index would have
+ * more than ZV_MOST_INDEX_WORDS words. */
+
+/* The sum: one slice more than the wider column has. */
 zv_written zv_sum(const uint32_t *index, size_t index_words, const uint32_t *first, size_t first_numbers,
                   const uint32_t *second, size_t second_numbers, uint32_t *out, size_t out_words);
+
+/* The first less the second, as a signed column, which zv_signed_value reads: one slice more than the wider column
+ * has, in which every difference has room. The least and the greatest are -4,294,967,295 and 4,294,967,295. */
+zv_written zv_signed_difference(const uint32_t *index, size_t index_words, const uint32_t *first, size_t first_numbers,
+                                const uint32_t *second, size_t second_numbers, uint32_t *out, size_t out_words);
+
+/* The smaller of the two values: as many slices as the wider column has. */
+zv_written zv_smaller(const uint32_t *index, size_t index_words, const uint32_t *first, size_t first_numbers,
+                      const uint32_t *second, size_t second_numbers, uint32_t *out, size_t out_words);
+
+/* The first less the second, and 0 where the second is the greater: as many slices as the wider column has. */
+zv_written zv_difference_or_zero(const uint32_t *index, size_t index_words, const uint32_t *first,
+                                 size_t first_numbers, const uint32_t *second, size_t second_numbers, uint32_t *out,
+                                 size_t out_words);
 
 #ifdef __cplusplus
 }

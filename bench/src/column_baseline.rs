@@ -4,54 +4,118 @@ use zvonurel::WORD_BITS;
 
 use crate::column_inputs::Columns;
 
-/// The slices of each column that is measured, and of their sum.
+/// The slices of each column that is measured, and of what has one more.
 pub const SLICES: usize = 16;
 const DIGITS: usize = SLICES + 1;
 
-/// Writes the plain words of the sum's slices, one slice behind the other. Rows that do not exist are added as well.
-pub type Adds = fn(&Columns, &mut [u32]);
+/// What is made of two columns.
+#[derive(Debug, Clone, Copy, PartialEq, Eq)]
+pub enum Made {
+    Sum,
+    SignedDifference,
+    Smaller,
+    DifferenceOrZero,
+}
 
-/// The programs, with their names.
-pub const SUMS: [(&str, Adds); 4] =
-    [("bit by bit", bit_by_bit), ("row by row", row_by_row), ("transposed", transposed), ("bit-sliced", bit_sliced)];
+/// Writes the plain words of the slices, one slice behind the other. Rows that do not exist are worked on as well.
+pub type Makes = fn(&Columns, &mut [u32]);
 
-/// The words that they write.
-pub fn sum_words(data: &Columns) -> usize {
-    DIGITS * data.segments()
+impl Made {
+    /// The slices that it has.
+    pub fn slices(self) -> usize {
+        match self {
+            Made::Sum | Made::SignedDifference => DIGITS,
+            Made::Smaller | Made::DifferenceOrZero => SLICES,
+        }
+    }
+
+    /// The programs, with their names.
+    pub fn programs(self) -> Vec<(&'static str, Makes)> {
+        match self {
+            Made::Sum => {
+                let mut programs = from_arrays::<Add, DIGITS>();
+                programs.extend([("transposed", transposed as Makes), ("bit-sliced", bit_sliced)]);
+                programs
+            }
+            Made::SignedDifference => from_arrays::<Subtract, DIGITS>(),
+            Made::Smaller => from_arrays::<Least, SLICES>(),
+            Made::DifferenceOrZero => from_arrays::<SubtractOrZero, SLICES>(),
+        }
+    }
+}
+
+/// What is made of two values; as many digits of it are kept as there are slices. A type of its own for each, so that a
+/// program is compiled for it.
+trait Operation {
+    fn of(x: u32, y: u32) -> u32;
+}
+
+struct Add;
+struct Subtract;
+struct Least;
+struct SubtractOrZero;
+
+impl Operation for Add {
+    fn of(x: u32, y: u32) -> u32 {
+        x + y
+    }
+}
+
+impl Operation for Subtract {
+    fn of(x: u32, y: u32) -> u32 {
+        x.wrapping_sub(y)
+    }
+}
+
+impl Operation for Least {
+    fn of(x: u32, y: u32) -> u32 {
+        x.min(y)
+    }
+}
+
+impl Operation for SubtractOrZero {
+    fn of(x: u32, y: u32) -> u32 {
+        x.saturating_sub(y)
+    }
+}
+
+/// The programs that there are for any operation.
+fn from_arrays<O: Operation, const N: usize>() -> Vec<(&'static str, Makes)> {
+    vec![("bit by bit", bit_by_bit::<O>), ("row by row", row_by_row::<O, N>)]
 }
 
 /// The digits of one segment go to their slices, each of so many segments. Inlined, since a call costs the programs time.
 #[inline(always)]
-fn store(out: &mut [u32], segments: usize, at: usize, digits: [u32; DIGITS]) {
+fn store<const N: usize>(out: &mut [u32], segments: usize, at: usize, digits: [u32; N]) {
     for (i, word) in digits.into_iter().enumerate() {
         out[i * segments + at] = word;
     }
 }
 
 /// The straightforward program: two arrays of values, row by row, each digit's bit set in its plain word where it lies.
-fn bit_by_bit(data: &Columns, out: &mut [u32]) {
+fn bit_by_bit<O: Operation>(data: &Columns, out: &mut [u32]) {
     let segments = data.segments();
     let [first, second] = &data.values;
     out.fill(0);
     for (row, (x, y)) in first.iter().zip(second).enumerate() {
-        let sum = x + y;
+        let made = O::of(*x, *y);
         for (i, slice) in out.chunks_exact_mut(segments).enumerate() {
-            slice[row / WORD_BITS] |= (sum >> i & 1) << (row % WORD_BITS);
+            slice[row / WORD_BITS] |= (made >> i & 1) << (row % WORD_BITS);
         }
     }
 }
 
 /// The same with the words of a segment kept at hand until it is whole, so that `out` need not be cleared.
-fn row_by_row(data: &Columns, out: &mut [u32]) {
+fn row_by_row<O: Operation, const N: usize>(data: &Columns, out: &mut [u32]) {
     let segments = data.segments();
     let [first, second] = data.values.each_ref().map(|values| values.chunks(WORD_BITS));
     for (at, (first, second)) in first.zip(second).enumerate() {
-        let mut digits = [0; DIGITS];
+        let mut digits = [0; N];
         let mut bit = 1;
         for (x, y) in first.iter().zip(second) {
-            let sum = x + y;
+            let made = O::of(*x, *y);
             for (i, word) in digits.iter_mut().enumerate() {
-                *word |= if sum & (1 << i) != 0 { bit } else { 0 };
+                *word |= if made & (1 << i) != 0 { bit } else { 0 };
             }
             bit <<= 1;
         }

@@ -61,7 +61,8 @@ CALL   check count body_count expand expand_bitmap compress and threshold
 KIND   quiet (runs of 1,000 to 8,000 segments), calm (runs of 10 to 100
        segments, one to four mixed ones between them), dense (all mixed)
 
-COLUMN-CALL  sum value
+COLUMN-CALL  sum signed_difference smaller difference_or_zero (of two columns)
+             value signed_value (of the first; signed, its top slice the sign)
 COLUMN-KIND  quiet, calm (values that stay as long as such runs, segments in
              which each row differs between them; some gaps in which no row
              exists), apart (each slice quiet by itself), dense (each row
@@ -71,8 +72,9 @@ T is {ENOUGH} for {TANKS} bitmaps, else half of them. The table of symmetric say
 1, 4, 7 and so on. Each figure is the best of several runs; `x` is the plain
 program's time divided by the library's, so above 1 the library is faster. The
 library checks the whole index in every call that takes one; plain programs
-check nothing. Those beside `sum` begin with arrays of values (bit by bit, row by row,
-transposed) or plain words of slices (bit-sliced), and leave existence out.
+check nothing. Those beside `sum` and the other calls on two columns begin with
+arrays of values (bit by bit, row by row, transposed) or plain words of slices
+(bit-sliced), and leave existence out.
 `bitwise` beside `body_count` is body_count_bitwise. --counting has Rust's
 `count_ones` as the program is built, and built for popcnt, for avx2 and for
 avx512 (vpopcntdq), each where the machine has it.

@@ -99,9 +99,18 @@ static inline void valued(source at, zv_column_value got, uint64_t want, uint32_
     same(at, "value", got.value, want);
 }
 
+static inline void signed_valued(source at, zv_signed_column_value got, int64_t want, uint32_t n, uint32_t b,
+                                 uint64_t w)
+{
+    refusal(at, got.number, got.bitmap, got.word, n, b, w);
+    same(at, "signed value, modulo 2^64,", (uint64_t)got.value, (uint64_t)want);
+}
+
 #define FLAGGED(got, value, first, last) flagged(HERE, got, value, first, last, 0, 0, 0)
 #define NOT_FLAGGED(got, n, b, w) flagged(HERE, got, 0, 0, 0, n, b, w)
 #define VALUED(got, want, n, b, w) valued(HERE, got, want, n, b, w)
+#define SIGNED_VALUED(got, want) signed_valued(HERE, got, want, 0, 0, 0)
+#define NOT_SIGNED_VALUED(got, n, b, w) signed_valued(HERE, got, 0, n, b, w)
 #define COUNTED(got, want, n, b, w) counted(HERE, got, want, n, b, w)
 #define WROTE(got, want) wrote(HERE, got, WORDS(want))
 #define NOT_WRITTEN(got, n, b, w) not_written(HERE, got, n, b, w)
@@ -137,6 +146,12 @@ static inline void every_piece(source at, row_call *call, const uint32_t *words,
 
 #define PIECES(call, words, rows_or_k, pieces) every_piece(HERE, call, WORDS(words), rows_or_k, WORDS(pieces))
 
+/* zv_sum, or another call that makes a column of two */
+typedef zv_written columns_call(const uint32_t *index, size_t index_words, const uint32_t *first, size_t first_numbers,
+                                const uint32_t *second, size_t second_numbers, uint32_t *out, size_t out_words);
+
+static columns_call *const columns_calls[] = {zv_sum, zv_signed_difference, zv_smaller, zv_difference_or_zero};
+
 /* every question on an index is refused for the index's own fault */
 static inline void every_index_call(const uint32_t *index, size_t words, uint32_t n, uint32_t b, uint64_t w)
 {
@@ -162,7 +177,10 @@ static inline void every_index_call(const uint32_t *index, size_t words, uint32_
     NOT_ANSWERED(zv_symmetric(index, words, WORDS(three), WORDS(table), WORDS(out)), n, b, w);
     COUNTED(zv_histogram(index, words, WORDS(three)), zeros, n, b, w);
     VALUED(zv_value(index, words, WORDS(three), 0), 0, n, b, w);
-    NOT_WRITTEN(zv_sum(index, words, WORDS(three), WORDS(three), WORDS(out)), n, b, w);
+    NOT_SIGNED_VALUED(zv_signed_value(index, words, WORDS(three), 0), n, b, w);
+    for (size_t i = 0; i < sizeof(columns_calls) / sizeof(columns_calls[0]); i++) {
+        NOT_WRITTEN(columns_calls[i](index, words, WORDS(three), WORDS(three), WORDS(out)), n, b, w);
+    }
 }
 
 /* the questions on a bitmap of LOOPED, which has the same rows in either format: bitmap 1 begins at `start` */

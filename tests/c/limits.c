@@ -1,7 +1,7 @@
 /*
  * The limits, at each and one over, in both formats: the most rows, in bodies of runs; the most bitmaps of an index;
- * lists and tables of the most numbers; and sums that are longer than an index may be, which no buffer helps. Writes
- * `ok`, or the first difference, with exit status 1.
+ * lists and tables of the most numbers; and what is made of two columns where it is longer than an index may be, which
+ * no buffer helps. Writes `ok`, or the first difference, with exit status 1.
  *
  *   gcc -std=c99 -Wall -Wextra -Werror -pedantic -Iinclude tests/c/limits.c \
  *       target/staticlib/libzvonurel_c.a -o target/limits && target/limits
@@ -168,6 +168,26 @@ static void quiet_list(format f, const uint32_t *index, size_t words, const uint
     }
 }
 
+/* Columns of the most rows, in all of which one column has 1, and the other in the last row alone: the words of what is
+ * made of the two, existence and slices, each of them a run or with another last row. */
+static void quiet_columns(format f, const uint32_t *index, size_t words)
+{
+    static const uint32_t ones[] = {1, 1}, last[] = {1, 2};
+    static uint32_t made[ZV_HEAD_WORDS + 3u * ZV_ENTRY_WORDS + 3u * (MARKERS + 1u)];
+    const uint64_t run = f.run_words, cut = f.last_words, head = ZV_HEAD_WORDS + 2u * ZV_ENTRY_WORDS;
+    zv_written told = zv_signed_difference(index, words, WORDS(last), WORDS(ones), WORDS(made));
+
+    FINE(told);
+    SAME("the words of a difference", told.words, head + ZV_ENTRY_WORDS + run + 2u * cut);
+    SIGNED_VALUED(zv_signed_value(made, (size_t)told.words, WORDS(three), 0), -1);
+    SIGNED_VALUED(zv_signed_value(made, (size_t)told.words, WORDS(three), LAST_ROW - 1u), -1);
+    SIGNED_VALUED(zv_signed_value(made, (size_t)told.words, WORDS(three), LAST_ROW), 0);
+    NOT_SIGNED_VALUED(zv_signed_value(made, (size_t)told.words, WORDS(three), ZV_MOST_ROWS), ZV_BAD_ARGUMENT, 0, 0);
+    REFUSED(zv_smaller(index, words, WORDS(last), WORDS(ones), out, 0), ZV_NO_ROOM, 0, head + run + cut);
+    REFUSED(zv_difference_or_zero(index, words, WORDS(ones), WORDS(last), out, 0), ZV_NO_ROOM, 0, head + run + cut);
+    REFUSED(zv_difference_or_zero(index, words, WORDS(last), WORDS(ones), out, 0), ZV_NO_ROOM, 0, head + run + run);
+}
+
 /* three bitmaps of the most rows; the longest list names the first 86 times, and the others 85 times each */
 static void quiet_lists(format f)
 {
@@ -181,6 +201,7 @@ static void quiet_lists(format f)
     quiet_list(f, index, words, WORDS(three), 1, 2);
     quiet_list(f, index, words, WORDS(list), 85, 170);
     SAME("the last row", zv_nth(index, words, 1, LAST_ROW).value, LAST_ROW);
+    quiet_columns(f, index, words);
 
     index[1]++;
     every_index_call(index, words, ZV_TOO_LARGE, 0, 1);
@@ -275,34 +296,47 @@ static void most_bitmaps(format f)
     COUNTED(zv_histogram(many, words, every, ZV_MOST_NAMED + 1u), zeros, ZV_BAD_ARGUMENT, 0, 0);
 }
 
-/* ---- a sum that is longer than an index may be */
+/* ---- what is made of two columns, and is longer than an index may be */
 
 /* 2^26 rows, sixteen set and sixteen not in turns: 2,097,152 segments in EWAH, all dirty, under 65 markers, and
  * 2,164,803 literals in WAH. */
 #define LONG_ROWS 67108864u
 #define IN_TURNS 0x0000FFFFu
-/* Named by 33 numbers, it is existence and 32 slices. The sum with itself is twice each value: the lowest slice is
- * empty, which takes 33 markers or one fill, and the other 32 slices and existence are that bitmap. Before them are
- * the head and 34 entries, 71 words. So in EWAH 71 + 33 * 2,097,217 + 33 words are needed, and in WAH 71 +
- * 33 * 2,164,803 + 1. */
-#define LONG_SUM 69208265u
-#define WAH_LONG_SUM 71438571u
-/* as long a buffer is as good as a longer one */
-#define LONG_SUM_ROOM ZV_MOST_SUM_WORDS(LONG_ROWS, ZV_MOST_COLUMN - 1u)
-#define WAH_LONG_SUM_ROOM ZV_WAH_MOST_SUM_WORDS(LONG_ROWS, ZV_MOST_COLUMN - 1u)
+#define LONG_BODY 2097217u
+#define WAH_LONG_BODY 2164803u
+/* an empty bitmap of these rows takes 33 markers or one fill */
+#define EMPTY_BODY 33u
+#define WAH_EMPTY_BODY 1u
 /* words that are looked at afterwards: one in so many */
 #define LOOKED_AT 65536u
 
-static void long_sum(format f, size_t body_words, uint64_t need, uint64_t room)
+/* That bitmap is named by 33 numbers as existence and 32 slices, 2^32 - 1 in each row, and by two as 1 in each row. */
+static const uint32_t widest[ZV_MOST_COLUMN], narrowest[ZV_LEAST_COLUMN];
+
+/* What is made of the widest column and another, with the bitmaps in it that are that bitmap, and those that are empty:
+ * a sum has an empty lowest slice, and a difference of 2^32 - 2 an empty lowest one and an empty sign. */
+static const struct {
+    columns_call *call;
+    const uint32_t *second;
+    size_t numbers;
+    uint64_t full, empty;
+} long_columns[] = {
+    {zv_sum, WORDS(widest), 33, 1},
+    {zv_signed_difference, WORDS(narrowest), 32, 2},
+    {zv_smaller, WORDS(widest), 33, 0},
+    {zv_difference_or_zero, WORDS(narrowest), 32, 1},
+};
+
+/* an index of that bitmap, in memory of its own */
+static uint32_t *long_index(format f, size_t body_words)
 {
-    static const uint32_t column[ZV_MOST_COLUMN];
-    const size_t start = ZV_HEAD_WORDS + ZV_ENTRY_WORDS, longer = (size_t)need + LOOKED_AT;
+    const size_t start = ZV_HEAD_WORDS + ZV_ENTRY_WORDS;
     const uint32_t head[] = {f.kind, LONG_ROWS, 1, (uint32_t)start, (uint32_t)body_words};
-    uint32_t *plain = calloc(ZV_SEGMENTS(LONG_ROWS), sizeof(uint32_t)), *sum = calloc(longer, sizeof(uint32_t));
+    uint32_t *plain = calloc(ZV_SEGMENTS(LONG_ROWS), sizeof(uint32_t));
     uint32_t *index = calloc(start + body_words, sizeof(uint32_t));
     zv_written told;
 
-    SAME("memory", plain != NULL && sum != NULL && index != NULL, 1);
+    SAME("memory", plain != NULL && index != NULL, 1);
     for (size_t i = 0; i < ZV_SEGMENTS(LONG_ROWS); i++) {
         plain[i] = IN_TURNS;
     }
@@ -312,18 +346,35 @@ static void long_sum(format f, size_t body_words, uint64_t need, uint64_t room)
     told = f.compress(LONG_ROWS, plain, ZV_SEGMENTS(LONG_ROWS), index + start, body_words);
     FINE(told);
     SAME("the words of the bitmap", told.words, body_words);
-    SAME("whether a sum is too long", room == ZV_MOST_INDEX_WORDS && room < need, 1);
-    const size_t rooms[] = {(size_t)room, longer};
-    for (size_t i = 0; i < sizeof(rooms) / sizeof(rooms[0]); i++) {
-        told = zv_sum(index, start + body_words, WORDS(column), WORDS(column), sum, rooms[i]);
-        REFUSED(told, ZV_NO_ROOM, 0, need);
-        SAME("the words of a refused sum", told.words, 0);
+    free(plain);
+    return index;
+}
+
+/* a buffer of `most` words is as good as a longer one, in which there would be room */
+static void too_long(format f, size_t body_words, uint64_t empty_words, uint64_t most)
+{
+    const size_t words = ZV_HEAD_WORDS + ZV_ENTRY_WORDS + body_words, longer = (size_t)(most + most / 8u);
+    const size_t rooms[] = {(size_t)most, longer};
+    uint32_t *index = long_index(f, body_words), *made = calloc(longer, sizeof(uint32_t));
+
+    SAME("memory", made != NULL, 1);
+    for (size_t k = 0; k < sizeof(long_columns) / sizeof(long_columns[0]); k++) {
+        const uint64_t need = ZV_HEAD_WORDS + long_columns[k].full * (ZV_ENTRY_WORDS + body_words) +
+                              long_columns[k].empty * (ZV_ENTRY_WORDS + empty_words);
+
+        SAME("whether it is too long", most == ZV_MOST_INDEX_WORDS && most < need && need < longer, 1);
+        for (size_t i = 0; i < sizeof(rooms) / sizeof(rooms[0]); i++) {
+            const zv_written told = long_columns[k].call(index, words, WORDS(widest), long_columns[k].second,
+                                                         long_columns[k].numbers, made, rooms[i]);
+
+            REFUSED(told, ZV_NO_ROOM, 0, need);
+            SAME("the words of a refused column", told.words, 0);
+        }
     }
     for (size_t i = 0; i < longer; i += i < LOOKED_AT ? 1 : LOOKED_AT) {
-        SAME("a word of the buffer", sum[i], 0);
+        SAME("a word of the buffer", made[i], 0);
     }
-    free(plain);
-    free(sum);
+    free(made);
     free(index);
 }
 
@@ -341,8 +392,8 @@ int main(void)
     quiet_lists(wah);
     most_bitmaps(ewah);
     most_bitmaps(wah);
-    long_sum(ewah, 2097217, LONG_SUM, LONG_SUM_ROOM);
-    long_sum(wah, 2164803, WAH_LONG_SUM, WAH_LONG_SUM_ROOM);
+    too_long(ewah, LONG_BODY, EMPTY_BODY, ZV_MOST_SUM_WORDS(LONG_ROWS, ZV_MOST_COLUMN - 1u));
+    too_long(wah, WAH_LONG_BODY, WAH_EMPTY_BODY, ZV_WAH_MOST_SUM_WORDS(LONG_ROWS, ZV_MOST_COLUMN - 1u));
     printf("ok\n");
     return 0;
 }

@@ -220,42 +220,172 @@ static void one_column(void)
     VALUED(zv_value(WORDS(columns), WORDS(sooner), 1), 0, ZV_STRAY_ROW, 4, 4);
 }
 
-static void two_columns(void)
+/* the same bitmaps as a signed column: the last of a list is the sign */
+static void one_signed_column(void)
+{
+    static const uint32_t one[] = {0}, sign[] = {0, 1}, all_sign[] = {0, 0}, no_bitmap[] = {0, 6};
+    static const uint32_t most[ZV_MOST_VALUE_COLUMN], one_more[ZV_MOST_VALUE_COLUMN + 1u];
+    uint32_t least[ZV_MOST_VALUE_COLUMN], greatest[ZV_MOST_VALUE_COLUMN];
+
+    SIGNED_VALUED(zv_signed_value(WORDS(columns), WORDS(low), 0), 1);
+    SIGNED_VALUED(zv_signed_value(WORDS(columns), WORDS(low), 1), -2);
+    SIGNED_VALUED(zv_signed_value(WORDS(columns), WORDS(low), 2), -1);
+    SIGNED_VALUED(zv_signed_value(WORDS(columns), WORDS(low), 3), 0);
+    SIGNED_VALUED(zv_signed_value(WORDS(columns), WORDS(sign), 0), -1);
+    SIGNED_VALUED(zv_signed_value(WORDS(columns), WORDS(sign), 1), 0);
+    SIGNED_VALUED(zv_signed_value(WORDS(columns), WORDS(all_sign), 3), -1);
+    /* 33 slices: row 3 is in all of them; in the sign alone; in all but the sign */
+    for (uint32_t k = 0; k < ZV_MOST_VALUE_COLUMN; k++) {
+        least[k] = k > 0 && k < ZV_MOST_VALUE_COLUMN - 1u;
+        greatest[k] = k == ZV_MOST_VALUE_COLUMN - 1u;
+    }
+    SIGNED_VALUED(zv_signed_value(WORDS(columns), WORDS(most), 3), -1);
+    SIGNED_VALUED(zv_signed_value(WORDS(columns), WORDS(least), 3), -4294967296);
+    SIGNED_VALUED(zv_signed_value(WORDS(columns), WORDS(greatest), 3), 4294967295);
+
+    NOT_SIGNED_VALUED(zv_signed_value(WORDS(columns), low, 0, 0), ZV_BAD_ARGUMENT, 0, 0);
+    NOT_SIGNED_VALUED(zv_signed_value(WORDS(columns), WORDS(one), 0), ZV_BAD_ARGUMENT, 0, 0);
+    NOT_SIGNED_VALUED(zv_signed_value(WORDS(columns), WORDS(one_more), 0), ZV_BAD_ARGUMENT, 0, 0);
+    NOT_SIGNED_VALUED(zv_signed_value(WORDS(columns), WORDS(no_bitmap), 0), ZV_BAD_ARGUMENT, 0, 0);
+    NOT_SIGNED_VALUED(zv_signed_value(WORDS(columns), WORDS(low), 8), ZV_BAD_ARGUMENT, 0, 0);
+    NOT_SIGNED_VALUED(zv_signed_value(WORDS(columns), WORDS(low), 4), ZV_BAD_ARGUMENT, 0, 0);
+    NOT_SIGNED_VALUED(zv_signed_value(WORDS(columns), WORDS(stray), 5), ZV_BAD_ARGUMENT, 0, 0);
+    NOT_SIGNED_VALUED(zv_signed_value(WORDS(columns), WORDS(stray), 1), ZV_STRAY_ROW, 5, 5);
+    NOT_SIGNED_VALUED(zv_signed_value(WORDS(columns), WORDS(high_stray), 1), ZV_STRAY_ROW, 5, 0);
+}
+
+/* what is made of two columns: with much room, with just enough, with a word less and with none */
+static void makes(source at, columns_call *call, const uint32_t *first, size_t first_numbers, const uint32_t *second,
+                  size_t second_numbers, const uint32_t *want, size_t words)
+{
+    const size_t rooms[] = {sizeof(out) / sizeof(out[0]), words, words - 1, 0};
+
+    for (size_t i = 0; i < sizeof(rooms) / sizeof(rooms[0]); i++) {
+        const zv_written told = call(WORDS(columns), first, first_numbers, second, second_numbers, out, rooms[i]);
+
+        if (rooms[i] < words) {
+            not_written(at, told, ZV_NO_ROOM, 0, words);
+        } else {
+            wrote(at, told, want, words);
+        }
+    }
+}
+
+#define MAKES(call, first, second, want) makes(HERE, call, WORDS(first), WORDS(second), WORDS(want))
+
+static void sums(void)
 {
     static const uint32_t sum[] = {1, 8, 4, 11, 2, 13, 2, 15, 2, 17, 2,
                                    0x00020000, 0x0E, 0x00020000, 0x02, 0x00020000, 0x02, 0x00020000, 0x04};
     static const uint32_t twice[] = {1, 8, 4, 11, 2, 13, 1, 14, 2, 16, 2,
                                      0x00020000, 0x0F, 0x00000002, 0x00020000, 0x05, 0x00020000, 0x06};
-    static const uint32_t one[] = {0}, no_bitmap[] = {0, 6};
-    static const uint32_t most[ZV_MOST_COLUMN], one_more[ZV_MOST_COLUMN + 1u];
-    uint32_t widest[ZV_MOST_VALUE_COLUMN];
-    zv_written told;
 
-    WROTE(zv_sum(WORDS(columns), WORDS(low), WORDS(high), WORDS(out)), sum);
-    WROTE(zv_sum(WORDS(columns), WORDS(high), WORDS(low), WORDS(out)), sum);
+    MAKES(zv_sum, low, high, sum);
+    MAKES(zv_sum, high, low, sum);
     /* slice 0 is empty, and is there */
-    WROTE(zv_sum(WORDS(columns), WORDS(low), WORDS(low), WORDS(out)), twice);
-    WROTE(zv_sum(WORDS(columns), WORDS(low), WORDS(high), out, 19), sum);
-    NOT_WRITTEN(zv_sum(WORDS(columns), WORDS(low), WORDS(high), out, 18), ZV_NO_ROOM, 0, 19);
-    NOT_WRITTEN(zv_sum(WORDS(columns), WORDS(low), WORDS(high), out, 0), ZV_NO_ROOM, 0, 19);
+    MAKES(zv_sum, low, low, twice);
+}
 
-    NOT_WRITTEN(zv_sum(WORDS(columns), WORDS(one), WORDS(high), WORDS(out)), ZV_BAD_ARGUMENT, 0, 0);
-    NOT_WRITTEN(zv_sum(WORDS(columns), WORDS(low), WORDS(one_more), WORDS(out)), ZV_BAD_ARGUMENT, 0, 0);
+/* rows 1 to 3 exist in both: 2 and 1, 3 and 1, 0 and 0 */
+static void differences(void)
+{
+    static const uint32_t above[] = {1, 8, 4, 11, 2, 13, 2, 15, 2, 17, 1,
+                                     0x00020000, 0x0E, 0x00020000, 0x02, 0x00020000, 0x04, 0x00000002};
+    static const uint32_t below[] = {1, 8, 4, 11, 2, 13, 2, 15, 2, 17, 2,
+                                     0x00020000, 0x0E, 0x00020000, 0x02, 0x00020000, 0x06, 0x00020000, 0x06};
+    static const uint32_t none[] = {1, 8, 4, 11, 2, 13, 1, 14, 1, 15, 1, 0x00020000, 0x0F, 0x2, 0x2, 0x2};
+    static const uint32_t or_zero[] = {1, 8, 3, 9, 2, 11, 2, 13, 2,
+                                       0x00020000, 0x0E, 0x00020000, 0x02, 0x00020000, 0x04};
+    static const uint32_t zero[] = {1, 8, 3, 9, 2, 11, 1, 12, 1, 0x00020000, 0x0E, 0x2, 0x2};
+    static const uint32_t made[] = {0, 1, 2, 3};
+
+    MAKES(zv_signed_difference, low, high, above);
+    MAKES(zv_signed_difference, high, low, below);
+    MAKES(zv_signed_difference, low, low, none);
+    MAKES(zv_difference_or_zero, low, high, or_zero);
+    MAKES(zv_difference_or_zero, high, low, zero);
+    SIGNED_VALUED(zv_signed_value(WORDS(above), WORDS(made), 1), 1);
+    SIGNED_VALUED(zv_signed_value(WORDS(above), WORDS(made), 2), 2);
+    SIGNED_VALUED(zv_signed_value(WORDS(below), WORDS(made), 1), -1);
+    SIGNED_VALUED(zv_signed_value(WORDS(below), WORDS(made), 2), -2);
+    SIGNED_VALUED(zv_signed_value(WORDS(below), WORDS(made), 3), 0);
+    NOT_SIGNED_VALUED(zv_signed_value(WORDS(below), WORDS(made), 0), ZV_BAD_ARGUMENT, 0, 0);
+    VALUED(zv_value(WORDS(or_zero), WORDS(low), 2), 2, 0, 0, 0);
+    VALUED(zv_value(WORDS(zero), WORDS(low), 2), 0, 0, 0, 0);
+}
+
+static void smaller_values(void)
+{
+    static const uint32_t smaller[] = {1, 8, 3, 9, 2, 11, 2, 13, 1, 0x00020000, 0x0E, 0x00020000, 0x06, 0x2};
+    static const uint32_t same_column[] = {1, 8, 3, 9, 2, 11, 2, 13, 2,
+                                           0x00020000, 0x0F, 0x00020000, 0x05, 0x00020000, 0x06};
+
+    MAKES(zv_smaller, low, high, smaller);
+    MAKES(zv_smaller, high, low, smaller);
+    MAKES(zv_smaller, low, low, same_column);
+    VALUED(zv_value(WORDS(smaller), WORDS(low), 2), 1, 0, 0, 0);
+}
+
+static void bad_columns(columns_call *call)
+{
+    static const uint32_t one[] = {0}, no_bitmap[] = {0, 6};
+    static const uint32_t one_more[ZV_MOST_COLUMN + 1u];
+
+    NOT_WRITTEN(call(WORDS(columns), WORDS(one), WORDS(high), WORDS(out)), ZV_BAD_ARGUMENT, 0, 0);
+    NOT_WRITTEN(call(WORDS(columns), WORDS(one_more), WORDS(high), WORDS(out)), ZV_BAD_ARGUMENT, 0, 0);
+    NOT_WRITTEN(call(WORDS(columns), WORDS(low), WORDS(one_more), WORDS(out)), ZV_BAD_ARGUMENT, 0, 0);
     /* 8 of either list comes before 11 of the first, and 11 before 9 */
-    NOT_WRITTEN(zv_sum(WORDS(columns), WORDS(stray), WORDS(no_bitmap), out, 0), ZV_BAD_ARGUMENT, 0, 0);
-    NOT_WRITTEN(zv_sum(WORDS(columns), WORDS(stray), WORDS(high_stray), out, 0), ZV_STRAY_ROW, 5, 5);
-    NOT_WRITTEN(zv_sum(WORDS(columns), WORDS(low), WORDS(high_stray), WORDS(out)), ZV_STRAY_ROW, 5, 0);
+    NOT_WRITTEN(call(WORDS(columns), WORDS(stray), WORDS(no_bitmap), out, 0), ZV_BAD_ARGUMENT, 0, 0);
+    NOT_WRITTEN(call(WORDS(columns), WORDS(stray), WORDS(high_stray), out, 0), ZV_STRAY_ROW, 5, 5);
+    NOT_WRITTEN(call(WORDS(columns), WORDS(high_stray), WORDS(stray), out, 0), ZV_STRAY_ROW, 5, 0);
+    NOT_WRITTEN(call(WORDS(columns), WORDS(low), WORDS(high_stray), WORDS(out)), ZV_STRAY_ROW, 5, 0);
+}
 
-    /* the most slices, all of them set: 2^32 - 1 twice, whose sum is read back from the words written */
-    told = zv_sum(WORDS(columns), WORDS(most), WORDS(most), WORDS(out));
-    FINE(told);
-    SAME("the words of the widest sum", told.words, 138);
-    SAME("the word behind it", out[138], UNTOUCHED);
-    for (uint32_t k = 0; k < ZV_MOST_VALUE_COLUMN; k++) {
-        widest[k] = k;
+/* what a call made of columns of the most slices: it is in `out`, and its bitmaps are named in order */
+static size_t widest(source at, zv_written told, uint64_t words, uint32_t *list, size_t numbers)
+{
+    refusal(at, told.number, told.bitmap, told.word, 0, 0, 0);
+    same(at, "words", told.words, words);
+    same(at, "the bitmaps", out[2], numbers);
+    same(at, "the word behind", out[words], UNTOUCHED);
+    for (uint32_t k = 0; k < numbers; k++) {
+        list[k] = k;
     }
-    VALUED(zv_value(out, (size_t)told.words, WORDS(widest), 3), 8589934590u, 0, 0, 0);
-    VALUED(zv_value(out, (size_t)told.words, WORDS(widest), 4), 0, ZV_BAD_ARGUMENT, 0, 0);
+    return (size_t)words;
+}
+
+/* 2^32 - 1 in all rows of one column, and in the other in rows 0 and 2, with 0 in rows 1 and 3 */
+static void widest_columns(void)
+{
+    static const uint32_t most[ZV_MOST_COLUMN];
+    uint32_t some[ZV_MOST_COLUMN], list[ZV_MOST_VALUE_COLUMN];
+    size_t words;
+
+    for (uint32_t k = 0; k < ZV_MOST_COLUMN; k++) {
+        some[k] = k > 0;
+    }
+    words = widest(HERE, zv_sum(WORDS(columns), WORDS(most), WORDS(most), WORDS(out)), 138, WORDS(list));
+    VALUED(zv_value(out, words, WORDS(list), 3), 8589934590u, 0, 0, 0);
+    VALUED(zv_value(out, words, WORDS(list), 4), 0, ZV_BAD_ARGUMENT, 0, 0);
+    clear();
+    words = widest(HERE, zv_signed_difference(WORDS(columns), WORDS(most), WORDS(some), WORDS(out)), 138, WORDS(list));
+    SIGNED_VALUED(zv_signed_value(out, words, WORDS(list), 3), 4294967295);
+    SIGNED_VALUED(zv_signed_value(out, words, WORDS(list), 2), 0);
+    NOT_SIGNED_VALUED(zv_signed_value(out, words, WORDS(list), 4), ZV_BAD_ARGUMENT, 0, 0);
+    clear();
+    words = widest(HERE, zv_signed_difference(WORDS(columns), WORDS(some), WORDS(most), WORDS(out)), 108, WORDS(list));
+    SIGNED_VALUED(zv_signed_value(out, words, WORDS(list), 3), -4294967295);
+    SIGNED_VALUED(zv_signed_value(out, words, WORDS(list), 2), 0);
+    clear();
+    words = widest(HERE, zv_smaller(WORDS(columns), WORDS(most), WORDS(some), WORDS(out)), 135, list, ZV_MOST_COLUMN);
+    VALUED(zv_value(out, words, list, ZV_MOST_COLUMN, 2), 4294967295u, 0, 0, 0);
+    VALUED(zv_value(out, words, list, ZV_MOST_COLUMN, 3), 0, 0, 0, 0);
+    clear();
+    words = widest(HERE, zv_difference_or_zero(WORDS(columns), WORDS(most), WORDS(some), WORDS(out)), 135, list,
+                   ZV_MOST_COLUMN);
+    VALUED(zv_value(out, words, list, ZV_MOST_COLUMN, 3), 4294967295u, 0, 0, 0);
+    VALUED(zv_value(out, words, list, ZV_MOST_COLUMN, 2), 0, 0, 0, 0);
+    clear();
 }
 
 int main(void)
@@ -270,7 +400,14 @@ int main(void)
     two_bitmaps();
     lists();
     one_column();
-    two_columns();
+    one_signed_column();
+    sums();
+    differences();
+    smaller_values();
+    for (size_t i = 0; i < sizeof(columns_calls) / sizeof(columns_calls[0]); i++) {
+        bad_columns(columns_calls[i]);
+    }
+    widest_columns();
     printf("ok\n");
     return 0;
 }

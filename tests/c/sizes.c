@@ -1,7 +1,7 @@
 /*
  * The version, the sizes and the texts of include/zvonurel.h, against numbers worked out by hand and against what the
- * calls need; and where the fields of the answer on a row lie. Writes `ok`, or the first difference, with exit status
- * 1.
+ * calls need; and where the fields of the answers on a row and on a signed value lie. Writes `ok`, or the first
+ * difference, with exit status 1.
  *
  *   gcc -std=c99 -Wall -Wextra -Werror -pedantic -Iinclude tests/c/sizes.c \
  *       target/staticlib/libzvonurel_c.a -o target/sizes && target/sizes
@@ -40,6 +40,7 @@ HOLDS(indexes_do_not_wrap, ZV_MOST_NEW_INDEX_WORDS(MOST_UINT32, 32u) == ZV_MOST_
 HOLDS(wah_indexes_do_not_wrap, ZV_WAH_MOST_NEW_INDEX_WORDS(MOST_UINT32, 31u) == ZV_MOST_INDEX_WORDS);
 HOLDS(a_sum_is_an_index, ZV_MOST_NEW_INDEX_WORDS(33u, 3u) == ZV_MOST_SUM_WORDS(33u, 1u));
 HOLDS(a_wah_sum_is_an_index, ZV_WAH_MOST_NEW_INDEX_WORDS(33u, 3u) == ZV_WAH_MOST_SUM_WORDS(33u, 1u));
+HOLDS(a_slice_fewer_takes_less, ZV_MOST_NEW_INDEX_WORDS(33u, 1u + 1u) < ZV_MOST_SUM_WORDS(33u, 1u));
 HOLDS(an_argument_may_be_a_sum, ZV_SEGMENTS(1u + 31u) == 1u && ZV_MOST_BODY_WORDS(1u ? 33u : 0u) == 3u);
 HOLDS(a_wah_argument_may_be_a_sum, ZV_WAH_SEGMENTS(1u + 31u) == 2u && ZV_WAH_MOST_BODY_WORDS(1u ? 33u : 0u) == 2u);
 HOLDS(slices_may_be_a_sum, ZV_MOST_SUM_WORDS(1u ? 33u : 0u, 2u - 1u) == 18u);
@@ -55,6 +56,10 @@ HOLDS(a_word_is_its_fields, ZV_WAH_FILL_SHIFT == ZV_WAH_SEGMENT_ROWS && ZV_WAH_V
 HOLDS(a_fill_has_the_bits_below, ZV_WAH_MOST_FILL == (1u << ZV_WAH_VALUE_SHIFT) - 1u);
 HOLDS(a_row_has_its_piece, offsetof(zv_flag, first) == 20u && offsetof(zv_flag, last) == 24u);
 HOLDS(a_row_is_four_times_8_bytes, offsetof(zv_flag, value) == 16u && sizeof(zv_flag) == 32u);
+HOLDS(a_signed_value_is_three_times_8_bytes, sizeof(zv_signed_column_value) == 24u);
+HOLDS(a_signed_value_lies_as_a_value_does,
+      offsetof(zv_signed_column_value, bitmap) == 4u && offsetof(zv_signed_column_value, word) == 8u &&
+          offsetof(zv_signed_column_value, value) == 16u && offsetof(zv_column_value, value) == 16u);
 HOLDS(a_stack_is_a_power_of_two, ZV_MOST_STACK > 0u && (ZV_MOST_STACK & (ZV_MOST_STACK - 1u)) == 0u);
 
 /* In WAH so many rows can need more room than in EWAH. */
@@ -62,7 +67,7 @@ HOLDS(wah_is_longer, ZV_WAH_MOST_SUM_WORDS(PAST_FULL_ROWS, 1u) > ZV_MOST_SUM_WOR
 
 static uint32_t plain[ZV_SEGMENTS(PAST_FULL_ROWS)];
 static uint32_t body[ZV_WAH_MOST_BODY_WORDS(PAST_FULL_ROWS)];
-static uint32_t columns[ZV_WAH_MOST_SUM_WORDS(PAST_FULL_ROWS, 1u)], sum[ZV_WAH_MOST_SUM_WORDS(PAST_FULL_ROWS, 1u)];
+static uint32_t columns[ZV_WAH_MOST_SUM_WORDS(PAST_FULL_ROWS, 1u)], made[ZV_WAH_MOST_SUM_WORDS(PAST_FULL_ROWS, 1u)];
 
 /* What differs between the formats here: an index's word 0, and the call that writes a body. */
 typedef struct {
@@ -177,15 +182,12 @@ static void longest(format f, uint32_t word, uint32_t rows, uint64_t need, uint6
     SAME("the words written", told.words, need);
 }
 
-/* The longest sum of two columns of one slice: of each four rows the first three exist, and get the values 2, 1 and 1,
- * so that no segment of the sum's three bitmaps is part of a longer run. It is measured, and written with just that
- * room. */
-static void longest_sum(format f, uint32_t rows, uint64_t need, uint64_t most)
+/* An index of two bitmaps, of which the first has the first three of each four rows, and the second the first. It is in
+ * `columns`; returned is how many words it has. */
+static size_t two_bitmaps(format f, uint32_t rows)
 {
-    static const uint32_t first[] = {0, 0}, second[] = {0, 1};
     const size_t room = sizeof(columns) / sizeof(columns[0]);
     size_t words = ZV_HEAD_WORDS + 2 * ZV_ENTRY_WORDS;
-    zv_written told;
 
     columns[0] = f.kind;
     columns[1] = rows;
@@ -194,19 +196,44 @@ static void longest_sum(format f, uint32_t rows, uint64_t need, uint64_t most)
         for (size_t i = 0; i < ZV_SEGMENTS(rows); i++) {
             plain[i] = k == 0 ? 0x77777777u : 0x11111111u;
         }
-        told = f.compress(rows, plain, ZV_SEGMENTS(rows), columns + words, room - words);
+        zv_written told = f.compress(rows, plain, ZV_SEGMENTS(rows), columns + words, room - words);
         SAME("the number of a bitmap", told.number, ZV_FINE);
         columns[ZV_HEAD_WORDS + k * ZV_ENTRY_WORDS] = (uint32_t)words;
         columns[ZV_HEAD_WORDS + k * ZV_ENTRY_WORDS + 1] = (uint32_t)told.words;
         words += (size_t)told.words;
     }
-    told = zv_sum(columns, words, WORDS(first), WORDS(second), sum, 0);
-    SAME("the number of a measured sum", told.number, ZV_NO_ROOM);
-    SAME("the words needed", told.word, need);
-    SAME("whether a size is enough", need <= most, 1);
-    told = zv_sum(columns, words, WORDS(first), WORDS(second), sum, (size_t)need);
-    SAME("the number of a fitting sum", told.number, ZV_FINE);
-    SAME("the words written", told.words, need);
+    return words;
+}
+
+/* The longest that can be made of two columns of one slice. Of each four rows the first three exist, with 1, 1 and 1 in
+ * one column and 1, 0 and 0 in the other: the sums are 2, 1 and 1, and the differences 0, and twice 1 or -1, so that no
+ * segment of any bitmap is part of a longer run. It is measured, and written with just that room. What has a slice
+ * fewer needs fewer words. */
+static void longest_columns(format f, uint32_t rows, uint64_t need, uint64_t fewer, uint64_t most)
+{
+    static const uint32_t ones[] = {0, 0}, some[] = {0, 1};
+    static const struct {
+        zv_written (*call)(const uint32_t *index, size_t index_words, const uint32_t *first, size_t first_numbers,
+                           const uint32_t *second, size_t second_numbers, uint32_t *out, size_t out_words);
+        const uint32_t *first, *second;
+        int fewer;
+    } calls[] = {{zv_sum, ones, some, 0},
+                 {zv_signed_difference, some, ones, 0},
+                 {zv_smaller, ones, some, 1},
+                 {zv_difference_or_zero, ones, some, 1}};
+    const size_t words = two_bitmaps(f, rows);
+
+    for (size_t i = 0; i < sizeof(calls) / sizeof(calls[0]); i++) {
+        const uint64_t needed = calls[i].fewer ? fewer : need;
+        zv_written told = calls[i].call(columns, words, calls[i].first, 2, calls[i].second, 2, made, 0);
+
+        SAME("the number of a measured column", told.number, ZV_NO_ROOM);
+        SAME("the words needed", told.word, needed);
+        SAME("whether a size is enough", needed <= most, 1);
+        told = calls[i].call(columns, words, calls[i].first, 2, calls[i].second, 2, made, (size_t)needed);
+        SAME("the number of a fitting column", told.number, ZV_FINE);
+        SAME("the words written", told.words, needed);
+    }
 }
 
 #define MEASURES(call, need) measures(HERE, (call).number, (call).word, need)
@@ -217,14 +244,32 @@ static void measures(source at, uint32_t number, uint64_t word, uint64_t need)
     same(at, "word", word, need);
 }
 
+/* 40 rows, of which bitmap 0 has rows 0 and 39, and bitmap 1 none. */
+static const uint32_t index[] = {1, 40, 2, 7, 3, 10, 1, 0x00040000, 0x00000001, 0x00000080, 0x00000004};
+static const uint32_t archive[] = {2, 40, 2, 7, 2, 9, 1, 0x00000001, 0x00000100, 0x80000002};
+
+/* Of a column that has 1 in rows 0 and 39, and itself: the values made are 2, 0, 1 and 0. */
+static void measuring_columns(void)
+{
+    static const uint32_t column[] = {0, 0};
+
+    MEASURES(zv_sum(WORDS(index), WORDS(column), WORDS(column), body, 0), 16);
+    MEASURES(zv_signed_difference(WORDS(index), WORDS(column), WORDS(column), body, 0), 14);
+    MEASURES(zv_smaller(WORDS(index), WORDS(column), WORDS(column), body, 0), 13);
+    MEASURES(zv_difference_or_zero(WORDS(index), WORDS(column), WORDS(column), body, 0), 11);
+    MEASURES(zv_sum(WORDS(archive), WORDS(column), WORDS(column), body, 0), 14);
+    MEASURES(zv_signed_difference(WORDS(archive), WORDS(column), WORDS(column), body, 0), 13);
+    MEASURES(zv_smaller(WORDS(archive), WORDS(column), WORDS(column), body, 0), 11);
+    MEASURES(zv_difference_or_zero(WORDS(archive), WORDS(column), WORDS(column), body, 0), 10);
+}
+
 /* Every call that writes measures where its buffer has length 0, and writes nothing. */
 static void measuring(void)
 {
-    static const uint32_t index[] = {1, 40, 2, 7, 3, 10, 1, 0x00040000, 0x00000001, 0x00000080, 0x00000004};
-    static const uint32_t list[] = {0, 1}, table[] = {0, 1, 0}, column[] = {0, 0}, none[1];
-    static const uint32_t archive[] = {2, 40, 2, 7, 2, 9, 1, 0x00000001, 0x00000100, 0x80000002};
+    static const uint32_t list[] = {0, 1}, table[] = {0, 1, 0}, none[1];
 
     body[0] = 77;
+    measuring_columns();
     MEASURES(zv_expand(index + 7, 3, 40, body, 0), 2);
     MEASURES(zv_compress(40, index + 8, 2, body, 0), 3);
     MEASURES(zv_body_to_ewah(index + 7, 3, 40, body, 0), 3);
@@ -241,7 +286,6 @@ static void measuring(void)
     MEASURES(zv_not(WORDS(index), 0, body, 0), 3);
     MEASURES(zv_threshold(WORDS(index), WORDS(list), 1, body, 0), 3);
     MEASURES(zv_symmetric(WORDS(index), WORDS(list), WORDS(table), body, 0), 3);
-    MEASURES(zv_sum(WORDS(index), WORDS(column), WORDS(column), body, 0), 16);
     MEASURES(zv_wah_expand(archive + 7, 2, 40, body, 0), 2);
     MEASURES(zv_wah_compress(40, index + 8, 2, body, 0), 2);
     MEASURES(zv_wah_body_to_ewah(archive + 7, 2, 40, body, 0), 3);
@@ -249,7 +293,6 @@ static void measuring(void)
     MEASURES(zv_index_to_ewah(WORDS(archive), body, 0), 11);
     MEASURES(zv_or(WORDS(archive), 0, 1, body, 0), 2);
     MEASURES(zv_threshold(WORDS(archive), WORDS(list), 1, body, 0), 2);
-    MEASURES(zv_sum(WORDS(archive), WORDS(column), WORDS(column), body, 0), 14);
     SAME("the buffer's first word", body[0], 77);
     SAME("the number for no rows", zv_compress(0, none, 0, body, 0).number, ZV_FINE);
     SAME("the number for no rows in WAH", zv_wah_compress(0, none, 0, body, 0).number, ZV_FINE);
@@ -266,11 +309,11 @@ int main(void)
     longest(ewah, 1, PAST_FULL_ROWS, 32770, ZV_MOST_BODY_WORDS(PAST_FULL_ROWS));
     longest(wah, 0x55555555u, 64, 3, ZV_WAH_MOST_BODY_WORDS(64));
     longest(wah, 0x55555555u, PAST_FULL_ROWS, 33826, ZV_WAH_MOST_BODY_WORDS(PAST_FULL_ROWS));
-    longest_sum(ewah, 64, 18, ZV_MOST_SUM_WORDS(64, 1));
-    longest_sum(ewah, FULL_ROWS, 98313, ZV_MOST_SUM_WORDS(FULL_ROWS, 1));
-    longest_sum(ewah, PAST_FULL_ROWS, 98319, ZV_MOST_SUM_WORDS(PAST_FULL_ROWS, 1));
-    longest_sum(wah, 64, 18, ZV_WAH_MOST_SUM_WORDS(64, 1));
-    longest_sum(wah, PAST_FULL_ROWS, 101487, ZV_WAH_MOST_SUM_WORDS(PAST_FULL_ROWS, 1));
+    longest_columns(ewah, 64, 18, 13, ZV_MOST_SUM_WORDS(64, 1));
+    longest_columns(ewah, FULL_ROWS, 98313, 65543, ZV_MOST_SUM_WORDS(FULL_ROWS, 1));
+    longest_columns(ewah, PAST_FULL_ROWS, 98319, 65547, ZV_MOST_SUM_WORDS(PAST_FULL_ROWS, 1));
+    longest_columns(wah, 64, 18, 13, ZV_WAH_MOST_SUM_WORDS(64, 1));
+    longest_columns(wah, PAST_FULL_ROWS, 101487, 67659, ZV_WAH_MOST_SUM_WORDS(PAST_FULL_ROWS, 1));
     measuring();
     printf("ok\n");
     return 0;

@@ -57,6 +57,7 @@ static union {
     zv_flag flag;
     zv_number number;
     zv_column_value value;
+    zv_signed_column_value signed_value;
     zv_written written;
     zv_answered answered;
     zv_part part;
@@ -104,7 +105,11 @@ static union {
     X(answered, zv_symmetric, INDEX, WORDS(list), WORDS(table), out, room) \
     X(histogram, zv_histogram, INDEX, WORDS(list)) \
     X(value, zv_value, INDEX, WORDS(longest), 0u) \
-    X(written, zv_sum, INDEX, WORDS(first), WORDS(second), out, room)
+    X(signed_value, zv_signed_value, INDEX, WORDS(longest), 0u) \
+    X(written, zv_sum, INDEX, WORDS(first), WORDS(second), out, room) \
+    X(written, zv_signed_difference, INDEX, WORDS(first), WORDS(second), out, room) \
+    X(written, zv_smaller, INDEX, WORDS(first), WORDS(second), out, room) \
+    X(written, zv_difference_or_zero, INDEX, WORDS(first), WORDS(second), out, room)
 
 #define RUN(kind, name, ...) \
     static void run_##name(void) \
@@ -231,7 +236,7 @@ int main(void)
         now = *calls[i].of;
         size_t used = most_used(calls[i].run);
         most = used > most ? used : most;
-        printf("%-20s %-4s %6zu bytes\n", calls[i].name, calls[i].format, used);
+        printf("%-21s %-4s %6zu bytes\n", calls[i].name, calls[i].format, used);
     }
     printf("the most is %zu bytes; the header says less than %u\n", most, ZV_MOST_STACK);
     return most < ZV_MOST_STACK ? 0 : 1;

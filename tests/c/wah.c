@@ -330,7 +330,7 @@ static const uint32_t columns[] = {2, 8, 6, 15, 1, 16, 1, 17, 1, 18, 1, 19, 1, 2
 static const uint32_t low[] = {0, 1, 2}, high[] = {3, 4}, stray[] = {0, 5};
 
 /* a sum is an index in WAH too */
-static void two_columns(void)
+static void sums(void)
 {
     static const uint32_t sum[] = {2, 8, 4, 11, 1, 12, 1, 13, 1, 14, 1, 0x0E, 0x02, 0x02, 0x04},
                           twice[] = {2, 8, 4, 11, 1, 12, 1, 13, 1, 14, 1, 0x0F, 0x00, 0x05, 0x06},
@@ -357,6 +357,31 @@ static void two_columns(void)
     clear();
 }
 
+/* and so is whatever else is made of two columns: rows 1 to 3 have 2 and 1, 3 and 1, 0 and 0 */
+static void differences(void)
+{
+    static const uint32_t above[] = {2, 8, 4, 11, 1, 12, 1, 13, 1, 14, 1, 0x0E, 0x02, 0x04, 0x00},
+                          below[] = {2, 8, 4, 11, 1, 12, 1, 13, 1, 14, 1, 0x0E, 0x02, 0x06, 0x06},
+                          smaller[] = {2, 8, 3, 9, 1, 10, 1, 11, 1, 0x0E, 0x06, 0x00},
+                          or_zero[] = {2, 8, 3, 9, 1, 10, 1, 11, 1, 0x0E, 0x02, 0x04},
+                          zero[] = {2, 8, 3, 9, 1, 10, 1, 11, 1, 0x0E, 0x00, 0x00};
+    static const uint32_t made[] = {0, 1, 2, 3};
+
+    SIGNED_VALUED(zv_signed_value(WORDS(columns), WORDS(low), 1), -2);
+    NOT_SIGNED_VALUED(zv_signed_value(WORDS(columns), WORDS(low), 4), ZV_BAD_ARGUMENT, 0, 0);
+    NOT_SIGNED_VALUED(zv_signed_value(WORDS(columns), WORDS(stray), 1), ZV_STRAY_ROW, 5, 5);
+    WROTE(zv_signed_difference(WORDS(columns), WORDS(low), WORDS(high), WORDS(out)), above);
+    WROTE(zv_signed_difference(WORDS(columns), WORDS(high), WORDS(low), WORDS(out)), below);
+    WROTE(zv_smaller(WORDS(columns), WORDS(low), WORDS(high), WORDS(out)), smaller);
+    WROTE(zv_difference_or_zero(WORDS(columns), WORDS(low), WORDS(high), WORDS(out)), or_zero);
+    WROTE(zv_difference_or_zero(WORDS(columns), WORDS(high), WORDS(low), WORDS(out)), zero);
+    SIGNED_VALUED(zv_signed_value(WORDS(below), WORDS(made), 1), -1);
+    SIGNED_VALUED(zv_signed_value(WORDS(below), WORDS(made), 2), -2);
+    NOT_WRITTEN(zv_signed_difference(WORDS(columns), WORDS(low), WORDS(high), out, 14), ZV_NO_ROOM, 0, 15);
+    NOT_WRITTEN(zv_smaller(WORDS(columns), WORDS(low), WORDS(high), out, 11), ZV_NO_ROOM, 0, 12);
+    NOT_WRITTEN(zv_difference_or_zero(WORDS(columns), WORDS(stray), WORDS(high), out, 0), ZV_STRAY_ROW, 5, 5);
+}
+
 int main(void)
 {
     clear();
@@ -372,7 +397,8 @@ int main(void)
     indexes_rewritten();
     two_bitmaps();
     lists();
-    two_columns();
+    sums();
+    differences();
     printf("ok\n");
     return 0;
 }

@@ -125,7 +125,9 @@ impl Format {
     /// that many slices: [`sum`](crate::sum) is refused such a buffer only where the sum is longer than
     /// [`MOST_INDEX_WORDS`], and then it is refused any.
     ///
-    /// A list of n numbers names n - 1 slices. The sum is an index of the existence bitmap and one slice more.
+    /// A list of n numbers names n - 1 slices. The sum is an index of the existence bitmap and one slice more. So much
+    /// room is enough for all that is made of two columns: [`signed_difference`](crate::signed_difference) writes as
+    /// many slices, and [`smaller`](crate::smaller) and [`difference_or_zero`](crate::difference_or_zero) one fewer.
     ///
     /// ```
     /// use zvonurel::Format;

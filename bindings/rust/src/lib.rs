@@ -9,7 +9,8 @@
 //! **body** says which rows of a bitmap are set, in EWAH by markers and dirty words. **Plain words** have
 //! [`WORD_BITS`] rows each, the lowest bit first. A **column** gives each row that exists a value. A list of bitmap
 //! numbers names it: existence, then the slices, the lowest first; slice i has the rows whose value has the binary
-//! digit of weight 2^i set.
+//! digit of weight 2^i set. In a **signed column** the highest slice is the sign, and weighs as much below zero: with
+//! n slices -2^(n-1). Nothing in an index says which columns are signed; [`signed_value`] reads any as one.
 //!
 //! ```
 //! // three bitmaps of four rows: rows 0, 1; rows 1, 2, 3; row 3
@@ -69,18 +70,19 @@
 //! # Room
 //!
 //! A buffer of [`most_body_words`] words takes every body of so many rows, one of [`segments`] words every body's
-//! plain words, one of [`most_sum_words`] words every sum of columns, but for a sum of more words than
-//! [`MOST_INDEX_WORDS`]: such an index is refused whatever the buffer, and so is one that is rewritten. For bodies and
-//! indexes that are written in WAH, or in either, a [`Format`] has these sizes; of many rows WAH can need more words. A
-//! buffer of length 0 measures: the refusal is [`Refusal::NO_ROOM`], with the words needed, unless none are.
+//! plain words, one of [`most_sum_words`] words every sum of columns and whatever else is made of two, but for one of
+//! more words than [`MOST_INDEX_WORDS`]: such an index is refused whatever the buffer, and so is one that is rewritten.
+//! For bodies and indexes that are written in WAH, or in either, a [`Format`] has these sizes; of many rows WAH can
+//! need more words. A buffer of length 0 measures: the refusal is [`Refusal::NO_ROOM`], with the words needed, unless
+//! none are.
 //!
 //! # Cost
 //!
 //! A call on an index checks the whole of it first, so it costs at least that: the contents and every marker, though
 //! no dirty word but a last one; in WAH every word. For many questions on one bitmap, take its body with [`bitmap`]
-//! once and ask the calls on a body of its format. [`value`] also looks through all slices of its column, each time:
-//! for many values of one column, expand its bitmaps once. The library was built for Linux on x86-64; a call needs
-//! less than 32 KiB of stack.
+//! once and ask the calls on a body of its format. [`value`] and [`signed_value`] also look through all slices of
+//! their column, each time: for many values of one column, expand its bitmaps once. The library was built for Linux on
+//! x86-64; a call needs less than 32 KiB of stack.
 #![deny(missing_docs)]
 #![deny(unsafe_op_in_unsafe_fn)]
 #![warn(clippy::undocumented_unsafe_blocks)]
@@ -90,6 +92,7 @@ compile_error!("the proved library is built for Linux on x86-64 alone");
 
 mod argument;
 mod builder;
+mod columns;
 mod format;
 mod import;
 mod limits;
@@ -114,6 +117,7 @@ mod pages {
 
 pub use argument::{BadArgument, BadColumn};
 pub use builder::{index_of, IndexBuilder};
+pub use columns::{difference_or_zero, signed_difference, signed_value, smaller, sum, value};
 pub use format::Format;
 pub use import::{import, import_java, NotImported};
 pub use limits::*;
@@ -689,73 +693,4 @@ pub fn histogram(index: &[u32], list: &[u32]) -> Result<[u32; HISTOGRAM_COUNTS],
     // SAFETY: each pointer is a slice's, with its length.
     let told = unsafe { raw::zv_histogram(index.as_ptr(), index.len(), list.as_ptr(), list.len()) };
     settled(told.number, told.bitmap, told.word, told.counts, || argument::list(index, list))
-}
-
-// ---- columns of an index, each named by a list: the existence bitmap, then the slices, the lowest first
-
-/// The value of a row of a column: what the slices that have the row weigh, slice i 2^i.
-///
-/// # Errors
-/// 1 to 7, or 10, for the index's first fault; 8 for a list of fewer than [`LEAST_COLUMN`] numbers, more than
-/// [`MOST_VALUE_COLUMN`] or one that is no bitmap's, or where there is no such row or it does not exist; 11 where a
-/// slice has a row that does not exist.
-///
-/// ```
-/// // of eight rows 0 to 3 exist, and have the values 1, 2, 3 and 0
-/// let index = [1, 8, 3, 9, 2, 11, 2, 13, 2, 0x20000, 0b1111, 0x20000, 0b0101, 0x20000, 0b0110];
-/// assert_eq!(zvonurel::value(&index, &[0, 1, 2], 2), Ok(3));
-/// let refusal = zvonurel::value(&index, &[0, 1, 2], 4).unwrap_err();
-/// assert_eq!(refusal.to_string(), "a bad argument: row 4 does not exist in the column (refusal 8)");
-/// // where bitmap 1 says which rows exist, row 1 does not, and bitmap 0 has it
-/// let refusal = zvonurel::value(&index, &[1, 0], 2).unwrap_err();
-/// assert_eq!(refusal.to_string(), "bitmap 0: this slice has row 1, which is not in the existence bitmap (refusal 11)");
-/// ```
-pub fn value(index: &[u32], column: &[u32], row: u32) -> Result<u64, Refusal> {
-    // SAFETY: each pointer is a slice's, with its length.
-    let told = unsafe { raw::zv_value(index.as_ptr(), index.len(), column.as_ptr(), column.len(), row) };
-    settled(told.number, told.bitmap, told.word, told.value, || argument::value(index, column, row))
-}
-
-/// Writes the sum of two columns, row by row, as a new index in the same format, and returns how many words. A row
-/// exists in the sum if it does in both columns. Bitmap 0 of the new index is existence; the others are the slices,
-/// one more than the wider column has, empty ones included, each in the one form with the fewest words. Their numbers,
-/// from 0 on, name the sum.
-///
-/// # Errors
-/// 1 to 7, or 10, for the index's first fault; 8 for a list of fewer than [`LEAST_COLUMN`] numbers, more than
-/// [`MOST_COLUMN`] or one that is no bitmap's; 11 where a slice has a row that does not exist in its column; 9 for a
-/// short buffer, or a sum of more than [`MOST_INDEX_WORDS`] words.
-///
-/// ```
-/// // rows 0 to 3 have the values 1, 2, 3 and 0, and then rows 1 to 4 the values 1, 1, 0 and 1
-/// let mut builder = zvonurel::IndexBuilder::new(5);
-/// let first = builder.add_column(&[Some(1), Some(2), Some(3), Some(0), None], 2)?;
-/// let second = builder.add_column(&[None, Some(1), Some(1), Some(0), Some(1)], 1)?;
-/// let index = builder.build()?;
-///
-/// let mut out = [0; zvonurel::most_sum_words(5, 2)];
-/// let words = zvonurel::sum(&index, &first, &second, &mut out)?;
-/// let (sum, column) = (&out[..words], [0, 1, 2, 3]);
-/// assert_eq!(zvonurel::value(sum, &column, 1), Ok(3));
-/// assert_eq!(zvonurel::value(sum, &column, 2), Ok(4));
-/// assert_eq!(zvonurel::value(sum, &column, 3), Ok(0));
-/// // row 0 exists in the first alone
-/// assert_eq!(zvonurel::value(sum, &column, 0).unwrap_err().number, 8);
-/// # Ok::<(), zvonurel::Refusal>(())
-/// ```
-pub fn sum(index: &[u32], first: &[u32], second: &[u32], out: &mut [u32]) -> Result<usize, Refusal> {
-    // SAFETY: each pointer is a slice's, with its length.
-    let told = unsafe {
-        raw::zv_sum(
-            index.as_ptr(),
-            index.len(),
-            first.as_ptr(),
-            first.len(),
-            second.as_ptr(),
-            second.len(),
-            out.as_mut_ptr(),
-            out.len(),
-        )
-    };
-    settled(told.number, told.bitmap, told.word, words(told.words), || argument::two_columns(index, first, second))
 }

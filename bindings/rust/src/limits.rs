@@ -23,7 +23,8 @@ pub const LEAST_COLUMN: usize = 2;
 /// The most numbers that name a column: the existence bitmap's, and those of 32 slices.
 pub const MOST_COLUMN: usize = 33;
 
-/// The most numbers that name a column of which only a value is asked: a sum has one slice more than what was added.
+/// The most numbers that name a column of which only a value is asked: a sum, or a signed difference, has one slice
+/// more than the wider of the columns that it is made of.
 pub const MOST_VALUE_COLUMN: usize = MOST_COLUMN + 1;
 
 /// What word 0 of an index says where its bodies are in EWAH.
@@ -94,9 +95,14 @@ pub const fn most_body_words(rows: u32) -> usize {
 /// slices: [`sum`] is refused such a buffer only where the sum is longer than [`MOST_INDEX_WORDS`], and then it is
 /// refused any. In WAH it is [`Format::most_sum_words`] that says so.
 ///
-/// A list of n numbers names n - 1 slices. The sum is an index of the existence bitmap and one slice more.
+/// A list of n numbers names n - 1 slices. The sum is an index of the existence bitmap and one slice more. So much
+/// room is enough for all that is made of two columns: [`signed_difference`] writes as many slices, and [`smaller`] and
+/// [`difference_or_zero`] one fewer.
 ///
 /// [`sum`]: crate::sum
+/// [`signed_difference`]: crate::signed_difference
+/// [`smaller`]: crate::smaller
+/// [`difference_or_zero`]: crate::difference_or_zero
 ///
 /// ```
 /// assert_eq!(zvonurel::most_sum_words(8, 2), 19);

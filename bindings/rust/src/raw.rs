@@ -41,6 +41,14 @@ pub struct Value {
 }
 
 #[repr(C)]
+pub struct SignedValue {
+    pub number: u32,
+    pub bitmap: u32,
+    pub word: u64,
+    pub value: i64,
+}
+
+#[repr(C)]
 pub struct Written {
     pub number: u32,
     pub bitmap: u32,
@@ -131,14 +139,25 @@ extern "C" {
     ) -> Answered;
     pub fn zv_histogram(index: In, index_words: usize, list: In, list_words: usize) -> HistogramCounts;
     pub fn zv_value(index: In, index_words: usize, column: In, column_numbers: usize, row: u32) -> Value;
-    pub fn zv_sum(
-        index: In,
-        index_words: usize,
-        first: In,
-        first_numbers: usize,
-        second: In,
-        second_numbers: usize,
-        out: Out,
-        out_words: usize,
-    ) -> Written;
+    pub fn zv_signed_value(index: In, index_words: usize, column: In, column_numbers: usize, row: u32) -> SignedValue;
 }
+
+/// The calls that make a column of two take the same.
+macro_rules! of_two_columns {
+    ($($name:ident),*) => {
+        extern "C" {
+            $(pub fn $name(
+                index: In,
+                index_words: usize,
+                first: In,
+                first_numbers: usize,
+                second: In,
+                second_numbers: usize,
+                out: Out,
+                out_words: usize,
+            ) -> Written;)*
+        }
+    };
+}
+
+of_two_columns!(zv_sum, zv_signed_difference, zv_smaller, zv_difference_or_zero);

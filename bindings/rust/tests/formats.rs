@@ -156,8 +156,8 @@ fn two_indexes(random: &mut Random, rows: u32) -> (Vec<u32>, Vec<u32>) {
         let set = numbers(&some_rows(random, rows as usize, longest));
         assert_eq!(ewah.add_rows(set.iter().copied()), wah.add_rows(set));
     }
-    let values: Vec<_> = (0..rows).map(|_| (random.below(4) > 0).then(|| random.below(8) as u32)).collect();
     for _ in 0..2 {
+        let values: Vec<_> = (0..rows).map(|_| (random.below(4) > 0).then(|| random.below(8) as u32)).collect();
         assert_eq!(ewah.add_column(&values, 3), wah.add_column(&values, 3));
     }
     (ewah.build().unwrap(), wah.build().unwrap())
@@ -190,10 +190,13 @@ fn indexes_by_chance() {
         assert_eq!(histogram(&wah, &[0, 1, 2, 3, 3]), histogram(&ewah, &[0, 1, 2, 3, 3]));
 
         let (first, second) = ([4, 5, 6, 7], [8, 9, 10, 11]);
-        let sums = [&ewah, &wah].map(|index| written(|out| sum(index, &first, &second, out)));
-        assert_eq!(written(|out| index_to_wah(&sums[0], out)), sums[1]);
+        for call in [sum, signed_difference, smaller, difference_or_zero] {
+            let made = [&ewah, &wah].map(|index| written(|out| call(index, &first, &second, out)));
+            assert_eq!(written(|out| index_to_wah(&made[0], out)), made[1]);
+        }
         for row in (0..rows).step_by(1 + rows as usize / 19) {
             assert_eq!(value(&wah, &first, row), value(&ewah, &first, row));
+            assert_eq!(signed_value(&wah, &first, row), signed_value(&ewah, &first, row));
         }
         for k in 0..ewah[2] {
             let (body, other) = (bitmap(&wah, k).unwrap(), bitmap(&ewah, k).unwrap());

@@ -208,9 +208,9 @@ fn answers() {
     assert_eq!(stretches(&[0, 1], 1), (vec![0xC000_0002, 0x8000_0002], 2));
 }
 
-/// A sum of columns is an index in WAH.
+/// What is made of columns is an index in WAH.
 #[test]
-fn sums() {
+fn columns() {
     // rows 0 to 3 exist and have 1, 2, 3 and 0; then rows 1 to 4 have 1, 1, 0 and 1; bitmap 5 has rows 0 and 5
     let index = wah::index_of(8, &[[0x0F], [0x05], [0x06], [0x1E], [0x16], [0x21]]);
     assert_eq!(value(&index, &[0, 1, 2], 2), Ok(3));
@@ -223,6 +223,15 @@ fn sums() {
     let twice = [2, 8, 4, 11, 1, 12, 1, 13, 1, 14, 1, 0x0F, 0x00, 0x05, 0x06];
     writes(&twice, |out| sum(&index, &[0, 1, 2], &[0, 1, 2], out));
     writes(&[2, 0, 3, 9, 0, 9, 0, 9, 0], |out| sum(&[2, 0, 1, 5, 0], &[0, 0], &[0, 0], out));
+
+    // at rows 1 to 3 the differences are 1 - 2, 1 - 3 and 0 - 0
+    let want = [2, 8, 4, 11, 1, 12, 1, 13, 1, 14, 1, 0x0E, 0x02, 0x06, 0x06];
+    writes(&want, |out| signed_difference(&index, &[3, 4], &[0, 1, 2], out));
+    assert_eq!([1, 2, 3].map(|row| signed_value(&want, &[0, 1, 2, 3], row)), [Ok(-1), Ok(-2), Ok(0)]);
+    let want = [2, 8, 3, 9, 1, 10, 1, 11, 1, 0x0E, 0x06, 0x00];
+    writes(&want, |out| smaller(&index, &[0, 1, 2], &[3, 4], out));
+    let want = [2, 8, 3, 9, 1, 10, 1, 11, 1, 0x0E, 0x02, 0x04];
+    writes(&want, |out| difference_or_zero(&index, &[0, 1, 2], &[3, 4], out));
 }
 
 #[test]

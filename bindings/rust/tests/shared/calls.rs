@@ -4,7 +4,7 @@ use crate::shared::UNTOUCHED;
 use zvonurel::*;
 
 /// What each question on the index is refused with. None of them changes its buffer.
-pub fn refused_by_all(index: &[u32]) -> [Option<Refusal>; 20] {
+pub fn refused_by_all(index: &[u32]) -> [Option<Refusal>; 24] {
     let (all, mut out) = ([0, 1, 2], [UNTOUCHED; HISTOGRAM_COUNTS]);
     let refused = [
         bitmap_refusal(index, 0),
@@ -26,7 +26,11 @@ pub fn refused_by_all(index: &[u32]) -> [Option<Refusal>; 20] {
         symmetric(index, &all, &[0, 1, 0, 0], &mut out).err(),
         histogram(index, &all).err(),
         value(index, &all, 0).err(),
+        signed_value(index, &all, 0).err(),
         sum(index, &all, &all, &mut out).err(),
+        signed_difference(index, &all, &all, &mut out).err(),
+        smaller(index, &all, &all, &mut out).err(),
+        difference_or_zero(index, &all, &all, &mut out).err(),
     ];
     assert_eq!(out, [UNTOUCHED; HISTOGRAM_COUNTS]);
     refused
