@@ -7,6 +7,7 @@ use std::time::Instant;
 use reference::{with_mistake, Mistake};
 use zvonurel::{Row, HISTOGRAM_COUNTS};
 
+use crate::changes::Change;
 use crate::library::library;
 use crate::question::Question;
 use crate::second::second;
@@ -24,6 +25,9 @@ pub enum Value {
     Number(u32),
     /// A column's value.
     Whole(u64),
+    /// A signed column's.
+    Signed(i64),
+    Changes(Vec<Change>),
     /// A part of the index: its place, unless it is empty, and its length.
     Part(Option<usize>, usize),
     /// Words written.

@@ -1,4 +1,4 @@
-//! Values and sums of an input's columns, with good and bad arguments.
+//! Values of an input's columns and what is made of two, with good and bad arguments.
 
 use std::collections::HashSet;
 
@@ -23,18 +23,10 @@ pub fn ask_columns(session: &mut Session, columns: &Columns, random: &mut Random
         asker.ask(Question::new(Call::Check));
         asker.values(first);
         asker.values(second);
-        asker.sums(first, second);
+        asker.pairs(first, second);
         asker.wrong_numbers(first, second);
         asker.lengths(first, second);
     });
-}
-
-fn sum(first: &[u32], second: &[u32]) -> Question {
-    Question::new(Call::Sum).list(first).second(second)
-}
-
-fn value(list: &[u32], row: u32) -> Question {
-    Question::new(Call::Value).list(list).number(row)
 }
 
 impl Asker<'_> {
@@ -43,11 +35,19 @@ impl Asker<'_> {
         let (wide, narrow) = (self.random.between(2, 5), self.random.between(0, 3));
         let (first, second) = (self.some_list(wide), self.some_list(narrow));
         for row in self.value_rows(&first).into_iter().take(2) {
-            self.ask(value(&first, row));
+            self.value(&first, row);
         }
         let room = self.any_room();
-        self.ask(sum(&first, &second).room(room));
-        self.ask(sum(&first, &first).room(room));
+        for call in Call::PAIRINGS {
+            self.ask(Question::pair(call, &first, &second).room(room));
+        }
+        let call = self.some_pairing();
+        self.ask(Question::pair(call, &first, &first).room(room));
+        self.changes(&first, &first);
+    }
+
+    fn some_pairing(&mut self) -> Call {
+        self.random.pick(&Call::PAIRINGS)
     }
 
     // ---- rows ----
@@ -81,24 +81,39 @@ impl Asker<'_> {
     fn values(&mut self, list: &[u32]) {
         let rows = self.value_rows(list);
         for row in self.thin(rows) {
-            self.ask(value(list, row));
+            self.value(list, row);
         }
     }
 
-    // ---- sums ----
+    fn value(&mut self, list: &[u32], row: u32) {
+        for question in Question::values(list, row) {
+            self.ask(question);
+        }
+    }
 
-    fn sums(&mut self, first: &[u32], second: &[u32]) {
+    // ---- two columns ----
+
+    fn pairs(&mut self, first: &[u32], second: &[u32]) {
         let words = &self.input.words;
-        self.ask_rooms(words, sum(first, second));
+        for call in Call::PAIRINGS {
+            self.ask_rooms(words, Question::pair(call, first, second));
+        }
+        self.changes(first, second);
         if self.input.effort == Effort::Few {
             return;
         }
+        let call = self.some_pairing();
         if self.random.one_in(2) {
-            self.ask_rooms(words, sum(second, first));
+            self.ask_rooms(words, Question::pair(call, second, first));
         }
         if self.random.one_in(4) {
-            self.ask_rooms(words, sum(first, first));
+            self.ask_rooms(words, Question::pair(call, first, first));
         }
+    }
+
+    fn changes(&mut self, first: &[u32], second: &[u32]) {
+        let seed = self.random.word();
+        self.ask(Question::pair(Call::Changes, first, second).number(seed));
     }
 
     /// A bitmap number too large, as existence or as a slice.
@@ -109,10 +124,11 @@ impl Asker<'_> {
         wrong[at] = self.bad();
         let rows = self.value_rows(first);
         let row = self.random.pick(&rows);
-        self.ask(value(&wrong, row));
+        self.value(&wrong, row);
         for (a, b) in self.thin(vec![(&wrong[..], second), (first, &wrong), (&wrong, &wrong)]) {
-            let room = self.any_room();
-            self.ask(sum(a, b).room(room));
+            let (call, room) = (self.some_pairing(), self.any_room());
+            self.ask(Question::pair(call, a, b).room(room));
+            self.changes(a, b);
         }
     }
 
@@ -147,10 +163,12 @@ impl Asker<'_> {
             let b = self.drawn_out(second, length);
             let rows = self.value_rows(first);
             for row in [rows[0], self.random.pick(&rows)] {
-                self.ask(value(&a, row));
+                self.value(&a, row);
             }
-            let pair = self.random.pick(&[(&a[..], second), (first, &b[..]), (&a, &b), (&b, &a), (&a, &a)]);
-            self.ask_one_room(sum(pair.0, pair.1));
+            let two = self.random.pick(&[(&a[..], second), (first, &b[..]), (&a, &b), (&b, &a), (&a, &a)]);
+            let call = self.some_pairing();
+            self.ask_one_room(Question::pair(call, two.0, two.1));
+            self.changes(two.0, two.1);
         }
     }
 

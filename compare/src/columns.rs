@@ -75,7 +75,7 @@ pub fn generate(random: &mut Random, long: bool) -> Columns {
 
 // ---- shapes ----
 
-/// Most slices of a column that is summed.
+/// Most slices of a column that something is made of with another.
 const MOST_SLICES: usize = MOST_SUMMED - 1;
 
 fn some_width(random: &mut Random) -> usize {
@@ -208,19 +208,23 @@ fn some_column(shape: &Shape, which: usize, random: &mut Random) -> Column {
     column
 }
 
-/// Sometimes the columns exist in no row together, or in the same; sometimes their sums carry far.
+/// Sometimes the columns exist in no row together, or in the same; sometimes their sums carry far, or their differences
+/// borrow from far, or are small, or as large as there are.
 fn relate(first: &mut Column, second: &mut Column, shape: &Shape, random: &mut Random) {
     match random.below(12) {
         0 => second[0] = first[0].iter().map(|word| !word).collect(),
         1..=4 => second[0] = first[0].clone(),
         _ => {}
     }
-    match random.below(5) {
-        0 => carry_through(first, second),
-        1 => {
+    match random.below(10) {
+        0 | 1 => carry_through(first, second),
+        2 => {
             all_ones(first);
             all_ones(second);
         }
+        3 => borrow_through(first, second, &laid(shape, random)),
+        4 => opposite_ends(first, second, &laid(shape, random)),
+        5 | 6 => nearly_equal(first, second, shape, random),
         _ => {}
     }
     if random.one_in(2) {
@@ -255,6 +259,46 @@ fn carry_through(first: &mut Column, second: &mut Column) {
     }
     mask_slices(first);
     mask_slices(second);
+}
+
+/// The lowest digits are 0 and 1, and higher ones equal where both columns have them: a borrow goes up to the top digit
+/// of a first column that is wider, or past it.
+fn borrow_through(first: &mut Column, second: &mut Column, top: &[u32]) {
+    let narrower = first.len().min(second.len());
+    first[1].fill(0);
+    second[1].fill(u32::MAX);
+    second[2..narrower].clone_from_slice(&first[2..narrower]);
+    if let [between @ .., last] = &mut first[narrower..] {
+        between.iter_mut().for_each(|digit| digit.fill(0));
+        last.copy_from_slice(top);
+    }
+}
+
+/// In each row the largest number in one column and 0 in the other.
+fn opposite_ends(first: &mut Column, second: &mut Column, in_first: &[u32]) {
+    first[1..].fill(in_first.to_vec());
+    second[1..].fill(in_first.iter().map(|word| !word).collect());
+}
+
+/// Numbers that are equal or one apart, in some stretches the first being more, in others the second.
+fn nearly_equal(first: &mut Column, second: &mut Column, shape: &Shape, random: &mut Random) {
+    let narrower = first.len().min(second.len());
+    first[narrower..].iter_mut().chain(&mut second[narrower..]).for_each(|digit| digit.fill(0));
+    let mut carry = match random.below(3) {
+        0 => uniform(shape, 0),
+        1 => uniform(shape, u32::MAX),
+        _ => laid(shape, random),
+    };
+    let turned = laid(shape, random);
+    for at in 1..narrower {
+        for segment in 0..carry.len() {
+            let digit = first[at][segment];
+            let differ = carry[segment];
+            carry[segment] &= digit;
+            first[at][segment] = digit ^ (differ & turned[segment]);
+            second[at][segment] = digit ^ (differ & !turned[segment]);
+        }
+    }
 }
 
 // ---- strays ----

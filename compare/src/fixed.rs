@@ -132,18 +132,21 @@ const PAIRS: [(&[u32], &[u32]); 29] = [
     (&[NONE, 4], &[1]),
 ];
 
-/// The sum with buffers of about the words needed, and without one.
-fn sums(session: &mut Session, words: &[u32], first: &[u32], second: &[u32]) {
-    let question = Question::new(Call::Sum).list(first).second(second);
-    let need = words_needed(words, &question);
-    for room in [0, need.saturating_sub(1), need, need + 9] {
-        session.ask(words, question.clone().room(room));
+/// What is made of two, with buffers of about the words needed, and without one.
+fn pairs(session: &mut Session, words: &[u32], first: &[u32], second: &[u32]) {
+    for question in Call::PAIRINGS.map(|call| Question::pair(call, first, second)) {
+        let need = words_needed(words, &question);
+        for room in [0, need.saturating_sub(1), need, need + 9] {
+            session.ask(words, question.clone().room(room));
+        }
     }
+    session.ask(words, Question::pair(Call::Changes, first, second));
 }
 
-fn values(session: &mut Session, words: &[u32], list: &[u32], rows: &[u32]) {
-    for &row in rows {
-        session.ask(words, Question::new(Call::Value).list(list).number(row));
+/// The values at these rows, and the signed ones.
+pub fn values(session: &mut Session, words: &[u32], list: &[u32], rows: &[u32]) {
+    for question in rows.iter().flat_map(|&row| Question::values(list, row)) {
+        session.ask(words, question);
     }
 }
 
@@ -155,9 +158,9 @@ fn column_corners(session: &mut Session, samples: &Samples) {
     let indexes = [(40, &samples.slices[..]), (0, &no_rows), (40, &nothing), (0, &nothing)];
     for words in indexes.map(|(rows, bodies)| index_in(format, rows, bodies)) {
         for (first, second) in PAIRS {
-            sums(session, &words, first, second);
-            sums(session, &words, second, first);
-            sums(session, &words, first, first);
+            pairs(session, &words, first, second);
+            pairs(session, &words, second, first);
+            pairs(session, &words, first, first);
             for list in [first, second] {
                 values(session, &words, list, &[0, 3, 7, 30, 31, 32, 35, 39, 40, u32::MAX]);
             }
@@ -165,16 +168,17 @@ fn column_corners(session: &mut Session, samples: &Samples) {
     }
 }
 
-/// Lists up to the longest and over, all ones: the sum of the widest two has the largest value there is.
+/// Lists up to the longest and over, all ones: the sum of the widest two has the largest value there is, and the
+/// differences of the widest and 0 are the largest and the least.
 fn column_lengths(session: &mut Session, samples: &Samples) {
     let words = index_in(samples.format, 33, &samples.of_33);
     for length in [0, 1, LEAST_COLUMN, 3, 17, MOST_SUMMED, MOST_VALUED, MOST_VALUED + 1] {
         let ones = vec![0; length];
         values(session, &words, &ones, &[0, 32, 33]);
-        sums(session, &words, &ones, &ones);
-        for other in [&[0, 0][..], &[0, 1, 1, 0], &[1, 0]] {
-            sums(session, &words, &ones, other);
-            sums(session, &words, other, &ones);
+        pairs(session, &words, &ones, &ones);
+        for other in [&[0, 0][..], &[0, 1], &[0, 1, 1, 0], &[1, 0]] {
+            pairs(session, &words, &ones, other);
+            pairs(session, &words, other, &ones);
         }
     }
 }
@@ -193,9 +197,9 @@ fn late_strays(session: &mut Session, samples: &Samples) {
             values(session, &words, &late(length), &[0, 7, 30, 31, 32, 40]);
         }
         let longest = late(MOST_SUMMED);
-        sums(session, &words, &longest, &[1, 1]);
-        sums(session, &words, &[1, 1], &longest);
-        sums(session, &words, &longest, &longest);
+        pairs(session, &words, &longest, &[1, 1]);
+        pairs(session, &words, &[1, 1], &longest);
+        pairs(session, &words, &longest, &longest);
     }
 }
 
@@ -218,9 +222,12 @@ fn edge_of_rows(session: &mut Session, format: Format) {
     session.ask(&words, both(Call::Symmetric).table(&[1, 0, 1]));
     session.ask(&words, both(Call::Histogram));
     values(session, &words, &[1, 2], &[MOST_ROWS - 1, MOST_ROWS]);
-    let columns = |first: &[u32]| Question::new(Call::Sum).list(first).second(&[1, 1]).room(100);
-    session.ask(&words, columns(&[1, 2]));
-    session.ask(&words, columns(&[0, 2]));
+    for call in Call::PAIRINGS {
+        for first in [[1, 2], [0, 2]] {
+            session.ask(&words, Question::pair(call, &first, &[1, 1]).room(100));
+        }
+    }
+    session.ask(&words, Question::pair(Call::Changes, &[1, 2], &[1, 1]));
     for call in [Call::IndexToEwah, Call::IndexToWah] {
         session.ask(&words, Question::new(call).room(100));
     }

@@ -4,6 +4,7 @@ use zvonurel::Format::{Ewah, Wah};
 use zvonurel::{wah, Format, Refusal, Row};
 
 use crate::ask::Value;
+use crate::changes;
 use crate::encode::{format_of, other};
 use crate::question::{Call, Question};
 use crate::walk::{self, Asked};
@@ -155,7 +156,7 @@ fn of_body(words: &[u32], q: &Question, out: &mut [u32]) -> Result<Value, Refusa
 }
 
 /// What a call writes into a buffer of just the words that it asks for.
-fn measured(write: impl Fn(&mut [u32]) -> Result<usize, Refusal>) -> Result<Vec<u32>, Refusal> {
+pub fn measured(write: impl Fn(&mut [u32]) -> Result<usize, Refusal>) -> Result<Vec<u32>, Refusal> {
     let need = match write(&mut []) {
         Err(refusal) if refusal.number == Refusal::NO_ROOM => refusal.word as usize,
         told => told?,
@@ -210,7 +211,12 @@ fn of_several(words: &[u32], q: &Question, out: &mut [u32]) -> Result<Value, Ref
         Call::Symmetric => zvonurel::symmetric(words, &q.list, &q.table, out).map(answer),
         Call::Histogram => zvonurel::histogram(words, &q.list).map(|tally| Value::Tally(Box::new(tally))),
         Call::Value => zvonurel::value(words, &q.list, q.number).map(Value::Whole),
+        Call::SignedValue => zvonurel::signed_value(words, &q.list, q.number).map(Value::Signed),
         Call::Sum => zvonurel::sum(words, &q.list, &q.second, out).map(Value::Words),
+        Call::SignedDifference => zvonurel::signed_difference(words, &q.list, &q.second, out).map(Value::Words),
+        Call::Smaller => zvonurel::smaller(words, &q.list, &q.second, out).map(Value::Words),
+        Call::DifferenceOrZero => zvonurel::difference_or_zero(words, &q.list, &q.second, out).map(Value::Words),
+        Call::Changes => changes::by_asking(words, q).map(Value::Changes),
         _ => unreachable!("asked of a bitmap or two"),
     }
 }

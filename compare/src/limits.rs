@@ -25,6 +25,8 @@ pub fn run() -> bool {
     for format in FORMATS {
         limits.long(&too_long::sum(format));
     }
+    // In EWAH it is a fixed case.
+    limits.long(&too_long::difference(Format::Wah));
     limits.long(&too_long::to_ewah());
     for fits in [false, true] {
         limits.long(&too_long::many_to_wah(fits));
@@ -160,8 +162,10 @@ impl Bodies {
             limits.ask(&format!("  symmetric of {length}"), &index, of(Call::Symmetric).table(&table)).ok();
             limits.ask(&format!("  histogram of {length}"), &index, of(Call::Histogram)).ok();
         }
-        let columns = Question::new(Call::Sum).list(&[1, 3, 2]).second(&[1, 1]);
-        limits.ask("  sum", &index, columns.room(4 * index.len())).ok();
+        for call in Call::PAIRINGS {
+            let columns = Question::pair(call, &[1, 3, 2], &[1, 1]).room(4 * index.len());
+            limits.ask(&format!("  {call:?}"), &index, columns).ok();
+        }
         for (name, call) in [("  to EWAH", Call::IndexToEwah), ("  to WAH", Call::IndexToWah)] {
             limits.ask(name, &index, Question::new(call).room(4 * index.len() + 9_999)).ok();
         }

@@ -1,6 +1,7 @@
 //! Compares the library with the reference on made-up inputs.
 
 mod ask;
+mod changes;
 mod choose;
 mod choose_columns;
 mod columns;
@@ -49,10 +50,10 @@ compare --limits
 Makes CASES indexes and bodies, in EWAH or in WAH, and indexes of columns beside
 some of them, always the same for one SEED, asks every question of the library
 and of the reference, and compares the results and the whole buffers. Bodies are
-also walked from piece to piece, by the answers on their rows. Then come the
-readings (examples with known answers) and a few fixed cases, and a table of the
-refusals that were reached in each format. Exit code 1: a difference, or a
-refusal never reached.
+also walked from piece to piece, by the answers on their rows, and what was made
+of two columns is held against their values. Then come the readings (examples
+with known answers) and a few fixed cases, and a table of the refusals that were
+reached in each format. Exit code 1: a difference, or a refusal never reached.
 
 --mutate     builds one mistake after another into the reference; each has to
              show as a difference within CASES cases, or in the fixed ones
@@ -201,7 +202,7 @@ fn mutate(options: &Options) -> bool {
                     Ok(Value::Panicked(_)) => ", by a panic",
                     _ => "",
                 };
-                println!("{name:22} case {case:>5}, comparison {asked:>7}, by {call:?}{how}");
+                println!("{name:24} case {case:>5}, comparison {asked:>7}, by {call:?}{how}");
             }
             None => {
                 println!("NOT CAUGHT  {mistake:?} in {} cases", options.cases);

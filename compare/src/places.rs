@@ -121,14 +121,15 @@ fn possible(place: Place, call: Call, format: Format) -> bool {
         PadInPlain | PlainFew | PlainMany => call == Call::Compress,
         BadNumber => call.of_index() && !call.of_list() && !call.of_column() && !call.of_whole(),
         BadSecond => call.of_two(),
-        BadRow => matches!(call, Call::BodyRow | Call::Row | Call::Value),
+        BadRow => call.of_value() || matches!(call, Call::BodyRow | Call::Row),
         BadNth => matches!(call, Call::BodyNth | Call::Nth),
         ListEmpty | ListLong | ListNumber => call.of_list(),
         ThresholdZero | ThresholdHigh => call == Call::Threshold,
         TableShort | TableLong | TableEntry => call == Call::Symmetric,
         ColumnShort | ColumnLong | ColumnNumber | BadAndStray | StrayFirst => call.of_column(),
-        SecondShort | SecondLong | SecondNumber | StraySecond | StrayNoRoom => call == Call::Sum,
-        NoSuchRow => call == Call::Value,
+        SecondShort | SecondLong | SecondNumber | StraySecond => call.of_two_columns(),
+        StrayNoRoom => call.of_two_columns() && call.writes(),
+        NoSuchRow => call.of_value(),
         Several => call.of_two() || call.of_column() || matches!(call, Call::Row | Call::Threshold | Call::Symmetric),
         NoRoom => call.writes(),
     }
@@ -259,15 +260,16 @@ fn bad_column(words: &[u32], question: &Question) -> Place {
         return BadAndStray;
     }
     let unknown = |list: &[u32]| list.iter().any(|&k| k >= words[2]);
-    let (sum, most) = (call == Call::Sum, if call == Call::Sum { MOST_SUMMED } else { MOST_VALUED });
+    let two = call.of_two_columns();
+    let most = if two { MOST_SUMMED } else { MOST_VALUED };
     let faults = holding([
         (list.len() < LEAST_COLUMN, ColumnShort),
         (list.len() > most, ColumnLong),
         (unknown(list), ColumnNumber),
-        (sum && second.len() < LEAST_COLUMN, SecondShort),
-        (sum && second.len() > most, SecondLong),
+        (two && second.len() < LEAST_COLUMN, SecondShort),
+        (two && second.len() > most, SecondLong),
         (unknown(second), SecondNumber),
-        (!sum && question.number >= words[1], BadRow),
+        (!two && question.number >= words[1], BadRow),
     ]);
     match faults[..] {
         [] => NoSuchRow,
@@ -279,8 +281,9 @@ fn bad_column(words: &[u32], question: &Question) -> Place {
 /// Whose stray it is. Where the buffer can't even take the contents, 9 holds as well.
 fn stray(words: &[u32], question: &Question, bitmap: u32, row: usize) -> Place {
     let (list, second) = (&question.list, &question.second);
-    let bitmaps = 1 + list.len().max(second.len());
-    if question.call == Call::Sum && question.room < entry_place(bitmaps) {
+    let more = usize::from(matches!(question.call, Call::Sum | Call::SignedDifference));
+    let bitmaps = list.len().max(second.len()) + more;
+    if question.call.writes() && question.room < entry_place(bitmaps) {
         return StrayNoRoom;
     }
     let first = list[1..].contains(&bitmap) && reference::row(words, list[0], row as u32).is_ok_and(|row| !row.set);

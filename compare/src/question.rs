@@ -40,11 +40,17 @@ pub enum Call {
     Symmetric,
     Histogram,
     Value,
+    SignedValue,
     Sum,
+    SignedDifference,
+    Smaller,
+    DifferenceOrZero,
+    /// Many calls: the three above, and what they wrote at some rows. The reference goes by the two columns' numbers.
+    Changes,
 }
 
 impl Call {
-    pub const ALL: [Call; 33] = [
+    pub const ALL: [Call; 38] = [
         Call::CheckBody,
         Call::BodyRow,
         Call::BodyCount,
@@ -77,12 +83,21 @@ impl Call {
         Call::Symmetric,
         Call::Histogram,
         Call::Value,
+        Call::SignedValue,
         Call::Sum,
+        Call::SignedDifference,
+        Call::Smaller,
+        Call::DifferenceOrZero,
+        Call::Changes,
     ];
 
     pub const REWRITE_BODY: [Call; 3] = [Call::BodyToEwah, Call::BodyToWah, Call::BodyAround];
     pub const REWRITE_BITMAP: [Call; 2] = [Call::BitmapToEwah, Call::BitmapToWah];
     pub const REWRITE_INDEX: [Call; 3] = [Call::IndexToEwah, Call::IndexToWah, Call::IndexAround];
+    /// A row of a column.
+    pub const VALUES: [Call; 2] = [Call::Value, Call::SignedValue];
+    /// An index made of two columns.
+    pub const PAIRINGS: [Call; 4] = [Call::Sum, Call::SignedDifference, Call::Smaller, Call::DifferenceOrZero];
 
     /// Is it asked of an index?
     pub fn of_index(self) -> bool {
@@ -107,8 +122,16 @@ impl Call {
         matches!(self, Call::Threshold | Call::Symmetric | Call::Histogram)
     }
 
+    pub fn of_value(self) -> bool {
+        Call::VALUES.contains(&self)
+    }
+
+    pub fn of_two_columns(self) -> bool {
+        self == Call::Changes || Call::PAIRINGS.contains(&self)
+    }
+
     pub fn of_column(self) -> bool {
-        matches!(self, Call::Value | Call::Sum)
+        self.of_value() || self.of_two_columns()
     }
 
     fn rewrites(self) -> bool {
@@ -121,8 +144,9 @@ impl Call {
     pub fn writes(self) -> bool {
         self.of_two()
             || self.rewrites()
+            || Call::PAIRINGS.contains(&self)
             || matches!(self, Call::Expand | Call::Compress | Call::ExpandBitmap)
-            || matches!(self, Call::Not | Call::Threshold | Call::Symmetric | Call::Sum)
+            || matches!(self, Call::Not | Call::Threshold | Call::Symmetric)
     }
 }
 
@@ -137,9 +161,9 @@ pub struct Question {
     pub rows: u32,
     /// Bitmap numbers: one, two, or a list.
     pub list: Vec<u32>,
-    /// The list of a sum's second column.
+    /// The list of a second column.
     pub second: Vec<u32>,
-    /// Row, nth, T, or the seed of a walk.
+    /// Row, nth, T, or the seed of many calls.
     pub number: u32,
     pub table: Vec<u32>,
     /// Length of the buffer.
@@ -156,6 +180,16 @@ impl Question {
     /// A question on a lone body, or on plain words, of so many rows.
     pub fn lone(call: Call, format: Format, rows: u32) -> Question {
         Question { format, rows, ..Question::new(call) }
+    }
+
+    /// The value at a row of a column, and the signed one.
+    pub fn values(list: &[u32], row: u32) -> [Question; 2] {
+        Call::VALUES.map(|call| Question::new(call).list(list).number(row))
+    }
+
+    /// A question on two columns.
+    pub fn pair(call: Call, first: &[u32], second: &[u32]) -> Question {
+        Question::new(call).list(first).second(second)
     }
 
     pub fn list(mut self, list: &[u32]) -> Question {
@@ -191,13 +225,15 @@ impl Question {
         } else if !self.call.of_whole() {
             parts.push(format!("numbers {:?}", self.list));
         }
+        if self.call.of_two_columns() {
+            parts.push(format!("second {:?}", self.second));
+        }
         match self.call {
-            Call::BodyRow | Call::Row | Call::Value => parts.push(format!("row {}", self.number)),
+            Call::BodyRow | Call::Row | Call::Value | Call::SignedValue => parts.push(format!("row {}", self.number)),
             Call::BodyNth | Call::Nth => parts.push(format!("nth {}", self.number)),
-            Call::BodyWalk | Call::Walk => parts.push(format!("seed {}", self.number)),
+            Call::BodyWalk | Call::Walk | Call::Changes => parts.push(format!("seed {}", self.number)),
             Call::Threshold => parts.push(format!("T {}", self.number)),
             Call::Symmetric => parts.push(format!("table {:?}", self.table)),
-            Call::Sum => parts.push(format!("second {:?}", self.second)),
             _ => {}
         }
         if self.call.writes() {

@@ -27,6 +27,8 @@ pub fn run() -> bool {
     readings.pairs();
     readings.wasteful();
     readings.columns();
+    readings.changes();
+    readings.ends();
     readings.wah_bodies();
     readings.wah_refusals();
     readings.wah_answers();
@@ -154,10 +156,63 @@ impl Readings {
         self.reading(&index, &value(&[0, 1, 2], 3), Err((8, 0, 0)), &[]);
         self.reading(&index, &value(&[0, 1, 3], 1), Err((11, 3, 3)), &[]);
         let due = index_of(4, &[0x6, 0x2, 0x2, 0x4].map(one));
-        let sum = |first: &[u32], room| Question::new(Call::Sum).list(first).second(&[3, 4]).room(room);
+        let sum = |first: &[u32], room| Question::pair(Call::Sum, first, &[3, 4]).room(room);
         self.reading(&index, &sum(&[0, 1, 2], 19), Ok(Value::Words(19)), &due);
         self.reading(&index, &sum(&[0, 1, 2], 18), Err((9, 0, 19)), &[]);
         self.reading(&index, &sum(&[0, 1, 3], 18), Err((11, 3, 3)), &[]);
+    }
+
+    /// The same columns: 2 and 1 at row 1, 3 and 1 at row 2. Their differences, 1 and 2, or -1 (111) and -2 (110), were
+    /// worked out by hand.
+    fn changes(&mut self) {
+        let (one, none) = (|rows: u32| vec![0x0002_0000, rows], vec![0x2]);
+        let index = index_of(4, &[0x7, 0x5, 0x6, 0xE, 0x6].map(one));
+        let lists = [&[0, 1, 2][..], &[3, 4]];
+        let due = [
+            (Call::SignedDifference, 0, vec![one(0x6), one(0x2), one(0x4), none.clone()]),
+            (Call::SignedDifference, 1, vec![one(0x6), one(0x2), one(0x6), one(0x6)]),
+            (Call::Smaller, 0, vec![one(0x6), one(0x6), none.clone()]),
+            (Call::Smaller, 1, vec![one(0x6), one(0x6), none.clone()]),
+            (Call::DifferenceOrZero, 0, vec![one(0x6), one(0x2), one(0x4)]),
+            (Call::DifferenceOrZero, 1, vec![one(0x6), none.clone(), none]),
+        ];
+        for (call, first, bodies) in due {
+            let due = index_of(4, &bodies);
+            let question = Question::pair(call, lists[first], lists[1 - first]);
+            self.reading(&index, &question.clone().room(due.len()), Ok(Value::Words(due.len())), &due);
+            self.reading(&index, &question.room(due.len() - 1), Err((9, 0, due.len() as u64)), &[]);
+        }
+        // 10 and 11 with a sign, and a sign alone.
+        let signed = |list: &[u32], row| Question::new(Call::SignedValue).list(list).number(row);
+        for (row, whole) in [(0, 1), (1, -2), (2, -1)] {
+            self.reading(&index, &signed(&[0, 1, 2], row), Ok(Value::Signed(whole)), &[]);
+            self.reading(&index, &signed(&[0, 0], row), Ok(Value::Signed(-1)), &[]);
+        }
+        self.reading(&index, &signed(&[0, 1, 2], 3), Err((8, 0, 0)), &[]);
+        self.reading(&index, &signed(&[0, 1, 3], 1), Err((11, 3, 3)), &[]);
+    }
+
+    /// 31 rows in WAH, all set in bitmap 0 and none in bitmap 1: the largest number less 0, and 0 less that.
+    fn ends(&mut self) {
+        let (all, none) = ([0x7FFF_FFFF], [0]);
+        let index = index_in(Wah, 31, &[all, none]);
+        let (largest, zero) = (&[0; 33][..], &[0, 1][..]);
+        let mut up = [all; 34];
+        up[33] = none;
+        let mut down = [none; 34];
+        (down[0], down[1], down[33]) = (all, all, all);
+        let list: Vec<u32> = (0..34).collect();
+        for (first, second, bodies, end) in [(largest, zero, up, 4_294_967_295), (zero, largest, down, -4_294_967_295)]
+        {
+            let due = index_in(Wah, 31, &bodies);
+            let question = Question::pair(Call::SignedDifference, first, second).room(due.len());
+            self.reading(&index, &question, Ok(Value::Words(due.len())), &due);
+            let value = Question::new(Call::SignedValue).list(&list).number(30);
+            self.reading(&due, &value, Ok(Value::Signed(end)), &[]);
+        }
+        let value = |list: &[u32]| Question::new(Call::SignedValue).list(list);
+        self.reading(&index, &value(&[&[0], &[1; 32][..], &[0]].concat()), Ok(Value::Signed(-4_294_967_296)), &[]);
+        self.reading(&index, &value(&[0; 35]), Err((8, 0, 0)), &[]);
     }
 
     // ---- WAH, worked out by hand ----

@@ -3,6 +3,7 @@
 use reference::{Format, Refusal, Row};
 
 use crate::ask::Value;
+use crate::changes;
 use crate::encode::{format_of, index_in};
 use crate::question::{Call, Question};
 use crate::walk;
@@ -125,7 +126,12 @@ fn of_several(words: &[u32], q: &Question) -> Told {
         Call::Symmetric => reference::symmetric(words, &q.list, &q.table, q.room).map(answer),
         Call::Histogram => reference::histogram(words, &q.list).map(|tally| plain(Value::Tally(Box::new(tally)))),
         Call::Value => reference::value(words, &q.list, q.number).map(|n| plain(Value::Whole(n))),
+        Call::SignedValue => reference::signed_value(words, &q.list, q.number).map(|n| plain(Value::Signed(n))),
         Call::Sum => reference::sum(words, &q.list, &q.second, q.room).map(wrote),
+        Call::SignedDifference => reference::signed_difference(words, &q.list, &q.second, q.room).map(wrote),
+        Call::Smaller => reference::smaller(words, &q.list, &q.second, q.room).map(wrote),
+        Call::DifferenceOrZero => reference::difference_or_zero(words, &q.list, &q.second, q.room).map(wrote),
+        Call::Changes => changes::by_numbers(words, q).map(|changes| plain(Value::Changes(changes))),
         _ => unreachable!("asked of a bitmap or two"),
     }
 }

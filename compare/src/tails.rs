@@ -6,6 +6,7 @@ use zvonurel::{MOST_CLEAN, MOST_DIRTY, MOST_ROWS, WORD_BITS};
 
 use crate::ask::words_needed;
 use crate::encode::{fill, full, index_in, last_mask, marker, mask_last, one_run, plain_mask, settled, FORMATS};
+use crate::fixed::values;
 use crate::question::{Call, Question};
 use crate::session::Session;
 use crate::tail::Spelling::{Dirty, Run};
@@ -24,7 +25,7 @@ pub fn run(session: &mut Session) {
             pad_bits(session, format, rows);
             past_the_end(session, format, rows);
         }
-        // a sum takes a run from 16 segments on
+        // what is made of two columns takes a run from 16 segments on
         let width = format.segment_rows() as u32;
         for count in [15, 16, 17, 31, 32, 33, 34] {
             for pads in [0, 1, 24, width - 1] {
@@ -155,20 +156,24 @@ fn columns(session: &mut Session, format: Format, rows: u32) {
     let (run, dirty, mixed) = (ending(Run(true)), ending(Dirty(u32::MAX)), ending(Dirty(SOME)));
     for (exists, slice) in (0..n).flat_map(|j| (0..n).map(move |k| (j, k))) {
         let list = [exists, slice];
-        for row in [0, rows - 1, rows, last_rows(format, rows)[3]] {
-            session.ask(&index, Question::new(Call::Value).list(&list).number(row));
-        }
-        for second in [[run, run], [run, dirty], [dirty, run], [run, mixed]] {
-            session.ask(&index, Question::new(Call::Sum).list(&list).second(&second).room(room));
-            session.ask(&index, Question::new(Call::Sum).list(&second).second(&list).room(room));
+        values(session, &index, &list, &[0, rows - 1, rows, last_rows(format, rows)[3]]);
+        // the others in turns
+        let [sum, others @ ..] = Call::PAIRINGS;
+        for (turn, second) in (rows as usize..).zip([[run, run], [run, dirty], [dirty, run], [run, mixed]]) {
+            for call in [sum, others[turn % others.len()]] {
+                session.ask(&index, Question::pair(call, &list, &second).room(room));
+                session.ask(&index, Question::pair(call, &second, &list).room(room));
+            }
         }
     }
     for (first, second) in [(run, dirty), (dirty, run), (run, run), (dirty, dirty)] {
         let (wide, other) = ([first, second, mixed, first], [second, mixed, first]);
-        fitting(session, &index, Question::new(Call::Sum).list(&wide).second(&other));
-        for row in [0, rows - 1, rows] {
-            session.ask(&index, Question::new(Call::Value).list(&wide).number(row));
+        for call in Call::PAIRINGS {
+            fitting(session, &index, Question::pair(call, &wide, &other));
+            fitting(session, &index, Question::pair(call, &other, &wide));
         }
+        session.ask(&index, Question::pair(Call::Changes, &wide, &other).number(rows));
+        values(session, &index, &wide, &[0, rows - 1, rows]);
     }
 }
 
@@ -282,8 +287,10 @@ fn all_and_none(session: &mut Session, format: Format, rows: u32) {
     }
     session.ask(&index, of(Call::Not).list(&[1]));
     session.ask(&index, of(Call::Symmetric).table(&[1, 0, 1]));
-    session.ask(&index, of(Call::Sum).second(&[0, 0]).room(3 * all.len() + 9));
-    session.ask(&index, of(Call::Value).number(rows - 1));
+    for call in Call::PAIRINGS {
+        session.ask(&index, of(call).second(&[0, 0]).room(3 * all.len() + 9));
+    }
+    values(session, &index, &[0, 1], &[rows - 1]);
 }
 
 /// A run over the last segment that just fills a marker, and one more.
@@ -320,7 +327,9 @@ fn many_dirty_words(session: &mut Session) {
         for k in [0, 1] {
             session.ask(&index, of(Call::Count).list(&[k]));
             session.ask(&index, of(Call::Not).list(&[k]).room(count + 2));
-            session.ask(&index, of(Call::Sum).list(&[k, 1 - k]).second(&[1 - k, k]).room(3 * count));
+            for call in Call::PAIRINGS {
+                session.ask(&index, of(call).list(&[k, 1 - k]).second(&[1 - k, k]).room(3 * count));
+            }
             for call in Call::REWRITE_BITMAP {
                 fitting(session, &index, of(call).list(&[k]));
             }

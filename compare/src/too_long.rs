@@ -12,12 +12,17 @@ use crate::question::{Call, Question};
 use crate::session::Session;
 
 /// Mistakes that nothing else shows.
-pub const MISTAKES: [Mistake; 4] =
-    [Mistake::SumByBufferAlone, Mistake::RewriteByBufferAlone, Mistake::LongestIndexRefused, Mistake::LongNeedCut];
+pub const MISTAKES: [Mistake; 5] = [
+    Mistake::SumByBufferAlone,
+    Mistake::DifferenceByBufferAlone,
+    Mistake::RewriteByBufferAlone,
+    Mistake::LongestIndexRefused,
+    Mistake::LongNeedCut,
+];
 
 /// The cheapest of them, as fixed cases, with buffers that would do.
 pub fn run(session: &mut Session) {
-    let cases: [fn() -> Long; 3] = [|| sum(Ewah), || many_to_wah(false), || many_to_wah(true)];
+    let cases: [fn() -> Long; 4] = [|| sum(Ewah), || difference(Ewah), || many_to_wah(false), || many_to_wah(true)];
     for case in cases {
         if session.difference.is_none() {
             let long = case();
@@ -77,16 +82,26 @@ fn clear_front(plain: &mut [u32], wah_segments: usize) {
     plain[rows / WORD_BITS] &= u32::MAX << (rows % WORD_BITS);
 }
 
-/// Columns of the most slices, all of them one bitmap, which has 2^26 rows and no clean segment. Its sum with itself
-/// has an empty slice, the lowest; the others, and existence, are that bitmap.
-pub fn sum(format: Format) -> Long {
+/// A column of the most slices, all of them one bitmap, which has 2^26 rows and no clean segment, and another column.
+/// What is made of them has one empty slice; the others, and existence, are that bitmap.
+fn of_columns(name: &'static str, format: Format, call: Call, second: &[u32]) -> Long {
     const ROWS: u32 = 1 << 26;
     let body = settled(&in_turns(ROWS, MIXED_RUN), ROWS, format);
     let empty = settled(&vec![0; segments(ROWS)], ROWS, format);
     let list = [0; MOST_COLUMN];
     let need = contents(list.len() + 1) + list.len() * body.len() + empty.len();
-    let question = Question::new(Call::Sum).list(&list).second(&list);
-    Long { name: "sum of columns", index: index_in(format, ROWS, &[body]), question, need }
+    let question = Question::pair(call, &list, second);
+    Long { name, index: index_in(format, ROWS, &[body, empty]), question, need }
+}
+
+/// Twice that column: the lowest slice is empty.
+pub fn sum(format: Format) -> Long {
+    of_columns("sum of columns", format, Call::Sum, &[0; MOST_COLUMN])
+}
+
+/// That column less 0: the sign is empty.
+pub fn difference(format: Format) -> Long {
+    of_columns("difference of columns", format, Call::SignedDifference, &[0, 1])
 }
 
 /// Fills of two segments, in WAH a word for 62 rows; in EWAH there are nearly twice as many words.
