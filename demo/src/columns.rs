@@ -5,6 +5,9 @@ use zvonurel::{BadArgument, IndexBuilder, Refusal, Spell};
 use crate::log::Log;
 use crate::reading::{Reading, SLICES};
 
+/// A question to the library that makes a new index, with one column, of two columns of an index.
+type Combining = fn(&[u32], &[u32], &[u32], &mut [u32]) -> Result<usize, Refusal>;
+
 /// An index, and the lists that name its columns.
 pub struct Columns {
     rows: u32,
@@ -13,20 +16,28 @@ pub struct Columns {
 }
 
 impl Columns {
-    /// A column for each tank, in hundredths of a milligram. A half hour without a reading does not exist in it.
+    /// A column for each tank.
     pub fn new(log: &Log<Reading>) -> Result<Columns, Refusal> {
+        let readings: Vec<&[Reading]> = log.tanks.iter().map(|tank| tank.entries.as_slice()).collect();
+        Columns::of(log.span().rows, &readings)
+    }
+
+    /// Columns of so many rows, in hundredths of a milligram. A half hour without a reading does not exist in its
+    /// column.
+    pub fn of(rows: usize, readings: &[&[Reading]]) -> Result<Columns, Refusal> {
         // no more than a log may have
-        let rows = log.span().rows as u32;
+        let rows = rows as u32;
         let mut builder = IndexBuilder::new(rows);
-        let lists = log.tanks.iter().map(|tank| builder.add_column(&tank.entries, SLICES));
+        let lists = readings.iter().map(|readings| builder.add_column(readings, SLICES));
         let lists = lists.collect::<Result<_, _>>()?;
         Ok(Columns { rows, index: builder.build()?, lists })
     }
 
-    /// The sum of two columns of that many slices, as the one column of a new index.
-    pub fn sum(&self, [first, second]: [usize; 2]) -> Result<Columns, Refusal> {
+    /// What is made of two columns of that many slices, as the one column of a new index.
+    pub fn combined(&self, combining: Combining, [first, second]: [usize; 2]) -> Result<Columns, Refusal> {
+        // a sum takes the most room: no other has more slices
         let mut index = vec![0; zvonurel::most_sum_words(self.rows, SLICES)];
-        let words = zvonurel::sum(&self.index, &self.lists[first], &self.lists[second], &mut index)?;
+        let words = combining(&self.index, &self.lists[first], &self.lists[second], &mut index)?;
         index.truncate(words);
         let bitmaps = index[2];
         Ok(Columns { rows: self.rows, index, lists: vec![(0..bitmaps).collect()] })
@@ -34,15 +45,36 @@ impl Columns {
 
     /// What a column has at a row, or none where the row does not exist in it.
     pub fn value(&self, column: usize, row: usize) -> Result<Option<u64>, Refusal> {
-        match zvonurel::value(&self.index, &self.lists[column], row as u32) {
-            Err(Refusal { argument: Some(BadArgument::NoValue { .. }), .. }) => Ok(None),
-            told => told.map(Some),
-        }
+        existing(zvonurel::value(&self.index, &self.lists[column], row as u32))
     }
 
     /// What a column has at each row.
     pub fn values(&self, column: usize) -> Result<Vec<Option<u64>>, Refusal> {
         (0..self.rows as usize).map(|row| self.value(column, row)).collect()
+    }
+
+    /// What a signed column has at each row.
+    pub fn signed_values(&self, column: usize) -> Result<Vec<Option<i64>>, Refusal> {
+        let list = &self.lists[column];
+        (0..self.rows).map(|row| existing(zvonurel::signed_value(&self.index, list, row))).collect()
+    }
+
+    /// How many rows exist in a column.
+    pub fn count(&self, column: usize) -> Result<usize, Refusal> {
+        Ok(zvonurel::count(&self.index, self.lists[column][0])? as usize)
+    }
+
+    /// How many rows of a signed column are below 0: those of its top slice, which is the sign.
+    pub fn count_negative(&self, column: usize) -> Result<usize, Refusal> {
+        let list = &self.lists[column];
+        Ok(zvonurel::count(&self.index, list[list.len() - 1])? as usize)
+    }
+
+    /// How many rows of a column are not 0: those that one slice or more has.
+    pub fn count_nonzero(&self, column: usize) -> Result<usize, Refusal> {
+        let mut out = vec![0; zvonurel::most_body_words(self.rows)];
+        let answer = zvonurel::threshold(&self.index, &self.lists[column][1..], 1, &mut out)?;
+        Ok(zvonurel::body_count(&out[..answer.words], self.rows)? as usize)
     }
 
     /// The spells in which the rows of a column exist.
@@ -56,6 +88,14 @@ impl Columns {
         let existence: Vec<u32> = self.lists.iter().map(|list| list[0]).collect();
         let counts = zvonurel::histogram(&self.index, &existence)?;
         Ok(counts[..=existence.len()].iter().map(|rows| *rows as usize).collect())
+    }
+}
+
+/// A value, or none where the row does not exist.
+fn existing<V>(told: Result<V, Refusal>) -> Result<Option<V>, Refusal> {
+    match told {
+        Err(Refusal { argument: Some(BadArgument::NoValue { .. }), .. }) => Ok(None),
+        told => told.map(Some),
     }
 }
 
@@ -99,11 +139,29 @@ mod tests {
     #[test]
     fn a_sum_is_where_both_are() {
         let columns = columns(&["655.35 0.01 - 0.00 -", "655.35 - 0.02 0.00 -"]);
-        let sum = columns.sum([0, 1]).expect("a sum");
+        let sum = columns.combined(zvonurel::sum, [0, 1]).expect("a sum");
         assert_eq!(sum.lists, [(0..18).collect::<Vec<_>>()]);
         assert_eq!(sum.values(0), Ok(vec![Some(131_070), None, None, Some(0), None]));
         assert_eq!(sum.spells(0), Ok(vec![Spell { first: 0, length: 1 }, Spell { first: 3, length: 1 }]));
-        assert_eq!(columns.sum([0, 0]).and_then(|sum| sum.value(0, 1)), Ok(Some(2)));
+        assert_eq!(columns.combined(zvonurel::sum, [0, 0]).and_then(|sum| sum.value(0, 1)), Ok(Some(2)));
+    }
+
+    /// The first two rows have the highest change and the lowest, and the last of those that exist the lowest again.
+    #[test]
+    fn a_change_is_where_both_are() {
+        let columns =
+            columns(&["655.35 0.00 - 0.00 0.21 0.20 0.00 - 0.20", "0.00 655.35 0.02 0.00 0.20 0.21 655.35 - -"]);
+        let [change, rise, lower] = [zvonurel::signed_difference, zvonurel::difference_or_zero, zvonurel::smaller]
+            .map(|combining| columns.combined(combining, [0, 1]).expect("a column"));
+        assert_eq!([&change, &rise, &lower].map(|made| made.lists[0].len()), [18, 17, 17]);
+        let changes = vec![Some(65_535), Some(-65_535), None, Some(0), Some(1), Some(-1), Some(-65_535), None, None];
+        assert_eq!(change.signed_values(0), Ok(changes));
+        let rises = vec![Some(65_535), Some(0), None, Some(0), Some(1), Some(0), Some(0), None, None];
+        assert_eq!(rise.values(0), Ok(rises));
+        let lowers = vec![Some(0), Some(0), None, Some(0), Some(20), Some(20), Some(0), None, None];
+        assert_eq!(lower.values(0), Ok(lowers));
+        assert_eq!([&change, &rise, &lower].map(|made| made.count(0)), [Ok(6); 3]);
+        assert_eq!((change.count_negative(0), rise.count_nonzero(0), lower.count_nonzero(0)), (Ok(3), Ok(2), Ok(2)));
     }
 
     #[test]

@@ -6,13 +6,18 @@ use zvonurel::Spell;
 
 use crate::calendar::{Span, DAY};
 use crate::number::{count, grouped};
-use crate::reading::milligrams;
+use crate::reading::{change, milligrams};
 
 /// Half hours that a sign stands for.
 const SIGN: usize = 4;
 const SIGNS_A_DAY: usize = DAY / SIGN;
 /// The hours of a day, each over the sign that begins then.
 const HOURS: &str = "0  6  12 18 24";
+
+/// Hundredths of a milligram: a change of no more than the first is about none, since a probe is hardly finer, and one
+/// of more than the second is one to look after.
+const SLIGHT: u32 = 2;
+const STEEP: u32 = 20;
 
 /// The signs of the days, from the first day's 00:00 on: `#` where all of the two hours was so, `+` where part of them
 /// was, `.` where none was, and a blank where none is in the log.
@@ -53,12 +58,12 @@ pub fn picture(span: Span, rows: &[u32]) -> String {
     format!("# all of two hours, + part, . none{blank}\n\n{days}")
 }
 
-/// The highest sum of each part of the days, from the first day's 00:00 on, and the first half hour that has it.
-fn highest(span: Span, sums: &[Option<u64>], part: usize) -> Vec<Option<(u64, Reverse<usize>)>> {
+/// The highest value of each part of the days, from the first day's 00:00 on, and the first half hour that has it.
+fn highest<T: Copy + Ord>(span: Span, values: &[Option<T>], part: usize) -> Vec<Option<(T, Reverse<usize>)>> {
     let mut parts = vec![None; span.days() * DAY / part];
-    for (row, sum) in sums.iter().enumerate() {
+    for (row, value) in values.iter().enumerate() {
         let highest = &mut parts[(span.from.half_hour() + row) / part];
-        *highest = (*highest).max(sum.map(|sum| (sum, Reverse(row))));
+        *highest = (*highest).max(value.map(|value| (value, Reverse(row))));
     }
     parts
 }
@@ -84,6 +89,41 @@ pub fn sums(span: Span, sums: &[Option<u64>]) -> String {
     let blank = if signs.contains(&' ') { ", blank no sum" } else { "" };
     let days = days(span, &signs, "  highest sum", &beside);
     format!("Two hours at their highest: # over half of {top}, + over a quarter, . less{blank}\n\n{days}\n")
+}
+
+/// How the readings changed in each two hours, below what the signs mean, and the greatest rise of each day with its
+/// time and its readings. A rise is a change with 0 for a fall.
+pub fn changes(
+    span: Span,
+    changes: &[Option<i64>],
+    rises: &[Option<u64>],
+    readings: impl Fn(usize) -> String,
+) -> String {
+    let sign = |highest: Option<(i64, _)>| match highest {
+        None => ' ',
+        Some((by, _)) if by > STEEP.into() => '#',
+        Some((by, _)) if by > SLIGHT.into() => '+',
+        Some((by, _)) if -by > SLIGHT.into() => '-',
+        Some(_) => '.',
+    };
+    let signs: Vec<char> = highest(span, changes, SIGN).into_iter().map(sign).collect();
+    let shown = |rise: Option<u64>| rise.map_or("none".to_string(), |rise| change(rise as i64));
+    let width = shown(rises.iter().copied().flatten().max()).len();
+    let beside = |highest: Option<(u64, Reverse<usize>)>| {
+        let at = match highest {
+            Some((1.., Reverse(row))) => format!(" at {}, {}", span.moment(row).clock(), readings(row)),
+            _ => String::new(),
+        };
+        format!("   {:>width$}{at}", shown(highest.map(|(rise, _)| rise)))
+    };
+    let beside: Vec<String> = highest(span, rises, DAY).into_iter().map(beside).collect();
+    let [slight, steep] = [SLIGHT, STEEP].map(|by| milligrams(by.into()));
+    let days = days(span, &signs, "  greatest rise", &beside);
+    // the first day has none before it, so that there are blanks
+    format!(
+        "Two hours by their greatest rise: # over {steep}, + over {slight}, . about the same, - all fell by over \
+         {slight}, blank not compared\n\n{days}\n"
+    )
 }
 
 /// So many half hours: `10 h 30 min`, `4 h`, `30 min`.
@@ -188,6 +228,35 @@ mod tests {
     fn sums_of_nothing_are_low() {
         let text = sums(span("2026-03-02 00:00", 8), &[Some(0); 8]);
         assert!(text.ends_with("\nMon  2 Mar |..          |   0.00 at 00:00\n\n"), "{text}");
+    }
+
+    /// Just over a bound, and at it, to both sides; the most upward of the four half hours counts.
+    #[test]
+    fn a_sign_is_the_greatest_rise_of_two_hours() {
+        let mut found = vec![None; 2 * DAY];
+        for (sign, by) in [21, 20, 3, 2, 0, -2, -3, -65_535].into_iter().enumerate() {
+            found[DAY + SIGN * sign + 1] = Some(by);
+        }
+        (found[DAY + 24], found[DAY + 26], found[DAY + 28]) = (Some(-4), Some(-5), Some(1));
+        let rises: Vec<Option<u64>> = found.iter().map(|by| by.map(|by: i64| by.max(0) as u64)).collect();
+        let readings = |row: usize| format!("row {row}");
+        let expected = "Two hours by their greatest rise: # over 0.20, + over 0.02, . about the same, - all fell by \
+                        over 0.02, blank not compared\n\n            0  6  12 18 24  greatest rise\n\
+                        Mon  2 Mar |            |    none\nTue  3 Mar |#++...-.    |   +0.21 at 00:30, row 49\n\n";
+        assert_eq!(changes(span("2026-03-02 00:00", 2 * DAY), &found, &rises, readings), expected);
+    }
+
+    /// Without a rise the greatest is 0, at no time; of equal ones the first is told.
+    #[test]
+    fn the_greatest_rise_of_a_day_has_its_time() {
+        let found = [Some(-7), Some(0), Some(131), Some(131_070), None, Some(131_070)];
+        let rises = [Some(0), Some(0), Some(131), Some(131_070), None, Some(131_070)];
+        let text = changes(span("2025-12-31 23:00", 6), &found, &rises, |row| format!("row {row}"));
+        let expected = "Wed 31 Dec 2025 |           .|        0.00\n\
+                        Thu  1 Jan 2026 |#           |   +1,310.70 at 00:30, row 3\n\n";
+        assert!(text.ends_with(expected), "{text}");
+        let text = changes(span("2026-03-02 00:00", 5), &[Some(-3); 5], &[Some(0); 5], |row| format!("row {row}"));
+        assert!(text.ends_with("\nMon  2 Mar |--          |   0.00\n\n"), "{text}");
     }
 
     #[test]

@@ -18,6 +18,7 @@ mod number;
 mod program;
 mod reading;
 pub mod report;
+pub mod rise;
 mod text;
 
 use std::env;

@@ -19,7 +19,7 @@ pub fn report(log: &OsStr, time: Option<[&OsString; 2]>, names: Option<[&OsStrin
     let row = time.map_or(Ok(log.span().rows - 1), |time| named::row(log.span(), time))?;
     let pair = pair(&log, names)?;
     let columns = Columns::new(&log).map_err(told)?;
-    let sum = columns.sum(pair).map_err(told)?;
+    let sum = columns.combined(zvonurel::sum, pair).map_err(told)?;
     let sums = sum.values(0).map_err(told)?;
     let compared = compared(&log, pair, &sums)?;
     let (read, added) = (read_line(&log), added_line(&log, pair));

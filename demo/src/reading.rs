@@ -74,6 +74,16 @@ pub fn milligrams(hundredths: u64) -> String {
     format!("{}.{:02}", grouped((hundredths / 100) as usize), hundredths % 100)
 }
 
+/// So many hundredths of a milligram more, or fewer: `+0.13`, `-0.05`, `0.00`.
+pub fn change(hundredths: i64) -> String {
+    let sign = match hundredths {
+        ..0 => "-",
+        0 => "",
+        1.. => "+",
+    };
+    format!("{sign}{}", milligrams(hundredths.unsigned_abs()))
+}
+
 #[cfg(test)]
 mod tests {
     use super::*;
@@ -97,6 +107,15 @@ mod tests {
         }
         assert_eq!(reading("-"), Ok(None));
         assert_eq!(milligrams(131_070), "1,310.70");
+    }
+
+    /// Nothing has no sign.
+    #[test]
+    fn a_change_has_its_sign() {
+        let shown = [-65_535, -100, -99, -1, 0, 1, 13, 100, 65_535, 131_070].map(change);
+        let expected =
+            ["-655.35", "-1.00", "-0.99", "-0.01", "0.00", "+0.01", "+0.13", "+1.00", "+655.35", "+1,310.70"];
+        assert_eq!(shown, expected);
     }
 
     #[test]

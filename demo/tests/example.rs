@@ -1,5 +1,5 @@
-//! The scripts `example/run`, `example/ammonia`, `example/archive` and `example/moment`: what they refuse before anything
-//! is built, and what they print where all was built.
+//! The scripts `example/run`, `example/ammonia`, `example/archive`, `example/moment` and `example/rise`: what they
+//! refuse before anything is built, and what they print where all was built.
 
 mod common;
 #[path = "common/mock.rs"]
@@ -10,7 +10,7 @@ use std::os::unix::fs::symlink;
 use std::path::Path;
 use std::process::Command;
 
-use common::{log_text, readings_text, repository, run, Folder, Told, AMMONIA, ARCHIVE, MOMENT, TANKS};
+use common::{log_text, readings_text, repository, run, Folder, Told, AMMONIA, ARCHIVE, MOMENT, RISE, TANKS};
 use mock::Mock;
 
 fn unbuilt(folder: &Folder, arguments: &[&str]) -> Told {
@@ -150,6 +150,18 @@ fn a_wrong_question_on_a_half_hour_is_refused_in_the_words_of_the_demo() {
 }
 
 #[test]
+fn a_wrong_question_on_the_day_before_is_refused_in_the_words_of_the_demo() {
+    let folder = Folder::new();
+    folder.write("log.txt", readings_text("2026-03-09 00:00", &[vec![None; 49]], 12));
+    for log in ["none.txt", "none/log.txt", "log.txt/log", ".", ""] {
+        refused_alike(&folder, "example/rise", RISE, &[log]);
+        refused_alike(&folder, "example/rise", RISE, &[log, "pond"]);
+    }
+    let usage = "Usage: example/rise [LOG [TANK]].";
+    unbuilt_script(&folder, "example/rise", &["log.txt", "tank 1", "tank 2"]).refused(usage);
+}
+
+#[test]
 fn wrong_arguments_beside_those_of_the_week() {
     let folder = Folder::new();
     let week = repository("example/week.txt");
@@ -185,6 +197,8 @@ fn help_builds_nothing() {
         assert!(out.starts_with("Usage: example/archive [ARCHIVE [LOG [COLOURS [T]]]].\n"), "{out}");
         let out = unbuilt_script(&folder, "example/moment", arguments).answered();
         assert!(out.starts_with("Usage: example/moment [LOG TANK DATE TIME [COLOURS [ARCHIVE]]].\n"), "{out}");
+        let out = unbuilt_script(&folder, "example/rise", arguments).answered();
+        assert!(out.starts_with("Usage: example/rise [LOG [TANK]].\n"), "{out}");
     }
 }
 
@@ -207,6 +221,9 @@ fn what_is_right_is_built() {
         ("example/moment", &[]),
         ("example/moment", &["log.txt", "tank 1", "2024-02-29", "23:30"]),
         ("example/moment", &["log.txt", "pond", "2024-02-29", "23:30", "red+green", "log.txt"]),
+        ("example/rise", &[]),
+        ("example/rise", &["log.txt"]),
+        ("example/rise", &["log.txt", "pond"]),
         // what can't be seen is shown by the demo
         ("example/ammonia", &["log.txt", "2026-03-09\u{200b}", "00:00"]),
     ] {
@@ -313,6 +330,26 @@ fn a_half_hour_stands_alone_on_standard_output() {
     let demo = run(Command::new(MOMENT).arg(&log).args(words));
     assert_eq!((told.status, told.out), (Some(0), demo.out), "{}", told.err);
     let told = run(mock.command(&script).arg(&log).args(["tank 13", "2026-03-03", "22:30"]));
+    assert!(told.status == Some(1) && told.out.is_empty() && told.err.ends_with("Nothing was answered.\n"), "{told:?}");
+}
+
+/// Where nothing is named tank 2 of the week is asked, and of another log its first tank.
+#[test]
+fn a_change_stands_alone_on_standard_output() {
+    let mock = Mock::new();
+    let whole = fs::read_to_string(repository("example/rise-tank-2.txt")).expect("the expected answer");
+    let script = mock.path("example/rise");
+    let told = run(mock.command(&script).env("ZVONUREL_LIB", "elsewhere"));
+    assert_eq!((told.status, told.out.as_str()), (Some(0), whole.as_str()), "{}", told.err);
+    let week = fs::read(mock.path("example/ammonia.txt")).expect("the week");
+    let log = mock.folder.write("else where/my week.txt", week);
+    for words in [&[][..], &["tank 12"]] {
+        let mut command = mock.command(&script);
+        let told = run(command.arg("my week.txt").args(words).current_dir(log.parent().expect("a folder")));
+        let demo = run(Command::new(RISE).arg(&log).args(words));
+        assert_eq!((told.status, told.out), (Some(0), demo.out), "{}", told.err);
+    }
+    let told = run(mock.command(&script).arg(&log).arg("tank 13"));
     assert!(told.status == Some(1) && told.out.is_empty() && told.err.ends_with("Nothing was answered.\n"), "{told:?}");
 }
 

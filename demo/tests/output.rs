@@ -7,7 +7,7 @@ use std::os::fd::OwnedFd;
 use std::os::unix::net::UnixStream;
 use std::process::{Command, Stdio};
 
-use common::{ammonia, archive, moment, repository, run, tanks, TANKS};
+use common::{ammonia, archive, moment, repository, rise, run, tanks, TANKS};
 
 fn week() -> Command {
     let mut command = Command::new(TANKS);
@@ -41,6 +41,11 @@ fn help_is_no_fault() {
         assert!(out.starts_with("Usage: moment LOG TANK DATE TIME [COLOURS [ARCHIVE]].\n"), "{out}");
         let words = ["LOG", "TANK", "DATE TIME", "COLOURS", "ARCHIVE"];
         assert!(words.iter().all(|word| out.contains(&format!("\n  {word}"))), "{out}");
+    }
+    for arguments in [&["-h"][..], &["--help"], &["log", "-h"], &["x", "x", "x", "--help"]] {
+        let out = rise(arguments).answered();
+        assert!(out.starts_with("Usage: rise LOG [TANK].\n"), "{out}");
+        assert!(["LOG", "TANK"].iter().all(|word| out.contains(&format!("\n  {word}"))), "{out}");
     }
 }
 

@@ -9,11 +9,13 @@ use std::process::{Command, Output};
 use std::sync::atomic::{AtomicUsize, Ordering};
 use std::{env, fs, process};
 
-/// The demo: its command on colours, that on readings, that on an old archive, and that on one half hour.
+/// The demo: its command on colours, that on readings, that on an old archive, that on one half hour, and that on the
+/// change since the day before.
 pub const TANKS: &str = env!("CARGO_BIN_EXE_tanks");
 pub const AMMONIA: &str = env!("CARGO_BIN_EXE_ammonia");
 pub const ARCHIVE: &str = env!("CARGO_BIN_EXE_archive");
 pub const MOMENT: &str = env!("CARGO_BIN_EXE_moment");
+pub const RISE: &str = env!("CARGO_BIN_EXE_rise");
 
 /// What every refusal ends with.
 pub const REFUSED: &str = "Nothing was answered.\n";
@@ -134,4 +136,8 @@ pub fn made(folder: &Folder, log: &Path) -> PathBuf {
 
 pub fn moment<S: AsRef<OsStr>>(arguments: &[S]) -> Told {
     run(Command::new(MOMENT).args(arguments))
+}
+
+pub fn rise<S: AsRef<OsStr>>(arguments: &[S]) -> Told {
+    run(Command::new(RISE).args(arguments))
 }
