@@ -69,10 +69,10 @@ pub fn difference(
     let mut i: usize = 0;
     while i < n {
         let at = (i + 1) * BLOCK_SEGMENTS;
-        let s = add(rows::row(x, at), rows::flipped(rows::row(y, at)), carry);
-        let digits = s.digits;
+        let d = add(rows::row(x, at), rows::flipped(rows::row(y, at)), carry);
+        let digits = d.digits;
         rows::put_both(z, at, exist, digits);
-        let carries = s.carries;
+        let carries = d.carries;
         carry = carries;
         i += 1;
     }

@@ -101,12 +101,12 @@ pub fn signed_value(index: &[u32], list: &[u32], row: u32) -> i64
     ensures { λ r. ⌜ r ≡ meaning.signedAt (now (index .entry)) (now (list .entry)) row ⌝ }
 {
     let format = contents::format(index);
-    let mut i = list.len() - 1;
-    let sign = signed_digit(format, index, list[i], row);
+    let mut place = list.len() - 1;
+    let sign = signed_digit(format, index, list[place], row);
     let mut v: i64 = -sign;
-    while 1 < i {
-        i -= 1;
-        v = signed_digit(format, index, list[i], row) + 2 * v;
+    while 1 < place {
+        place -= 1;
+        v = signed_digit(format, index, list[place], row) + 2 * v;
     }
     v
 }

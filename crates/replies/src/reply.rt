@@ -180,11 +180,11 @@ pub fn signed_value(told: SignedValue) -> ZvSignedValue
             word: refusal.word,
             value: 0,
         },
-        SignedValue::Is(n) => ZvSignedValue {
+        SignedValue::Is(z) => ZvSignedValue {
             number: 0,
             bitmap: 0,
             word: 0,
-            value: n,
+            value: z,
         },
     }
 }

@@ -17,10 +17,11 @@ use Rattle.column.proofs.signed_value.Statement.{statement}
 use Rattle.column.proofs.signed_value.Tie as tie
 
 abbrev Inv-loop : tie.InvT-loop
-Inv-loop index list row format i₀ sign v₀ i v = (1 ≤ i) × (i < length list) × (toZ w64 v ≡ signedFrom index list row i)
+Inv-loop index list row format place₀ sign v₀ place v =
+    (1 ≤ place) × (place < length list) × (toZ w64 v ≡ signedFrom index list row place)
 
 abbrev μ-loop : tie.MeasureT-loop
-μ-loop index list row format i₀ sign v₀ i v = i
+μ-loop index list row format place₀ sign v₀ place v = place
 
 -- ---- where the sign is read
 module _ (k : tie.After-signed-digit Inv-loop μ-loop) where
@@ -57,7 +58,7 @@ module _ (k : tie.After-signed-digit2 Inv-loop μ-loop) where
   sign = k .before .before .before .before
 
   abbrev i : ℕ
-  i = k .before .before .before .loop .i
+  i = k .before .before .before .loop .place
 
   abbrev v : ℤ
   v = toZ w64 (k .before .before .before .loop .v)
@@ -86,8 +87,8 @@ module _ (k : tie.After-signed-digit2 Inv-loop μ-loop) where
 format-requires : tie.Need-format-requires Inv-loop μ-loop
 format-requires c κs = search needs
 
-sub-i : tie.Need-sub-i Inv-loop μ-loop
-sub-i c = search needs
+sub-place : tie.Need-sub-place Inv-loop μ-loop
+sub-place c = search needs
 
 mul-signed-digit : tie.Need-mul-signed-digit Inv-loop μ-loop
 mul-signed-digit c = search needs
@@ -108,8 +109,8 @@ sub-v c =
 loop-holds : tie.Need-loop-holds Inv-loop μ-loop
 loop-holds c = (omega (arith, long c), omega (arith, long c), toZ-ofZ w64 _ (sub-v c) ∙ sign-is c)
 
-sub-i-2 : tie.Need-sub-i-2 Inv-loop μ-loop
-sub-i-2 c = search needs
+sub-place-2 : tie.Need-sub-place-2 Inv-loop μ-loop
+sub-place-2 c = search needs
 
 mul-signed-digit-2 : tie.Need-mul-signed-digit-2 Inv-loop μ-loop
 mul-signed-digit-2 c = search needs
@@ -122,7 +123,7 @@ signed-digit-requires-2 c κs =
     let f = c .before .before .before .before .before in
     let p = f .before .before .before .pre in
     let l = c .before .before .loop in
-    (p .0, (f .format .ensures, p .1 .2 (l .i - 1) (omega (arith, l .inv .1)), p .1 .3))
+    (p .0, (f .format .ensures, p .1 .2 (l .place - 1) (omega (arith, l .inv .1)), p .1 .3))
 
 mul-v : tie.Need-mul-v Inv-loop μ-loop
 mul-v c = doubled c
@@ -142,7 +143,7 @@ returns : tie.Need-returns Inv-loop μ-loop
 returns c =
     let l = c .before .loop in
     let k = c .before .before in
-    let e : l .i ≡ 1 = omega (arith, l .inv .0, c .loop-test .left) in
+    let e : l .place ≡ 1 = omega (arith, l .inv .0, c .loop-test .left) in
     l .inv .2 ∙ ap (signedFrom (index k) (list k) (row k)) e
     ∙ signed-all (index k) (list k) (row k) (omega (arith, long k))
 
@@ -153,13 +154,13 @@ signed-value-spec =
     Inv-loop
     μ-loop
     format-requires
-    sub-i
+    sub-place
     mul-signed-digit
     shared-slice-read-signed-digit
     signed-digit-requires
     sub-v
     loop-holds
-    sub-i-2
+    sub-place-2
     mul-signed-digit-2
     shared-slice-read-signed-digit-2
     signed-digit-requires-2
