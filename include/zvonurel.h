@@ -108,9 +108,9 @@ extern "C" {
 
 /* The version of the header and its library. */
 #define ZV_VERSION_MAJOR 0
-#define ZV_VERSION_MINOR 4
+#define ZV_VERSION_MINOR 5
 #define ZV_VERSION_PATCH 0
-#define ZV_VERSION "0.4.0"
+#define ZV_VERSION "0.5.0"
 
 /* Every limit and size, once. */
 
