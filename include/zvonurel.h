@@ -63,7 +63,7 @@
  * A SIGNED COLUMN is a column in two's complement: of n slices the highest, which is the sign, weighs -2^(n-1), and
  * each other one what it always weighs, so that values go from -2^(n-1) to 2^(n-1) - 1. Nothing in an index says which
  * columns are signed. zv_signed_difference writes one, and zv_signed_value reads any as one. Every other call takes
- * its columns as unsigned, and writes them so.
+ * its columns as unsigned, and zv_signed_difference does too.
  *
  * ANSWERS. `number` is 0 where the call was not refused. Else `number`, `bitmap` and `word` say why, every value
  * beside them is 0, and no word of the buffer changes. A call that writes puts its words at the front of the buffer;

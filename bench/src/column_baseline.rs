@@ -10,7 +10,7 @@ const DIGITS: usize = SLICES + 1;
 
 /// What is made of two columns.
 #[derive(Debug, Clone, Copy, PartialEq, Eq)]
-pub enum Made {
+pub enum Pairing {
     Sum,
     SignedDifference,
     Smaller,
@@ -20,26 +20,26 @@ pub enum Made {
 /// Writes the plain words of the slices, one slice behind the other. Rows that do not exist are worked on as well.
 pub type Makes = fn(&Columns, &mut [u32]);
 
-impl Made {
+impl Pairing {
     /// The slices that it has.
     pub fn slices(self) -> usize {
         match self {
-            Made::Sum | Made::SignedDifference => DIGITS,
-            Made::Smaller | Made::DifferenceOrZero => SLICES,
+            Pairing::Sum | Pairing::SignedDifference => DIGITS,
+            Pairing::Smaller | Pairing::DifferenceOrZero => SLICES,
         }
     }
 
     /// The programs, with their names.
     pub fn programs(self) -> Vec<(&'static str, Makes)> {
         match self {
-            Made::Sum => {
+            Pairing::Sum => {
                 let mut programs = from_arrays::<Add, DIGITS>();
                 programs.extend([("transposed", transposed as Makes), ("bit-sliced", bit_sliced)]);
                 programs
             }
-            Made::SignedDifference => from_arrays::<Subtract, DIGITS>(),
-            Made::Smaller => from_arrays::<Least, SLICES>(),
-            Made::DifferenceOrZero => from_arrays::<SubtractOrZero, SLICES>(),
+            Pairing::SignedDifference => from_arrays::<Subtract, DIGITS>(),
+            Pairing::Smaller => from_arrays::<Least, SLICES>(),
+            Pairing::DifferenceOrZero => from_arrays::<SubtractOrZero, SLICES>(),
         }
     }
 }
@@ -98,9 +98,9 @@ fn bit_by_bit<O: Operation>(data: &Columns, out: &mut [u32]) {
     let [first, second] = &data.values;
     out.fill(0);
     for (row, (x, y)) in first.iter().zip(second).enumerate() {
-        let made = O::of(*x, *y);
+        let number = O::of(*x, *y);
         for (i, slice) in out.chunks_exact_mut(segments).enumerate() {
-            slice[row / WORD_BITS] |= (made >> i & 1) << (row % WORD_BITS);
+            slice[row / WORD_BITS] |= (number >> i & 1) << (row % WORD_BITS);
         }
     }
 }
@@ -113,9 +113,9 @@ fn row_by_row<O: Operation, const N: usize>(data: &Columns, out: &mut [u32]) {
         let mut digits = [0; N];
         let mut bit = 1;
         for (x, y) in first.iter().zip(second) {
-            let made = O::of(*x, *y);
+            let number = O::of(*x, *y);
             for (i, word) in digits.iter_mut().enumerate() {
-                *word |= if made & (1 << i) != 0 { bit } else { 0 };
+                *word |= if number & (1 << i) != 0 { bit } else { 0 };
             }
             bit <<= 1;
         }

@@ -4,7 +4,7 @@ use std::hint::black_box;
 
 use zvonurel::{most_sum_words, Refusal, MOST_COLUMN, MOST_ROWS};
 
-use crate::column_baseline::{Made, SLICES};
+use crate::column_baseline::{Pairing, SLICES};
 use crate::column_inputs::{plain_words, Columns, Shape};
 use crate::timing::best_seconds;
 
@@ -13,18 +13,18 @@ const ROWS: u32 = 1_000_000;
 
 #[derive(Debug, Clone, Copy, PartialEq, Eq)]
 enum Call {
-    Made(Made),
+    Pairing(Pairing),
     Value,
     SignedValue,
 }
 
 /// In the order in which they are measured.
 const CALLS: [(Call, &str); 6] = [
-    (Call::Made(Made::Sum), "sum"),
+    (Call::Pairing(Pairing::Sum), "sum"),
     (Call::Value, "value"),
-    (Call::Made(Made::SignedDifference), "signed_difference"),
-    (Call::Made(Made::Smaller), "smaller"),
-    (Call::Made(Made::DifferenceOrZero), "difference_or_zero"),
+    (Call::Pairing(Pairing::SignedDifference), "signed_difference"),
+    (Call::Pairing(Pairing::Smaller), "smaller"),
+    (Call::Pairing(Pairing::DifferenceOrZero), "difference_or_zero"),
     (Call::SignedValue, "signed_value"),
 ];
 
@@ -35,12 +35,12 @@ fn measured_call(call: Call, data: &Columns, row: u32, out: &mut [u32]) -> Resul
     let index = black_box(&data.index[..]);
     let [first, second] = &data.lists;
     match call {
-        Call::Made(Made::Sum) => zvonurel::sum(index, first, second, out).map(|words| words as u64),
-        Call::Made(Made::SignedDifference) => {
+        Call::Pairing(Pairing::Sum) => zvonurel::sum(index, first, second, out).map(|words| words as u64),
+        Call::Pairing(Pairing::SignedDifference) => {
             zvonurel::signed_difference(index, first, second, out).map(|words| words as u64)
         }
-        Call::Made(Made::Smaller) => zvonurel::smaller(index, first, second, out).map(|words| words as u64),
-        Call::Made(Made::DifferenceOrZero) => {
+        Call::Pairing(Pairing::Smaller) => zvonurel::smaller(index, first, second, out).map(|words| words as u64),
+        Call::Pairing(Pairing::DifferenceOrZero) => {
             zvonurel::difference_or_zero(index, first, second, out).map(|words| words as u64)
         }
         Call::Value => zvonurel::value(index, first, row),
@@ -82,7 +82,7 @@ pub fn table() {
         );
         for (call, name) in CALLS {
             match call {
-                Call::Made(made) => made_lines(name, made, &data),
+                Call::Pairing(pairing) => pairing_lines(name, pairing, &data),
                 Call::Value | Call::SignedValue => value_line(name, call, &data),
             }
         }
@@ -96,21 +96,21 @@ fn timed(name: &str, seconds: f64) -> String {
 
 /// Times a call that makes a column of two: into a buffer that is long enough for any, into one of just its words, and
 /// with none, where it is only measured; and its plain programs.
-fn made_lines(name: &str, made: Made, data: &Columns) {
+fn pairing_lines(name: &str, pairing: Pairing, data: &Columns) {
     let mut out = buffer(data);
-    let words = measured_call(Call::Made(made), data, 0, &mut out).expect("a sound question") as usize;
-    let expected = plain_words(&out[..words], &numbers(1 + made.slices()), data.rows);
+    let words = measured_call(Call::Pairing(pairing), data, 0, &mut out).expect("a sound question") as usize;
+    let expected = plain_words(&out[..words], &numbers(1 + pairing.slices()), data.rows);
     let mut seconds = |room: usize| {
         best_seconds(|| {
-            let result = measured_call(Call::Made(made), data, 0, black_box(&mut out[..room]));
+            let result = measured_call(Call::Pairing(pairing), data, 0, black_box(&mut out[..room]));
             let written = result.unwrap_or_else(|refusal| refusal.word);
             assert!(black_box(written) == words as u64, "the words needed");
         })
     };
     let (long, just, none) = (seconds(most_sum_words(data.rows, SLICES)), seconds(words), seconds(0));
     let mut text = format!("{} {:10.5} ns", timed(name, long), long * 1e9 / f64::from(data.rows));
-    for (program, plain) in made.programs() {
-        let mut slices = vec![0; made.slices() * data.segments()];
+    for (program, plain) in pairing.programs() {
+        let mut slices = vec![0; pairing.slices() * data.segments()];
         let plain_seconds = best_seconds(|| plain(black_box(data), black_box(&mut slices)));
         assert!(agrees(data, &expected, &slices), "{program} disagrees with {name}");
         text += &format!(" | {program} {:.2} us, x {:.2}", plain_seconds * 1e6, plain_seconds / long);
@@ -127,10 +127,10 @@ fn numbers(count: usize) -> Vec<u32> {
 
 /// Whether the plain words of what was made, existence first, are those of a plain program, where both columns have the
 /// row.
-fn agrees(data: &Columns, expected: &[u32], made: &[u32]) -> bool {
+fn agrees(data: &Columns, expected: &[u32], pairing: &[u32]) -> bool {
     let (existence, slices) = expected.split_at(data.segments());
     let both = data.plain(0, 0).iter().zip(data.plain(1, 0)).map(|(x, y)| x & y);
-    let masked = made.iter().zip(existence.iter().cycle()).map(|(word, exist)| word & exist);
+    let masked = pairing.iter().zip(existence.iter().cycle()).map(|(word, exist)| word & exist);
     both.eq(existence.iter().copied()) && masked.eq(slices.iter().copied())
 }
 

@@ -6,7 +6,7 @@ use crate::log::Log;
 use crate::reading::{Reading, SLICES};
 
 /// A question to the library that makes a new index, with one column, of two columns of an index.
-type Combining = fn(&[u32], &[u32], &[u32], &mut [u32]) -> Result<usize, Refusal>;
+type Pairing = fn(&[u32], &[u32], &[u32], &mut [u32]) -> Result<usize, Refusal>;
 
 /// An index, and the lists that name its columns.
 pub struct Columns {
@@ -34,10 +34,10 @@ impl Columns {
     }
 
     /// What is made of two columns of that many slices, as the one column of a new index.
-    pub fn combined(&self, combining: Combining, [first, second]: [usize; 2]) -> Result<Columns, Refusal> {
+    pub fn combined(&self, pairing: Pairing, [first, second]: [usize; 2]) -> Result<Columns, Refusal> {
         // a sum takes the most room: no other has more slices
         let mut index = vec![0; zvonurel::most_sum_words(self.rows, SLICES)];
-        let words = combining(&self.index, &self.lists[first], &self.lists[second], &mut index)?;
+        let words = pairing(&self.index, &self.lists[first], &self.lists[second], &mut index)?;
         index.truncate(words);
         let bitmaps = index[2];
         Ok(Columns { rows: self.rows, index, lists: vec![(0..bitmaps).collect()] })
@@ -152,7 +152,7 @@ mod tests {
         let columns =
             columns(&["655.35 0.00 - 0.00 0.21 0.20 0.00 - 0.20", "0.00 655.35 0.02 0.00 0.20 0.21 655.35 - -"]);
         let [change, rise, lower] = [zvonurel::signed_difference, zvonurel::difference_or_zero, zvonurel::smaller]
-            .map(|combining| columns.combined(combining, [0, 1]).expect("a column"));
+            .map(|pairing| columns.combined(pairing, [0, 1]).expect("a column"));
         assert_eq!([&change, &rise, &lower].map(|made| made.lists[0].len()), [18, 17, 17]);
         let changes = vec![Some(65_535), Some(-65_535), None, Some(0), Some(1), Some(-1), Some(-65_535), None, None];
         assert_eq!(change.signed_values(0), Ok(changes));

@@ -146,10 +146,6 @@ static inline void every_piece(source at, row_call *call, const uint32_t *words,
 
 #define PIECES(call, words, rows_or_k, pieces) every_piece(HERE, call, WORDS(words), rows_or_k, WORDS(pieces))
 
-/* zv_sum, or another call that makes a column of two */
-typedef zv_written columns_call(const uint32_t *index, size_t index_words, const uint32_t *first, size_t first_numbers,
-                                const uint32_t *second, size_t second_numbers, uint32_t *out, size_t out_words);
-
 static columns_call *const columns_calls[] = {zv_sum, zv_signed_difference, zv_smaller, zv_difference_or_zero};
 
 /* every question on an index is refused for the index's own fault */

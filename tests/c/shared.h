@@ -4,6 +4,8 @@
 #ifndef ZVONUREL_TESTS_SHARED_H
 #define ZVONUREL_TESTS_SHARED_H
 
+#include "zvonurel.h"
+
 #include <stdint.h>
 #include <stdio.h>
 #include <stdlib.h>
@@ -18,6 +20,10 @@ typedef struct source {
     const char *file;
     int line;
 } source;
+
+/* zv_sum, or another call that makes a column of two */
+typedef zv_written columns_call(const uint32_t *index, size_t index_words, const uint32_t *first, size_t first_numbers,
+                                const uint32_t *second, size_t second_numbers, uint32_t *out, size_t out_words);
 
 static inline void same(source at, const char *what, uint64_t got, uint64_t want)
 {

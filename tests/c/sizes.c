@@ -213,8 +213,7 @@ static void longest_columns(format f, uint32_t rows, uint64_t need, uint64_t few
 {
     static const uint32_t ones[] = {0, 0}, some[] = {0, 1};
     static const struct {
-        zv_written (*call)(const uint32_t *index, size_t index_words, const uint32_t *first, size_t first_numbers,
-                           const uint32_t *second, size_t second_numbers, uint32_t *out, size_t out_words);
+        columns_call *call;
         const uint32_t *first, *second;
         int fewer;
     } calls[] = {{zv_sum, ones, some, 0},

@@ -51,19 +51,25 @@ pub fn signed_value(index: &[u32], column: &[u32], row: u32) -> Result<i64, Refu
 
 /// What is made of two columns.
 #[derive(Clone, Copy)]
-enum Made {
+enum Pairing {
     Sum,
     SignedDifference,
     Smaller,
     DifferenceOrZero,
 }
 
-fn of_two(made: Made, index: &[u32], first: &[u32], second: &[u32], out: &mut [u32]) -> Result<usize, Refusal> {
-    let call = match made {
-        Made::Sum => raw::zv_sum,
-        Made::SignedDifference => raw::zv_signed_difference,
-        Made::Smaller => raw::zv_smaller,
-        Made::DifferenceOrZero => raw::zv_difference_or_zero,
+fn of_two_columns(
+    pairing: Pairing,
+    index: &[u32],
+    first: &[u32],
+    second: &[u32],
+    out: &mut [u32],
+) -> Result<usize, Refusal> {
+    let call = match pairing {
+        Pairing::Sum => raw::zv_sum,
+        Pairing::SignedDifference => raw::zv_signed_difference,
+        Pairing::Smaller => raw::zv_smaller,
+        Pairing::DifferenceOrZero => raw::zv_difference_or_zero,
     };
     // SAFETY: each pointer is a slice's, with its length.
     let told = unsafe {
@@ -113,12 +119,12 @@ fn of_two(made: Made, index: &[u32], first: &[u32], second: &[u32], out: &mut [u
 /// # Ok::<(), zvonurel::Refusal>(())
 /// ```
 pub fn sum(index: &[u32], first: &[u32], second: &[u32], out: &mut [u32]) -> Result<usize, Refusal> {
-    of_two(Made::Sum, index, first, second, out)
+    of_two_columns(Pairing::Sum, index, first, second, out)
 }
 
 /// Writes the first column less the second, row by row, as a signed column, and returns how many words. It is a new
 /// index as [`sum`] writes one, with as many slices: one more than the wider column has, so that every difference has
-/// room, from -4,294,967,295 to 4,294,967,295. [`signed_value`] reads it.
+/// room, from -4,294,967,295 to 4,294,967,295. [`signed_value`] reads it. Both columns are taken as unsigned.
 ///
 /// # Errors
 /// Those of [`sum`].
@@ -139,7 +145,7 @@ pub fn sum(index: &[u32], first: &[u32], second: &[u32], out: &mut [u32]) -> Res
 /// # Ok::<(), zvonurel::Refusal>(())
 /// ```
 pub fn signed_difference(index: &[u32], first: &[u32], second: &[u32], out: &mut [u32]) -> Result<usize, Refusal> {
-    of_two(Made::SignedDifference, index, first, second, out)
+    of_two_columns(Pairing::SignedDifference, index, first, second, out)
 }
 
 /// Writes the smaller value of two columns, row by row, and returns how many words. It is a new index as [`sum`] writes
@@ -161,7 +167,7 @@ pub fn signed_difference(index: &[u32], first: &[u32], second: &[u32], out: &mut
 /// # Ok::<(), zvonurel::Refusal>(())
 /// ```
 pub fn smaller(index: &[u32], first: &[u32], second: &[u32], out: &mut [u32]) -> Result<usize, Refusal> {
-    of_two(Made::Smaller, index, first, second, out)
+    of_two_columns(Pairing::Smaller, index, first, second, out)
 }
 
 /// Writes the first column less the second, row by row, and 0 where the second has the greater value, and returns how
@@ -184,5 +190,5 @@ pub fn smaller(index: &[u32], first: &[u32], second: &[u32], out: &mut [u32]) ->
 /// # Ok::<(), zvonurel::Refusal>(())
 /// ```
 pub fn difference_or_zero(index: &[u32], first: &[u32], second: &[u32], out: &mut [u32]) -> Result<usize, Refusal> {
-    of_two(Made::DifferenceOrZero, index, first, second, out)
+    of_two_columns(Pairing::DifferenceOrZero, index, first, second, out)
 }

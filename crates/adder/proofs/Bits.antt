@@ -1,8 +1,8 @@
 -- Words of zeros and of ones, and a choice between the bits of two words.
 -- Assumes nothing.
-use Prim.Native.Nat.{ℕ, _-_, _/_, _%_, _^_, _<_}
+use Prim.Native.Nat.{ℕ, _-_, _^_, _<_}
 use mathlib.Core.Bool.{Bool, true, false, cond, not, xor, _&&_}
-use mathlib.Core.Path.{_≡_, refl, sym, ap, ap₂, _∙_}
+use mathlib.Core.Path.{_≡_, refl, sym, ap, _∙_}
 use lib.Bits.{bitAnd, bitXor}
 use native.Mathlib.Nat.{zero-div}
 use native.Mathlib.Omega.{arith}

@@ -1,14 +1,13 @@
 -- The smaller of two numbers, and their difference or 0, digit by digit: which is no less is known.
 -- Assumes nothing.
-use Prim.Native.Nat.{ℕ, _+_, _-_, _*_, _^_, _≤_, _<_, min}
+use Prim.Native.Nat.{ℕ, _+_, _-_, _*_, _^_, _<_, min}
 use mathlib.Core.Bool.{Bool, true, false, cond, _&&_}
-use mathlib.Core.Path.{_≡_, refl, sym, ap, ap₂, _∙_}
+use mathlib.Core.Path.{_≡_, refl, sym, ap, _∙_}
 use mathlib.Core.List.{List}
 use lib.Bits.{bitAnd}
 use lib.Dec.{eqb, leb}
 use lib.ListN.{getD}
 use native.Mathlib.Decide.{decLe}
-use native.Mathlib.Nat.{zero-add}
 use native.Mathlib.Omega.{arith}
 use borrow.Author.Tests.{le-leb, lt-leb}
 use Rattle.meaning.specs.Limits.{wordBits, blockSegments}
@@ -18,7 +17,7 @@ use Rattle.meaning.specs.declared.Pairing.the-variants.{Difference, Smaller, Di
 use Rattle.words.proofs.BitLaws.{and-set}
 use Rattle.adder.specs.Digits.{numberAt, Paired, NotLess}
 use Rattle.adder.specs.Blocks.{RowOf, ChosenBy, Existing}
-use Rattle.adder.proofs.Adding.{weighed, digitsAt, digits-bits, digit-of, no-less-digit, row-digit}
+use Rattle.adder.proofs.Adding.{weighed, digitsAt, digits-bits, digit-of, no-less-digit}
 use Rattle.adder.proofs.Bits.{zero-bit}
 use Rattle.adder.proofs.Filling.{at-first, past-clear}
 

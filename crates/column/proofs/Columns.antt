@@ -12,7 +12,7 @@ use lib.ListN.{length, getD, drop, length-drop, drop-of-length-le}
 use lib.Pow.{pow-mono}
 use lib.Signed.{mag}
 use mir.Syntax.{w64}
-use mir.Val.{SFits, ofZ, toZ}
+use mir.Val.{SFits, toZ}
 use mir.ValLaws.{toZ-ofZ}
 use Rattle.meaning.specs.Limits.{mostValueColumn}
 use Rattle.meaning.specs.Rows.{bit, countBelow}
@@ -122,17 +122,17 @@ module _ (index : List ℕ) where
   signedFrom list row i = signedOf (named index (drop i list)) row
 
   -- the top slice alone: its digit is negated
-  pub signed-top : (list : List ℕ) (row i : ℕ) (d : ℤ) → i + 1 ≡ length list
-      → d ≡ pos (bit (rowsAt index (getD list i 0) row)) → pos 0 -ℤ d ≡ signedFrom list row i
+  pub signed-top : (list : List ℕ) (row i d : ℕ) → i + 1 ≡ length list
+      → d ≡ bit (rowsAt index (getD list i 0) row) → pos 0 -ℤ pos d ≡ signedFrom list row i
   unfolding signedOf named
   signed-top list row i d e g =
       let last : drop (i + 1) list ≡ [] = drop-of-length-le list {i = i + 1} (omega arith) in
-      +ℤ-idl (negℤ d) ∙ rw (cons-at list i (omega arith), last, g)
+      +ℤ-idl (negℤ (pos d)) ∙ rw (cons-at list i (omega arith), last, g)
 
-  pub signed-more : (list : List ℕ) (row i : ℕ) (v d : ℤ) → i + 1 < length list → v ≡ signedFrom list row (i + 1)
-      → d ≡ pos (bit (rowsAt index (getD list i 0) row)) → d +ℤ pos 2 *ℤ v ≡ signedFrom list row i
-  signed-more list row i v d h e g =
-      ap₂ (λ (a b : ℤ). a +ℤ pos 2 *ℤ b) g (e ∙ ap (λ (ks : List ℕ). signedOf (named index ks) row) next)
+  pub signed-more : (list : List ℕ) (row i d : ℕ) (v : ℤ) → i + 1 < length list → v ≡ signedFrom list row (i + 1)
+      → d ≡ bit (rowsAt index (getD list i 0) row) → pos d +ℤ pos 2 *ℤ v ≡ signedFrom list row i
+  signed-more list row i d v h e g =
+      ap₂ (λ (a b : ℤ). a +ℤ pos 2 *ℤ b) (ap pos g) (e ∙ ap (λ (ks : List ℕ). signedOf (named index ks) row) next)
       ∙ sym (ap (λ (ks : List ℕ). signedOf (named index ks) row)
       (cons-at list i (omega arith) ∙ ap (λ (ks : List ℕ). getD list i 0 ∷ ks) next) ∙ step)
     where
@@ -170,10 +170,12 @@ doubled-fits (negsuc n) h =
 pub few-fits : (z : ℤ) → mag z < 2 ^ 32 → SFits w64 z
 few-fits z h = record { sfits = omega arith }
 
--- and a digit, whose bits are read back
-pub digit-back : (d : ℤ) (b : Bool) → d ≡ pos (bit b) → toZ w64 (ofZ w64 d) ≡ d
-digit-back d b e =
-    toZ-ofZ w64 d (subst (SFits w64) (sym e) (record { sfits = omega (arith, bit-le b) }))
+-- and a digit, which is the same number with a sign
+pub digit-fits : (d : ℕ) (b : Bool) → d ≡ bit b → SFits w64 (pos d)
+digit-fits d b e = record { sfits = omega (arith, bit-le b) }
+
+pub digit-signed : (d : ℕ) (b : Bool) → d ≡ bit b → toZ w64 d ≡ pos d
+digit-signed d b e = toZ-ofZ w64 (pos d) (digit-fits d b e)
 
 -- of 33 digits at most
 pub value-few : (n i v : ℕ) → 1 ≤ i → n ≤ mostValueColumn → v < 2 ^ (n - i) → v < 2 ^ 33

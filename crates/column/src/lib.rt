@@ -3,7 +3,6 @@
 ghost use mathlib.Core.Path.{_≡_};
 ghost use Prim.Native.Nat.{ℕ, _≤_, _<_};
 ghost use lib.ListN.{length, getD};
-ghost use lib.IntN.{pos};
 ghost use Rattle.meaning.specs.Rows.{bit};
 ghost use Rattle.meaning.specs.Index.{formatOf, rowCount, bitmapCount, rowsAt};
 ghost use Rattle.laws.specs.Laws.{IndexFacts};
@@ -79,18 +78,6 @@ pub fn value(index: &[u32], list: &[u32], row: u32) -> u64
     v
 }
 
-// A digit as a signed number.
-fn signed_digit(format: Format, index: &[u32], k: u32, row: u32) -> i64
-    requires { ⌜ IndexFacts (now index) ⌝ }
-    requires { ⌜ (format ≡ formatOf (now index)) × (k < bitmapCount (now index)) × (row < rowCount (now index)) ⌝ }
-    ensures { λ r. ⌜ r ≡ pos (bit (rowsAt (now (index .entry)) k row)) ⌝ }
-{
-    if has(format, index, k, row) {
-        return 1;
-    }
-    0
-}
-
 // The value at a row of a signed column, which is two's complement: the top slice, its sign, is negated, and then come the others,
 // the highest first.
 pub fn signed_value(index: &[u32], list: &[u32], row: u32) -> i64
@@ -102,11 +89,11 @@ pub fn signed_value(index: &[u32], list: &[u32], row: u32) -> i64
 {
     let format = contents::format(index);
     let mut place = list.len() - 1;
-    let sign = signed_digit(format, index, list[place], row);
+    let sign = digit(format, index, list[place], row) as i64;
     let mut v: i64 = -sign;
     while 1 < place {
         place -= 1;
-        v = signed_digit(format, index, list[place], row) + 2 * v;
+        v = digit(format, index, list[place], row) as i64 + 2 * v;
     }
     v
 }

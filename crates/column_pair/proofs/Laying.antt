@@ -26,7 +26,7 @@ use Rattle.new_index.specs.Layouts.{StartsOf, Headed}
 use Rattle.new_index.proofs.Regions.{region-length}
 use Rattle.new_index.proofs.LaidOut.{assembled-out, contents-are}
 use Rattle.pairs.specs.Passes.{Columns, bodyOf, PassedTo}
-use Rattle.column_pair.specs.Written.{pairedIndex}
+use Rattle.laws.specs.ColumnLaws.{pairIndex}
 
 -- places that are all 0 are in order
 pub nowhere-laid : (zs : List ℕ) (count n : ℕ) → count < length zs → ((i : ℕ) → getD zs i 0 ≡ 0) → Laid zs count n
@@ -95,7 +95,7 @@ module _ (op : Pairing) (index first second : List ℕ) (n : ℕ) (cs : Columns 
         ∙ places (length bs) (omega arith)
         ∙ ap (λ (l : List (List ℕ)). contentsEnd (length bs) + totalWords l) (take-all (length bs) bs (omega arith))
 
-    pub need-is : getD starts (n + 1) 0 ≡ length (pairedIndex op index first second n)
+    pub need-is : getD starts (n + 1) 0 ≡ length (pairIndex op index first second n)
     unfolding indexOf
     need-is = end ∙ sym (length-is F R bs)
 
@@ -141,9 +141,9 @@ module _ (op : Pairing) (index first second : List ℕ) (n : ℕ) (cs : Columns 
           ap (λ (k : ℕ). take k out) place ∙ ps′ .front ∙ ap (λ (k : ℕ). take k mid) (sym place)
           ∙ contents-are F old mid starts R bs (subst (λ (k : ℕ). Headed F old R starts k mid k) same hd) (unfold contentsEnd in omega (arith, bs-length, contents-fit, room)) places
 
-      pub written : out ≡ pairedIndex op index first second n ++ drop (getD starts (n + 1) 0) old
+      pub written : out ≡ pairIndex op index first second n ++ drop (getD starts (n + 1) 0) old
       unfolding indexOf
       written =
           assembled-out out starts bs (contentsEnd (length bs)) places parts F R old refl front-is
           (rw (sym end) (ps′ .back ∙ drop-more (headWords + entryWords * (n + 1)) (getD starts (n + 1) 0) mid old contents-fit (hd .behind)))
-          ∙ ap (λ (k : ℕ). pairedIndex op index first second n ++ drop k old) (sym need-is)
+          ∙ ap (λ (k : ℕ). pairIndex op index first second n ++ drop k old) (sym need-is)

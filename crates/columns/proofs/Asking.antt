@@ -1,22 +1,23 @@
 -- Questions on columns: what is refused, in its order, and that what is left is the answer.
 -- Assumes nothing.
-use Prim.Native.Nat.{ℕ, suc, _+_, _-_, _≤_, _<_}
+use Prim.Native.Nat.{ℕ, suc, _-_, _≤_, _<_}
 use mathlib.Core.Bool.{Bool, true, false, not, _||_}
 use mathlib.Core.Path.{_≡_, refl, sym, ap, ap₂, _∙_, subst}
 use mathlib.Core.List.{List, _++_}
 use native.Mathlib.Omega.{arith}
 use borrow.Author.Tests.{lt-ltb, le-ltb, le-leb, lt-leb, leb-false}
-use lib.Dec.{leb, ltb}
+use lib.Dec.{leb}
 use lib.ListN.{length, getD, drop}
 use Rattle.meaning.specs.Limits.{leastColumn, mostColumn, mostValueColumn}
 use Rattle.meaning.specs.Refusal.{Outcome, answer, Verdict, sound, refuseIf, _then_}
-use Rattle.meaning.specs.Index.{formatOf, rowCount, bitmapCount}
+use Rattle.meaning.specs.Index.{rowCount, bitmapCount}
 use Rattle.laws.specs.Laws.{IndexFacts}
-use Rattle.meaning.specs.NewIndex.{indexOf, indexRoom, writeIndex}
+use Rattle.laws.specs.ColumnLaws.{pairIndex}
+use Rattle.meaning.specs.NewIndex.{indexRoom, writeIndex}
 use Rattle.meaning.specs.Column.{pairSlices}
 use Rattle.meaning.specs.declared.Pairing.{Pairing}
 use Rattle.meaning.specs.Answer.{anyBad}
-use Rattle.meaning.specs.Columns.{sliceCount, wider, pairWidth, existing, badColumn, badRow, strays, askAt, pairColumn, askPair}
+use Rattle.meaning.specs.Columns.{sliceCount, wider, pairWidth, existing, badColumn, badRow, strays, askAt, writePair, askPair}
 use Rattle.laws.proofs.Tests.{or-false}
 use Rattle.laws.proofs.Demanded.{good-each}
 use Rattle.laws.proofs.NamedBitmaps.{column-length, column-named}
@@ -160,21 +161,17 @@ module _ (op : Pairing) (index first second : List ℕ) where
         few = omega (arith, p .1, q .1);
       }
 
-  -- what is left where both lists are good, and no row strays
-  abbrev pub writing : (room : ℕ) → Outcome (List ℕ)
-  writing room = writeIndex (formatOf index) (rowCount index) (pairColumn index op n first second) room
-
   module _ (old out : List ℕ) (m need : ℕ) (e : m ≡ n) (w : PairWritten op index first second m old out need) where
     w′ : PairWritten op index first second n old out need
     w′ = subst (λ (k : ℕ). PairWritten op index first second k old out need) e w
 
-    pub wrote-no-room : indexRoom (length old) < need → (r : Refusal) → r ≡ refusal 9 need → Wrote (writing (length old)) (written.Refused r) old out
-    unfolding writeIndex
-    wrote-no-room h r k = rw (k, w′ .lacks h) (wrote-none old (indexOf (formatOf index) (rowCount index) (pairColumn index op n first second)) need (w′ .need-is) h)
+    pub wrote-no-room : indexRoom (length old) < need → (r : Refusal) → r ≡ refusal 9 need → Wrote (writePair index op first second (length old)) (written.Refused r) old out
+    unfolding writePair writeIndex
+    wrote-no-room h r k = rw (k, w′ .lacks h) (wrote-none old (pairIndex op index first second n) need (w′ .need-is) h)
 
-    pub wrote-pair : need ≤ indexRoom (length old) → Wrote (writing (length old)) (written.Words need) old out
-    unfolding writeIndex
-    wrote-pair h = wrote-words old (indexOf (formatOf index) (rowCount index) (pairColumn index op n first second)) need (w′ .need-is) out h (w′ .fits h ∙ ap (λ (k : ℕ). indexOf (formatOf index) (rowCount index) (pairColumn index op n first second) ++ drop k old) (w′ .need-is))
+    pub wrote-pair : need ≤ indexRoom (length old) → Wrote (writePair index op first second (length old)) (written.Words need) old out
+    unfolding writePair writeIndex
+    wrote-pair h = wrote-words old (pairIndex op index first second n) need (w′ .need-is) out h (w′ .fits h ∙ ap (λ (k : ℕ). pairIndex op index first second n ++ drop k old) (w′ .need-is))
 
   module _ (out : List ℕ) where
     pub pair-bad-first : badColumn index mostColumn first ≡ true → (r : Refusal) → r ≡ refusal 8 0
@@ -188,6 +185,6 @@ module _ (op : Pairing) (index first second : List ℕ) where
     pair-bad-second h g r e = wrote-refused out r _ (ap refusedBy e ∙ rw (h, g))
 
     pub pair-rest : badColumn index mostColumn first ≡ false → badColumn index mostColumn second ≡ false
-        → (strays index first then strays index second then writing (length out)) ≡ askPair index op first second (length out)
+        → (strays index first then strays index second then writePair index op first second (length out)) ≡ askPair index op first second (length out)
     unfolding askPair refuseIf
     pair-rest h g = rw (h, g)

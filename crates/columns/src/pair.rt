@@ -5,8 +5,6 @@ ghost use mathlib.Core.Bool.{false};
 ghost use Prim.Native.Nat.{_≤_};
 ghost use lib.ListN.{length};
 ghost use Rattle.meaning.specs.Limits.{mostColumn};
-ghost use Rattle.meaning.specs.Index.{formatOf, rowCount};
-ghost use Rattle.meaning.specs.NewIndex.{writeIndex};
 ghost use Rattle.meaning.specs.Refusal.{_then_};
 ghost use Rattle.meaning.specs.Columns as meaning;
 ghost use Rattle.laws.specs.Laws.{IndexFacts};
@@ -50,10 +48,8 @@ fn write_pair(op: Pairing, index: &[u32], first: &[u32], second: &[u32], out: &m
     requires { ⌜ IndexFacts (now index) ⌝ }
     requires { ⌜ meaning.badColumn (now index) mostColumn (now first) ≡ false ⌝ }
     requires { ⌜ meaning.badColumn (now index) mostColumn (now second) ≡ false ⌝ }
-    ensures { λ r. ⌜ Wrote (writeIndex (formatOf (now (index .entry))) (rowCount (now (index .entry)))
-        (meaning.pairColumn (now (index .entry)) op (meaning.pairWidth op (now (first .entry)) (now (second .entry)))
-        (now (first .entry)) (now (second .entry))) (length (now (out .entry))))
-        r (now (out .entry)) (now (out .exit)) ⌝ }
+    ensures { λ r. ⌜ Wrote (meaning.writePair (now (index .entry)) op (now (first .entry)) (now (second .entry))
+        (length (now (out .entry)))) r (now (out .entry)) (now (out .exit)) ⌝ }
 {
     let n = slices(op, first, second);
     let need = write::write(op, index, first, second, n, out);
@@ -75,9 +71,7 @@ fn pair_second(
     requires { ⌜ meaning.badColumn (now index) mostColumn (now first) ≡ false ⌝ }
     requires { ⌜ meaning.badColumn (now index) mostColumn (now second) ≡ false ⌝ }
     ensures { λ r. ⌜ Wrote (meaning.strays (now (index .entry)) (now (second .entry)) then
-        writeIndex (formatOf (now (index .entry))) (rowCount (now (index .entry)))
-        (meaning.pairColumn (now (index .entry)) op (meaning.pairWidth op (now (first .entry)) (now (second .entry)))
-        (now (first .entry)) (now (second .entry))) (length (now (out .entry))))
+        meaning.writePair (now (index .entry)) op (now (first .entry)) (now (second .entry)) (length (now (out .entry))))
         r (now (out .entry)) (now (out .exit)) ⌝ }
 {
     let checked = column::strays(index, second);

@@ -19,7 +19,7 @@ use Rattle.laws.proofs.Tests.{or-false}
 use Rattle.laws.proofs.Outcomes.{refuse-answer, then-answer}
 use Rattle.laws.proofs.NamedBitmaps.{named-length, column-length}
 use Rattle.laws.proofs.ColumnValues.{value-lt, column-digits, column-value}
-use Rattle.laws.proofs.SignedValues.{minus-below, minus-or-zero, signed-less, signed-plain, signed-range}
+use Rattle.laws.proofs.SignedValues.{minus-below, signed-less, signed-plain, signed-range}
 use Rattle.laws.proofs.ColumnOrder.{told}
 
 -- ---- digits
@@ -128,6 +128,4 @@ sign-laws = record {
   range = signed-range;
   signed-most = signed-most;
   difference-most = difference-most;
-  or-zero = minus-or-zero;
-  parts = λ x y. omega arith;
 }

@@ -9,7 +9,7 @@ use Rattle.meaning.specs.Refusal.{Outcome, refused, answer, sound, _then_}
 use Rattle.meaning.specs.Index.{formatOf, rowCount, SoundIndex, indexFault}
 use Rattle.meaning.specs.Answer.{check}
 use Rattle.meaning.specs.NewIndex.{indexRoom, writeIndex}
-use Rattle.meaning.specs.Columns.{pairWidth, valueAt, signedAt, badColumn, badRow, strays, askAt, askValue, value, askSignedValue, signedValue, pairColumn, askPair, pair}
+use Rattle.meaning.specs.Columns.{pairWidth, valueAt, signedAt, badColumn, badRow, strays, askAt, askValue, value, askSignedValue, signedValue, pairColumn, writePair, askPair, pair}
 use Rattle.meaning.specs.declared.Pairing.{Pairing}
 use Rattle.laws.specs.ColumnLaws.{GoodValue, GoodPair, ValueOrder, pairIndex, PairOrder, OrderLaws}
 use Rattle.laws.proofs.Tests.{or-true}
@@ -64,8 +64,10 @@ module _ (op : Pairing) (index first second : List ℕ) (room : ℕ) where
 
   -- the last thing that is asked, the room for the answer
   abbrev written : Outcome (List ℕ)
-  written =
-      writeIndex (formatOf index) (rowCount index) (pairColumn index op (pairWidth op first second) first second) room
+  written = writePair index op first second room
+
+  abbrev answerWords : List ℕ
+  answerWords = pairIndex op index first second (pairWidth op first second)
 
   -- what is left where there is neither a fault nor 8
   asks-both : GoodPair index first second
@@ -100,10 +102,10 @@ module _ (op : Pairing) (index first second : List ℕ) (room : ℕ) where
         ∙ then-refused (strays index second) _ _ _ _ (stray-laws .first-given index second i r f);
     no-room = λ g n m l.
         asks-room g n m
-        ∙ (unfold writeIndex in fits-no (indexRoom room) (pairIndex op index first second) l);
+        ∙ (unfold writePair in unfold writeIndex in fits-no (indexRoom room) answerWords l);
     answered = λ g n m l.
         asks-room g n m
-        ∙ (unfold writeIndex in fits-yes (indexRoom room) (pairIndex op index first second) l);
+        ∙ (unfold writePair in unfold writeIndex in fits-yes (indexRoom room) answerWords l);
   }
 
 pub order-laws : OrderLaws

@@ -1,9 +1,10 @@
--- What an operation on two columns answers is a column, whose values are the operation's.
+-- What an operation on two columns answers is a column, whose values are the operation's; and what the answers of several are to each
+-- other.
 -- Assumes nothing.
-use Prim.Native.Nat.{ℕ, suc, _%_, _^_, _≤_, _<_}
-use mathlib.Core.Bool.{Bool, true, false, not, _||_, true≢false}
+use Prim.Native.Nat.{ℕ, zero, suc, _-_, _%_, _^_, _≤_, _<_}
+use mathlib.Core.Bool.{Bool, true, false, not, _&&_, _||_, true≢false}
 use mathlib.Core.Path.{_≡_, refl, sym, ap, _∙_, subst}
-use mathlib.Core.List.{List}
+use mathlib.Core.List.{List, _∷_}
 use lib.Dec.{leb}
 use lib.ListN.{length, getD}
 use lib.IntN.{pos, _-ℤ_, -ℤ-+ℤ-cancel}
@@ -20,10 +21,10 @@ use Rattle.meaning.specs.Index.{formatOf, rowCount, bitmapCount, rowsAt, SoundI
 use Rattle.meaning.specs.Question.{intersection}
 use Rattle.meaning.specs.Answer.{check, named}
 use Rattle.meaning.specs.Column.{valueOf, slice, slicesFrom, columnOf, whole, pairValue, pairSlices}
-use Rattle.meaning.specs.Columns.{sliceCount, wider, pairWidth, existing, slicesOf, valueAt, signedAt, badColumn, badRow, strays, askValue, value, askSignedValue, signedValue, pairColumn, askPair, pair}
+use Rattle.meaning.specs.Columns.{sliceCount, wider, pairWidth, existing, slicesOf, valueAt, signedAt, badColumn, badRow, strays, askValue, value, askSignedValue, signedValue, pairColumn, writePair, askPair, pair}
 use Rattle.meaning.specs.declared.Pairing.{Pairing}
 use Rattle.meaning.specs.declared.Pairing.the-variants.{Sum, Difference, Smaller, DifferenceOrZero}
-use Rattle.laws.specs.ColumnLaws.{NewIndex, mostSumSlices, StrayAt, GoodPair, inBoth, toldAt, ColumnIn, ColumnOf, SignedColumnOf, GivesBack, PairsHold}
+use Rattle.laws.specs.ColumnLaws.{NewIndex, mostSumSlices, StrayAt, GoodPair, inBoth, orZero, toldAt, ColumnIn, ColumnOf, SignedColumnOf, GivesBack, PairsHold, PartsHold}
 use Rattle.laws.proofs.Tests.{or-false}
 use Rattle.laws.proofs.Segments.{both as both-hold}
 use Rattle.laws.proofs.Outcomes.{refuse-no, refuse-yes, refuse-answer, then-answer}
@@ -35,7 +36,7 @@ use Rattle.laws.proofs.NewIndexes.{new-index-holds}
 use Rattle.laws.proofs.StraysFound.{stray-laws}
 use Rattle.laws.proofs.NamedBitmaps.{named-length, named-at, column-length, column-good, column-more}
 use Rattle.laws.proofs.ColumnValues.{value-ext, slices-length, slices-at, column-many, column-digits}
-use Rattle.laws.proofs.SignedValues.{signed-difference}
+use Rattle.laws.proofs.SignedValues.{signed-difference, sign-digit, minus-or-zero}
 use Rattle.laws.proofs.ColumnOrder.{told, of-told, order-laws}
 use Rattle.laws.proofs.ColumnDigits.{below-wider, sum-below}
 
@@ -67,7 +68,7 @@ record Answered (op : Pairing) (index first second out : List ℕ) : Type 0 wher
 -- which holds of every answer
 answered : (op : Pairing) (index first second : List ℕ) (room : ℕ) (out : List ℕ)
     → pair index op first second room ≡ answer out → Answered op index first second out
-unfolding pair askPair check pairWidth wider sliceCount pairColumn intersection
+unfolding pair askPair writePair check pairWidth wider sliceCount pairColumn intersection
 answered op index first second room out e =
     let a = then-answer (indexFault index) _ out e in
     let b = refuse-answer (badColumn index mostColumn first || badColumn index mostColumn second) 8 0 0 _ out (a .1) in
@@ -124,22 +125,35 @@ module _ {op : Pairing} {index first second out : List ℕ} (a : Answered op ind
   unfolding columnOf
   out-slices i r l h = a .new .sets (suc i) r (omega (arith, column-many both v n)) h ∙ slice-at i r l
 
+  -- each of its bitmaps has rows that exist alone
+  within : (k r : ℕ) → k ≤ n → r < R → rowsAt out k r ≡ true → both r ≡ true
+  unfolding slice
+  within zero r l h e = sym (out-exists r h) ∙ e
+  within (suc i) r l h e = both-hold (both r) (isSet (v r) i) (sym (out-slices i r (omega arith) h) ∙ e) .0
+
+  -- so nothing strays
+  no-strays : (ls : List ℕ) → ((i : ℕ) → i < length ls → getD ls i 0 ≤ n) → strays out (0 ∷ ls) ≡ sound
+  no-strays ls l = stray-laws .none-means out (0 ∷ ls) .1 not-stray
+    where
+      not-stray : (i r : ℕ) → StrayAt out (0 ∷ ls) i r → ⊥
+      not-stray i r s =
+          let h : r < R = omega (arith, s .row-there, a .new .rows) in
+          let e = within (getD ls i 0) r (l i (omega (arith, s .slice-there))) h (s .has) in
+          true≢false (sym e ∙ sym (out-exists r h) ∙ (unfold existing in s .lacks))
+
   -- which its slices' numbers have at place i
   slice-rows : (i r : ℕ) → i < n → r < R → rowsAt out (getD ks i 0) r ≡ slice both v i r
   slice-rows i r l h = ap (λ (k : ℕ). rowsAt out k r) (getD-tabulate n (λ i. suc i) i l) ∙ out-slices i r l h
 
-  -- a slice has no row that does not exist
-  not-stray : (i r : ℕ) → StrayAt out (whole n) i r → ⊥
-  unfolding existing tabulate slice
-  not-stray i r s =
-      let l : i < n = omega (arith, s .slice-there, length-tabulate n (λ i. suc i)) in
-      let h : r < R = omega (arith, s .row-there, a .new .rows) in
-      let e : slice both v i r ≡ true = sym (slice-rows i r l h) ∙ s .has in
-      true≢false (sym (both-hold (both r) (isSet (v r) i) e .0) ∙ sym (out-exists r h) ∙ s .lacks)
-
-  -- so nothing strays
+  -- nor does anything in the whole
   out-strays : strays out (whole n) ≡ sound
-  out-strays = stray-laws .none-means out (whole n) .1 not-stray
+  unfolding tabulate
+  out-strays = no-strays ks there
+    where
+      there : (i : ℕ) → i < length ks → getD ks i 0 ≤ n
+      there i l =
+          let h : i < n = omega (arith, length-tabulate n (λ i. suc i)) in
+          omega (arith, getD-tabulate n (λ i. suc i) i h)
 
   -- the list of the whole names n slices
   ks-many : length (named out ks) ≡ n
@@ -215,7 +229,7 @@ module _ {op : Pairing} {index first second out : List ℕ} (a : Answered op ind
         subst (Canonical (formatOf index) R) (sym (a .new .bodies k (omega (arith, column-many both v n))))
         (canonical-form (formatOf index) R _);
     exists = out-exists;
-    no-strays = out-strays;
+    no-strays = no-strays;
   }
 
   -- whose values are the operation's, where these have no more digits than it has slices
@@ -242,13 +256,23 @@ reads index list r is-sound good no-strays l e =
     })
     no-strays
 
+-- a row that exists in both is no bad one of the answer
+row-there : (index first second : List ℕ) (r : ℕ) → r < rowCount index → inBoth index first second r ≡ true
+    → leb (rowCount index) r || not (inBoth index first second r) ≡ false
+row-there index first second r l e = rw (lt-leb (rowCount index) r l, e)
+
 module _ {index first second out : List ℕ} (a : Answered Difference index first second out) where
   -- of a difference the lowest digits stay, which are its two's complement
   of-difference : SignedColumnOf index first second (suc (wider first second))
       (λ r. pos (valueAt index first r) -ℤ pos (valueAt index second r)) out
-  unfolding signedValue askSignedValue signedAt slicesOf tabulate pairWidth pairSlices pairValue
+  unfolding signedValue askSignedValue signedAt slicesOf tabulate pairWidth pairSlices pairValue slice
   of-difference = record {
     column = is-column a;
+    sign = λ r l.
+        let low = below-wider index first second r in
+        out-slices a (wider first second) r (omega arith) l
+        ∙ ap (λ (t : Bool). both a r && t)
+        (sign-digit (wider first second) (valueAt index first r) (valueAt index second r) (low .0) (low .1));
     values = λ r.
         let x = valueAt index first in
         let y = valueAt index second in
@@ -264,15 +288,13 @@ module _ {index first second out : List ℕ} (a : Answered Difference index firs
       let b = both-hold (existing index first r) (existing index second r) e in
       let x = valueAt index first r in
       let y = valueAt index second r in
-      let there : leb (rowCount index) r || not (inBoth index first second r) ≡ false =
-      rw (lt-leb (rowCount index) r l, e) in
       record {
         x = x;
         y = y;
         z = pos x -ℤ pos y;
         first-is = reads index first r (a .good .is-sound) (a .good .good-first) (a .first-strays) l (b .0);
         second-is = reads index second r (a .good .is-sound) (a .good .good-second) (a .second-strays) l (b .1);
-        difference-is = of-difference .values r ∙ refuse-no _ 8 0 0 _ there;
+        difference-is = of-difference .values r ∙ refuse-no _ 8 0 0 _ (row-there index first second r l e);
         back = -ℤ-+ℤ-cancel (pos x) (pos y);
       }
 
@@ -286,4 +308,25 @@ pairs-hold index first second room out =
       of-smaller = λ e. of-numbers (answered Smaller index first second room out e) (λ r. omega (arith, low r));
       of-zero = λ e. of-numbers (answered DifferenceOrZero index first second room out e) (λ r. omega (arith, low r));
       gives-back = λ e. gives-back (answered Difference index first second room out e);
+    }
+
+pub parts-hold : PartsHold
+parts-hold index first second room d o m e f g r l h =
+    let a = answered Difference index first second room d e in
+    let b = both-hold (existing index first r) (existing index second r) h in
+    let x = valueAt index first r in
+    let y = valueAt index second r in
+    let zero : x - y ≡ orZero (pos x -ℤ pos y) = minus-or-zero x y in
+    let there = row-there index first second r l h in
+    let at = pairs-hold index first second room in
+    record {
+      x = x;
+      y = y;
+      z = pos x -ℤ pos y;
+      first-is = reads index first r (a .good .is-sound) (a .good .good-first) (a .first-strays) l (b .0);
+      second-is = reads index second r (a .good .is-sound) (a .good .good-second) (a .second-strays) l (b .1);
+      difference-is = at d .of-difference e .values r ∙ refuse-no _ 8 0 0 _ there;
+      zero-is = at o .of-zero f .values r ∙ refuse-no _ 8 0 0 _ there ∙ ap answer zero;
+      smaller-is = at m .of-smaller g .values r ∙ refuse-no _ 8 0 0 _ there;
+      parts = omega (arith, zero);
     }

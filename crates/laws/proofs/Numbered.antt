@@ -266,7 +266,7 @@ module _ (index : List ℕ) where
   signed-value list r = at-row list r (columns.signedAt index list r)
 
   pub pair : (op : Pairing) (first second : List ℕ) (room : ℕ) → Numbered (columns.pair index op first second room)
-  unfolding columns.pair columns.askPair writeIndex
+  unfolding columns.pair columns.askPair columns.writePair writeIndex
   pair op first second room =
       let sets : List (ℕ → Bool) = columns.pairColumn index op (columns.pairWidth op first second) first second in
       after (meaning.check index) _ (check index)

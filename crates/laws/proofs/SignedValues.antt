@@ -1,18 +1,20 @@
 -- Differences of numbers as integers, and signed values, which are two's complement.
 -- Assumes nothing.
 use Prim.Native.Nat.{ℕ, zero, suc, _+_, _-_, _*_, _/_, _%_, _^_, _≤_, _<_}
-use mathlib.Core.Bool.{Bool, true, false, cond}
+use mathlib.Core.Bool.{Bool, true, false, cond, not}
 use mathlib.Core.Path.{_≡_, refl, sym, ap, _∙_, subst}
 use mathlib.Core.List.{List, [], _∷_}
+use lib.Dec.{eqb}
 use lib.ListN.{length}
 use lib.Pow.{shr-shr, high, low}
 use lib.IntN.{ℤ, pos, negsuc, negℤ, natAbs, _+ℤ_, _-ℤ_, _*ℤ_}
-use lib.Signed.{mag}
+use lib.Signed.{mag, nonNeg}
 use native.Mathlib.Nat.{mod-eq-of-lt, div-eq-of-lt, div-one}
 use native.Mathlib.Decide.{decLe}
 use native.Mathlib.Omega.{arith}
 use borrow.Author.Tests.{lt-ltb, le-ltb}
 use Rattle.meaning.specs.Rows.{bit}
+use Rattle.meaning.specs.Segment.{bitAt, isSet}
 use Rattle.meaning.specs.Column.{valueOf, signedOf}
 use Rattle.laws.specs.ColumnLaws.{signOf, orZero}
 use Rattle.laws.proofs.RowWords.{bit-le}
@@ -78,6 +80,22 @@ less-one false = refl
 -- a sign's weight, of one slice more
 weight-next : (s n : ℕ) → 2 * (s * 2 ^ n) ≡ s * 2 ^ suc n
 weight-next s n = let t : 2 ^ suc n ≡ 2 * 2 ^ n = omega arith in rw t (omega arith)
+
+-- the digit above those of two numbers tells in their two's complement which is the smaller
+pub sign-digit : (n x y : ℕ) → x < 2 ^ n → y < 2 ^ n → isSet (x + 2 ^ suc n - y) n ≡ not (nonNeg (pos x -ℤ pos y))
+unfolding isSet bitAt
+sign-digit n x y hx hy = elim (decLe y x) [
+  | yes l ↦
+      let raised : x + 2 ^ suc n - y ≡ 2 * 2 ^ n + (x - y) = omega arith in
+      ap (λ (k : ℕ). eqb (k / 2 ^ n % 2) 1) raised
+      ∙ ap (λ (k : ℕ). eqb (k % 2) 1) (high 2 n {lo = x - y} (omega arith))
+      ∙ sym (ap (λ (z : ℤ). not (nonNeg z)) (minus-pos x y l))
+  | no l ↦
+      let raised : x + 2 ^ suc n - y ≡ 1 * 2 ^ n + (2 ^ n - (y - x)) = omega arith in
+      ap (λ (k : ℕ). eqb (k / 2 ^ n % 2) 1) raised
+      ∙ ap (λ (k : ℕ). eqb (k % 2) 1) (high 1 n {lo = 2 ^ n - (y - x)} (omega arith))
+      ∙ sym (ap (λ (z : ℤ). not (nonNeg z)) (minus-neg x y (omega arith)))
+]
 
 -- the plain value, less 2 ^ n where the top of the n slices has the row
 pub signed-less : (ps : List (ℕ → Bool)) (r : ℕ)

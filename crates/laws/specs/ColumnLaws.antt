@@ -1,6 +1,6 @@
 -- What holds of new indexes and of columns, for a reader to find in one place. `NewIndexHolds` and `NewIndexRoomHolds` are proved in
 -- `proofs/NewIndexes`, `StrayLaws` in `StraysFound`, `DigitLaws` and `SignLaws` in `ColumnDigits`, `OrderLaws` in `ColumnOrder`,
--- `PairsHold` in `ColumnsHold`.
+-- `PairsHold` and `PartsHold` in `ColumnsHold`.
 -- Assumes nothing.
 use Prim.Native.Nat.{ℕ, suc, _+_, _-_, _*_, _%_, _^_, _≤_, _<_, min}
 use mathlib.Core.Bool.{Bool, true, false, not, _&&_, _||_}
@@ -10,7 +10,7 @@ use mathlib.Core.List.{List, [], _∷_}
 use lib.Dec.{leb}
 use lib.ListN.{length, getD}
 use lib.IntN.{ℤ, pos, negsuc, natAbs, _+ℤ_, _-ℤ_}
-use lib.Signed.{mag}
+use lib.Signed.{mag, nonNeg}
 use Rattle.meaning.specs.Limits.{mostRows, mostBitmaps, mostIndexWords, mostColumn, mostValueColumn}
 use Rattle.meaning.specs.Rows.{bit, none}
 use Rattle.meaning.specs.Refusal.{Outcome, refused, answer, sound, refuseIf}
@@ -107,9 +107,6 @@ pub record SignLaws : Type 0 where
   -- the difference of two values of up to 32 slices is from - (2 ^ 32 - 1) to 2 ^ 32 - 1: `natAbs` is k both of k and of - k
   pub difference-most : (index first second : List ℕ) (r : ℕ) → length first ≤ mostColumn → length second ≤ mostColumn
       → (z : ℤ) → z +ℤ pos (valueAt index second r) ≡ pos (valueAt index first r) → natAbs z < 2 ^ (mostSumSlices - 1)
-  -- the difference or zero is the difference where that is not negative, and 0 elsewhere; with the smaller it makes the first
-  pub or-zero : (x y : ℕ) → x - y ≡ orZero (pos x -ℤ pos y)
-  pub parts : (x y : ℕ) → min x y + (x - y) ≡ x
 
 -- ---- refusal 11
 
@@ -158,10 +155,9 @@ pub record ValueOrder {A : Type 0} (index list : List ℕ) (r : ℕ) (told : Out
   pub stray : GoodValue index list r → (i s : ℕ) → FirstStray index list i s → told ≡ refused 11 (getD list (suc i) 0) s
   pub answered : GoodValue index list r → strays index list ≡ sound → told ≡ answer v
 
--- the index that an operation makes of two columns
-abbrev pub pairIndex : (op : Pairing) (index first second : List ℕ) → List ℕ
-pairIndex op index first second =
-    indexOf (formatOf index) (rowCount index) (pairColumn index op (pairWidth op first second) first second)
+-- the index that an operation makes of two columns, with n slices
+abbrev pub pairIndex : (op : Pairing) (index first second : List ℕ) (n : ℕ) → List ℕ
+pairIndex op index first second n = indexOf (formatOf index) (rowCount index) (pairColumn index op n first second)
 
 -- of two columns: the index's own faults; on a sound index a bad list, whatever strays; a stray, in the first column before the
 -- second, and whatever the room; 9 with the words needed, if there is less room or an index may not have so many; and else the
@@ -178,11 +174,11 @@ pub record PairOrder (op : Pairing) (index first second : List ℕ) (room : ℕ)
   pub stray-second : GoodPair index first second → strays index first ≡ sound
       → (i r : ℕ) → FirstStray index second i r → pair index op first second room ≡ refused 11 (getD second (suc i) 0) r
   pub no-room : GoodPair index first second → strays index first ≡ sound → strays index second ≡ sound
-      → indexRoom room < length (pairIndex op index first second)
-      → pair index op first second room ≡ refused 9 0 (length (pairIndex op index first second))
+      → indexRoom room < length (pairIndex op index first second (pairWidth op first second))
+      → pair index op first second room ≡ refused 9 0 (length (pairIndex op index first second (pairWidth op first second)))
   pub answered : GoodPair index first second → strays index first ≡ sound → strays index second ≡ sound
-      → length (pairIndex op index first second) ≤ indexRoom room
-      → pair index op first second room ≡ answer (pairIndex op index first second)
+      → length (pairIndex op index first second (pairWidth op first second)) ≤ indexRoom room
+      → pair index op first second room ≡ answer (pairIndex op index first second (pairWidth op first second))
 
 -- for every index, list, row, operation and room
 pub record OrderLaws : Type 0 where
@@ -202,7 +198,7 @@ module _ (index first second : List ℕ) where
   toldAt v r = refuseIf (leb (rowCount index) r || not (inBoth r)) 8 0 0 (answer (v r))
 
   -- it is sound, has the same format and as many rows, and n + 1 bitmaps in canonical form; a row exists in it if it does in both;
-  -- no slice has any other row, so 11 is never given
+  -- no slice has any other row, so 11 is given of no list of its bitmaps that begins with its existence
   pub record ColumnIn (n : ℕ) (out : List ℕ) : Type 0 where
     pub is-sound : SoundIndex out
     pub format : formatOf out ≡ formatOf index
@@ -210,7 +206,7 @@ module _ (index first second : List ℕ) where
     pub count : bitmapCount out ≡ suc n
     pub forms : (k : ℕ) → k ≤ n → Canonical (formatOf index) (rowCount index) (bodyAt out k)
     pub exists : (r : ℕ) → r < rowCount index → rowsAt out 0 r ≡ inBoth r
-    pub no-strays : strays out (whole n) ≡ sound
+    pub no-strays : (ks : List ℕ) → ((i : ℕ) → i < length ks → getD ks i 0 ≤ n) → strays out (0 ∷ ks) ≡ sound
 
   -- its values are v
   pub record ColumnOf (n : ℕ) (v : ℕ → ℕ) (out : List ℕ) : Type 0 where
@@ -218,9 +214,10 @@ module _ (index first second : List ℕ) where
     pub slices : (i r : ℕ) → i < n → r < rowCount index → rowsAt out (suc i) r ≡ slice inBoth v i r
     pub values : (r : ℕ) → value out (whole n) r ≡ toldAt v r
 
-  -- it is a signed column, whose values are z
+  -- it is a signed column, whose values are z; its top slice has just the rows that exist and whose value is negative
   pub record SignedColumnOf (n : ℕ) (z : ℕ → ℤ) (out : List ℕ) : Type 0 where
     pub column : ColumnIn n out
+    pub sign : (r : ℕ) → r < rowCount index → rowsAt out n r ≡ inBoth r && not (nonNeg (z r))
     pub values : (r : ℕ) → signedValue out (whole n) r ≡ toldAt z r
 
   -- row r of the signed difference `out`, asked by the public calls: added to the second column's value it gives the first's back
@@ -251,3 +248,22 @@ pub record PairLaws (index first second : List ℕ) (room : ℕ) (out : List ℕ
 
 abbrev pub PairsHold : Type 0
 PairsHold = (index first second : List ℕ) (room : ℕ) (out : List ℕ) → PairLaws index first second room out
+
+-- row r of the signed difference d, of the difference or zero o and of the smaller m, asked by the public calls: the second is the
+-- first where that is not negative, and 0 elsewhere; with the third it makes the first column's value
+pub record Parted (index first second d o m : List ℕ) (r : ℕ) : Type 0 where
+  pub x : ℕ
+  pub y : ℕ
+  pub z : ℤ
+  pub first-is : value index first r ≡ answer x
+  pub second-is : value index second r ≡ answer y
+  pub difference-is : signedValue d (whole (suc (wider first second))) r ≡ answer z
+  pub zero-is : value o (whole (wider first second)) r ≡ answer (orZero z)
+  pub smaller-is : value m (whole (wider first second)) r ≡ answer (min x y)
+  pub parts : min x y + orZero z ≡ x
+
+abbrev pub PartsHold : Type 0
+PartsHold =
+    (index first second : List ℕ) (room : ℕ) (d o m : List ℕ) → signedDifference index first second room ≡ answer d
+    → differenceOrZero index first second room ≡ answer o → smaller index first second room ≡ answer m
+    → (r : ℕ) → r < rowCount index → inBoth index first second r ≡ true → Parted index first second d o m r

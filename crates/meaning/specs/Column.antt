@@ -52,8 +52,8 @@ whole n = tabulate (suc n) (λ i. i)
 -- ---- two columns
 
 -- what is made of two values, x and y, of a row, as a number whose n lowest digits are the answer's slices: the sum; the difference
--- in two's complement, for which 2 ^ n more is no other answer, so that nothing below 0 comes up; the smaller; the difference, or 0
--- where that is negative, which is what ℕ's own difference is (EXCEPT ALL of source document 002)
+-- in two's complement, which is modulo 2 ^ n, so that 2 ^ n can be added first, and ℕ's own difference cuts nothing off, as y is
+-- below 2 ^ n; the smaller; the difference, or 0 where that is negative, which is what ℕ's own is (EXCEPT ALL of source document 002)
 unfoldable pub pairValue : Pairing → (n x y : ℕ) → ℕ
 pairValue Sum n x y = x + y
 pairValue Difference n x y = x + 2 ^ n - y

@@ -272,7 +272,7 @@ sumReadings =
 -- signed values
 unfoldable pub signedReadings : List ColumnReading
 signedReadings =
-    -- one slice, which is the sign: 0 and - 1; two slices: 1, - 2 and - 1; the same slices with the sign first in the list
+    -- one slice, which is the sign: 0 and - 1; two slices: 1, - 2 and - 1; the same slices the other way round
     givesSigned threeRows (two 0 1) 1 (pos 0)
     ∷ givesSigned threeRows (two 0 1) 0 (negsuc 0)
     ∷ givesSigned threeRows (triple 0 1 2) 0 (pos 1)
@@ -285,14 +285,23 @@ signedReadings =
     ∷ givesSigned threeRows (replicate 34 0) 1 (negsuc 0)
     ∷ givesSigned threeRows ((0 ∷ replicate 32 5) ++ 0 ∷ []) 1 (negsuc 4294967295)
     ∷ givesSigned threeRows (replicate 33 0 ++ 5 ∷ []) 1 (pos 4294967295)
-    -- 32 slices: as many, and half as large
+    -- 32 slices, the sign alone: - 2 ^ 31
     ∷ givesSigned threeRows ((0 ∷ replicate 31 5) ++ 0 ∷ []) 1 (negsuc 2147483647)
+    -- the sign's bitmap is the lowest slice too: 1 - 4, 2, and 1 + 2 - 4
+    ∷ givesSigned threeRows (0 ∷ triple 1 2 1) 0 (negsuc 2)
+    ∷ givesSigned threeRows (0 ∷ triple 1 2 1) 1 (pos 2)
+    ∷ givesSigned threeRows (0 ∷ triple 1 2 1) 2 (negsuc 0)
+    -- the second segment; a sign that is a run of ones over pad bits
+    ∷ givesSigned fortyRows (triple 0 2 1) 39 (negsuc 1)
+    ∷ givesSigned tailRows (two 0 1) 39 (negsuc 0)
     -- 8: the list is too short, too long, or names a bitmap that is not there; no such row, or it does not exist
     ∷ deniesSigned threeRows (0 ∷ []) 0 8 0 0
     ∷ deniesSigned threeRows (replicate 35 0) 0 8 0 0
     ∷ deniesSigned threeRows (two 0 6) 0 8 0 0
+    ∷ deniesSigned threeRows (two 6 0) 0 8 0 0
     ∷ deniesSigned threeRows (triple 0 1 2) 3 8 0 0
     ∷ deniesSigned threeRows (two 3 4) 1 8 0 0
+    ∷ deniesSigned noRows (two 0 1) 0 8 0 0
     -- 11 behind it, of the sign too; and the index's own faults before it
     ∷ deniesSigned threeRows (triple 3 4 2) 2 11 2 1
     ∷ deniesSigned threeRows (two 3 2) 1 8 0 0
@@ -317,6 +326,13 @@ differenceReadings =
     ∷ 0x00020000 ∷ 0x5 ∷ 0x00000002 ∷ 0x00020000 ∷ 0x4 ∷ 0x00020000 ∷ 0x4 ∷ [])
     ∷ combines Difference threeWah (two 3 4) (triple 0 1 2)
     (2 ∷ 3 ∷ 4 ∷ 11 ∷ 1 ∷ 12 ∷ 1 ∷ 13 ∷ 1 ∷ 14 ∷ 1 ∷ 0x5 ∷ 0 ∷ 0x4 ∷ 0x4 ∷ [])
+    -- 1 - 1, 2 - 1 and 3 - 1: nothing is negative, and in row 1 the lowest digit borrows
+    ∷ combines Difference threeRows (triple 0 1 2) (two 0 0)
+    (1 ∷ 3 ∷ 4 ∷ 11 ∷ 1 ∷ 12 ∷ 2 ∷ 14 ∷ 2 ∷ 16 ∷ 1
+    ∷ 0x00000003 ∷ 0x00020000 ∷ 0x2 ∷ 0x00020000 ∷ 0x4 ∷ 0x00000002 ∷ [])
+    -- at a row that one column alone has there is no difference
+    ∷ deniesSigned (1 ∷ 3 ∷ 4 ∷ 11 ∷ 2 ∷ 13 ∷ 1 ∷ 14 ∷ 2 ∷ 16 ∷ 2
+    ∷ 0x00020000 ∷ 0x5 ∷ 0x00000002 ∷ 0x00020000 ∷ 0x4 ∷ 0x00020000 ∷ 0x4 ∷ []) (whole 3) 1 8 0 0
     -- a column and itself: 0 throughout
     ∷ combines Difference threeRows (triple 0 1 2) (triple 0 1 2)
     (1 ∷ 3 ∷ 4 ∷ 11 ∷ 1 ∷ 12 ∷ 1 ∷ 13 ∷ 1 ∷ 14 ∷ 1 ∷ 0x00000003 ∷ 0x00000002 ∷ 0x00000002 ∷ 0x00000002 ∷ [])
@@ -365,6 +381,8 @@ smallerReadings =
     (2 ∷ 3 ∷ 3 ∷ 9 ∷ 1 ∷ 10 ∷ 1 ∷ 11 ∷ 1 ∷ 0x5 ∷ 0x5 ∷ 0 ∷ [])
     ∷ combines DifferenceOrZero threeWah (triple 0 1 2) (two 3 4)
     (2 ∷ 3 ∷ 3 ∷ 9 ∷ 1 ∷ 10 ∷ 1 ∷ 11 ∷ 1 ∷ 0x5 ∷ 0 ∷ 0x4 ∷ [])
+    ∷ combines DifferenceOrZero threeRows (triple 0 1 2) (two 0 0)
+    (1 ∷ 3 ∷ 3 ∷ 9 ∷ 1 ∷ 10 ∷ 2 ∷ 12 ∷ 2 ∷ 0x00000003 ∷ 0x00020000 ∷ 0x2 ∷ 0x00020000 ∷ 0x4 ∷ [])
     -- as values, asked by all their numbers
     ∷ leadsTo Smaller threeRows (triple 0 1 2) (two 3 4) 14 (whole 2) 2 1
     ∷ leadsTo DifferenceOrZero threeRows (triple 0 1 2) (two 3 4) 14 (whole 2) 2 2
@@ -378,8 +396,11 @@ smallerReadings =
     (1 ∷ 40 ∷ 2 ∷ 7 ∷ 1 ∷ 8 ∷ 2 ∷ 0x00000005 ∷ 0x00020003 ∷ 0x0000007F ∷ [])
     ∷ combines DifferenceOrZero tailRows (two 1 1) (two 1 2)
     (1 ∷ 40 ∷ 2 ∷ 7 ∷ 1 ∷ 8 ∷ 2 ∷ 0x00000005 ∷ 0x00020002 ∷ 0x00000080 ∷ [])
-    -- no rows
+    -- no row exists in both; no rows
+    ∷ combines Smaller threeRows (two 5 5) (two 0 1) (1 ∷ 3 ∷ 2 ∷ 7 ∷ 1 ∷ 8 ∷ 1 ∷ 0x00000002 ∷ 0x00000002 ∷ [])
+    ∷ combines DifferenceOrZero threeRows (two 0 1) (two 5 5) (1 ∷ 3 ∷ 2 ∷ 7 ∷ 1 ∷ 8 ∷ 1 ∷ 0x00000002 ∷ 0x00000002 ∷ [])
     ∷ combines Smaller noRows (two 0 1) (two 1 0) (1 ∷ 0 ∷ 2 ∷ 7 ∷ 0 ∷ 7 ∷ 0 ∷ [])
+    ∷ combines DifferenceOrZero noRows (two 0 1) (two 1 0) (1 ∷ 0 ∷ 2 ∷ 7 ∷ 0 ∷ 7 ∷ 0 ∷ [])
     -- 32 slices, in 3 + 66 + 33 words
     ∷ leadsTo Smaller threeRows (replicate 33 0) (replicate 33 0) 102 (whole 32) 2 4294967295
     ∷ leadsTo DifferenceOrZero threeRows (replicate 33 0) (two 0 0) 102 (whole 32) 2 4294967294
@@ -388,8 +409,12 @@ smallerReadings =
     -- refused as a sum is
     ∷ declines Smaller threeRows (replicate 34 0) (two 0 1) 99 8 0 0
     ∷ declines DifferenceOrZero threeRows (two 0 1) (replicate 34 0) 99 8 0 0
+    ∷ declines Smaller threeRows (two 3 2) (two 3 6) 99 8 0 0
+    ∷ declines DifferenceOrZero threeRows (0 ∷ []) (two 3 2) 99 8 0 0
     ∷ declines Smaller threeRows (two 3 0) (two 3 2) 99 11 0 1
     ∷ declines DifferenceOrZero threeRows (two 0 1) (two 3 2) 0 11 2 1
+    ∷ declines Smaller (3 ∷ 3 ∷ 0 ∷ []) [] [] 0 2 0 0
+    ∷ declines DifferenceOrZero (3 ∷ 3 ∷ 0 ∷ []) [] [] 0 2 0 0
     ∷ []
 
 -- all of them

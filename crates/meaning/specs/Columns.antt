@@ -123,13 +123,18 @@ module _ (index : List ℕ) where
       columnOf (intersection (existing first) (existing second))
       (λ r. pairValue op n (valueAt first r) (valueAt second r)) n
 
+  -- as a new index, or 9
+  unfoldable pub writePair : (op : Pairing) (first second : List ℕ) (room : ℕ) → Outcome (List ℕ)
+  unfolding writeIndex rowCount pairColumn pairWidth
+  writePair op first second room =
+      writeIndex (formatOf index) (rowCount index) (pairColumn op (pairWidth op first second) first second) room
+
   -- what is left once the index is sound
   unfoldable pub askPair : (op : Pairing) (first second : List ℕ) (room : ℕ) → Outcome (List ℕ)
-  unfolding _then_ refuseIf badColumn strays writeIndex rowCount pairColumn pairWidth
+  unfolding _then_ refuseIf badColumn strays writePair
   askPair op first second room =
       refuseIf (badColumn mostColumn first || badColumn mostColumn second) 8 0 0
-      (strays first then strays second then
-      writeIndex (formatOf index) (rowCount index) (pairColumn op (pairWidth op first second) first second) room)
+      (strays first then strays second then writePair op first second room)
 
   unfoldable pub pair : (op : Pairing) (first second : List ℕ) (room : ℕ) → Outcome (List ℕ)
   unfolding check _then_ askPair

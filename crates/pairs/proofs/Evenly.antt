@@ -1,4 +1,4 @@
--- Segments within clean runs of all places: the words of the sum are clean there too.
+-- Segments within clean runs of all places: the words of the answer are clean there too.
 -- Assumes nothing.
 use Prim.Native.Nat.{ℕ, zero, suc, _+_, _-_, _*_, _^_, _≤_, _<_}
 use mathlib.Core.Bool.{Bool, true, false, _&&_}

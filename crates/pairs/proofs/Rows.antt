@@ -1,4 +1,4 @@
--- The rows of a block: the words that were gathered and added are the segments of the answer's bodies.
+-- The rows of a block: what an operation made of the words that were gathered are the segments of the answer's bodies.
 -- Assumes nothing.
 use Prim.Native.Nat.{ℕ, zero, suc, _+_, _*_, _/_, _%_, _^_, _≤_, _<_}
 use mathlib.Core.Bool.{Bool, true, false, cond, _&&_}

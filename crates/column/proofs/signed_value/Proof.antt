@@ -1,4 +1,5 @@
--- `column::signed_value` meets its contract. The invariant: v is the signed value of the slices from place i on.
+-- `column::signed_value` meets its contract. The invariant: v is the signed value of the slices from
+-- `place` on.
 -- Assumes nothing.
 use Prim.Native.Nat.{ℕ, _+_, _-_, _≤_, _<_, _^_}
 use mathlib.Core.Path.{_≡_, sym, ap, ap₂, _∙_, subst}
@@ -10,7 +11,7 @@ use lib.Signed.{mag}
 use mir.Syntax.{w64}
 use mir.Val.{SFits, ofZ, toZ}
 use mir.ValLaws.{toZ-ofZ}
-use Rattle.column.proofs.Columns.{signedFrom, signed-top, signed-more, signed-all, signed-few, doubled-fits, few-fits, digit-back}
+use Rattle.column.proofs.Columns.{signedFrom, signed-top, signed-more, signed-all, signed-few, doubled-fits, few-fits, digit-fits, digit-signed}
 use borrow.Author.Needs.{needs}
 use native.Mathlib.Omega.{arith}
 use Rattle.column.proofs.signed_value.Statement.{statement}
@@ -24,7 +25,7 @@ abbrev μ-loop : tie.MeasureT-loop
 μ-loop index list row format place₀ sign v₀ place v = place
 
 -- ---- where the sign is read
-module _ (k : tie.After-signed-digit Inv-loop μ-loop) where
+module _ (k : tie.After-digit Inv-loop μ-loop) where
   abbrev call : tie.Start Inv-loop μ-loop
   call = k .before .before .before .before .before
 
@@ -47,14 +48,14 @@ module _ (k : tie.After-signed-digit Inv-loop μ-loop) where
   few : (i : ℕ) → 1 ≤ i → i < length list → mag (signedFrom index list row i) < 2 ^ 32
   few i g h = signed-few index list row i g h (call .pre .1 .1)
 
-  sign-is : pos 0 -ℤ toZ w64 (ofZ w64 (k .signed-digit .result)) ≡ signedFrom index list row top
+  sign-is : pos 0 -ℤ toZ w64 (k .digit .result) ≡ signedFrom index list row top
   sign-is =
-      ap (λ (z : ℤ). pos 0 -ℤ z) (digit-back (k .signed-digit .result) _ (k .signed-digit .ensures))
-      ∙ signed-top index list row top (k .signed-digit .result) (omega (arith, long)) (k .signed-digit .ensures)
+      ap (λ (z : ℤ). pos 0 -ℤ z) (digit-signed (k .digit .result) _ (k .digit .ensures))
+      ∙ signed-top index list row top (k .digit .result) (omega (arith, long)) (k .digit .ensures)
 
 -- ---- where a digit is read
-module _ (k : tie.After-signed-digit2 Inv-loop μ-loop) where
-  abbrev sign : tie.After-signed-digit Inv-loop μ-loop
+module _ (k : tie.After-digit2 Inv-loop μ-loop) where
+  abbrev sign : tie.After-digit Inv-loop μ-loop
   sign = k .before .before .before .before
 
   abbrev i : ℕ
@@ -74,15 +75,15 @@ module _ (k : tie.After-signed-digit2 Inv-loop μ-loop) where
       subst (λ (z : ℤ). SFits w64 (pos 2 *ℤ z)) (sym v-is)
       (doubled-fits (signedFrom (index sign) (list sign) (row sign) i) (few sign i (omega (arith, inside .0)) (inside .1)))
 
-  next-is : toZ w64 (ofZ w64 (k .signed-digit2 .result)) +ℤ toZ w64 (ofZ w64 (pos 2 *ℤ v))
+  next-is : toZ w64 (k .digit2 .result) +ℤ toZ w64 (ofZ w64 (pos 2 *ℤ v))
       ≡ signedFrom (index sign) (list sign) (row sign) (i - 1)
   next-is =
       let e : i ≡ i - 1 + 1 = omega (arith, inside .0) in
-      ap₂ (λ (a b : ℤ). a +ℤ b) (digit-back (k .signed-digit2 .result) _ (k .signed-digit2 .ensures))
+      ap₂ (λ (a b : ℤ). a +ℤ b) (digit-signed (k .digit2 .result) _ (k .digit2 .ensures))
       (toZ-ofZ w64 (pos 2 *ℤ v) doubled)
-      ∙ signed-more (index sign) (list sign) (row sign) (i - 1) v (k .signed-digit2 .result)
+      ∙ signed-more (index sign) (list sign) (row sign) (i - 1) (k .digit2 .result) v
       (omega (arith, inside .0, inside .1))
-      (v-is ∙ ap (signedFrom (index sign) (list sign) (row sign)) e) (k .signed-digit2 .ensures)
+      (v-is ∙ ap (signedFrom (index sign) (list sign) (row sign)) e) (k .digit2 .ensures)
 
 format-requires : tie.Need-format-requires Inv-loop μ-loop
 format-requires c κs = search needs
@@ -90,16 +91,19 @@ format-requires c κs = search needs
 sub-place : tie.Need-sub-place Inv-loop μ-loop
 sub-place c = search needs
 
-mul-signed-digit : tie.Need-mul-signed-digit Inv-loop μ-loop
-mul-signed-digit c = search needs
+mul-digit : tie.Need-mul-digit Inv-loop μ-loop
+mul-digit c = search needs
 
-shared-slice-read-signed-digit : tie.Need-shared-slice-read-signed-digit Inv-loop μ-loop
-shared-slice-read-signed-digit c = search needs
+shared-slice-read-digit : tie.Need-shared-slice-read-digit Inv-loop μ-loop
+shared-slice-read-digit c = search needs
 
-signed-digit-requires : tie.Need-signed-digit-requires Inv-loop μ-loop
-signed-digit-requires c κs =
+digit-requires : tie.Need-digit-requires Inv-loop μ-loop
+digit-requires c κs =
     let p = c .before .before .before .before .pre in
     (p .0, (c .before .format .ensures, p .1 .2 _ (omega (arith, p .1 .0)), p .1 .3))
+
+cast-sign : tie.Need-cast-sign Inv-loop μ-loop
+cast-sign c = digit-fits (c .digit .result) _ (c .digit .ensures)
 
 sub-v : tie.Need-sub-v Inv-loop μ-loop
 sub-v c =
@@ -112,18 +116,21 @@ loop-holds c = (omega (arith, long c), omega (arith, long c), toZ-ofZ w64 _ (sub
 sub-place-2 : tie.Need-sub-place-2 Inv-loop μ-loop
 sub-place-2 c = search needs
 
-mul-signed-digit-2 : tie.Need-mul-signed-digit-2 Inv-loop μ-loop
-mul-signed-digit-2 c = search needs
+mul-digit-2 : tie.Need-mul-digit-2 Inv-loop μ-loop
+mul-digit-2 c = search needs
 
-shared-slice-read-signed-digit-2 : tie.Need-shared-slice-read-signed-digit-2 Inv-loop μ-loop
-shared-slice-read-signed-digit-2 c = search needs
+shared-slice-read-digit-2 : tie.Need-shared-slice-read-digit-2 Inv-loop μ-loop
+shared-slice-read-digit-2 c = search needs
 
-signed-digit-requires-2 : tie.Need-signed-digit-requires-2 Inv-loop μ-loop
-signed-digit-requires-2 c κs =
+digit-requires-2 : tie.Need-digit-requires-2 Inv-loop μ-loop
+digit-requires-2 c κs =
     let f = c .before .before .before .before .before in
     let p = f .before .before .before .pre in
     let l = c .before .before .loop in
     (p .0, (f .format .ensures, p .1 .2 (l .place - 1) (omega (arith, l .inv .1)), p .1 .3))
+
+cast-v : tie.Need-cast-v Inv-loop μ-loop
+cast-v c = digit-fits (c .digit2 .result) _ (c .digit2 .ensures)
 
 mul-v : tie.Need-mul-v Inv-loop μ-loop
 mul-v c = doubled c
@@ -155,15 +162,17 @@ signed-value-spec =
     μ-loop
     format-requires
     sub-place
-    mul-signed-digit
-    shared-slice-read-signed-digit
-    signed-digit-requires
+    mul-digit
+    shared-slice-read-digit
+    digit-requires
+    cast-sign
     sub-v
     loop-holds
     sub-place-2
-    mul-signed-digit-2
-    shared-slice-read-signed-digit-2
-    signed-digit-requires-2
+    mul-digit-2
+    shared-slice-read-digit-2
+    digit-requires-2
+    cast-v
     mul-v
     add-v
     loop-less

@@ -1,8 +1,8 @@
 -- `adder::choose::difference_or_zero` meets its contract. The invariant: the i lowest rows of digits are masked, and the others
 -- are still those of the difference.
 -- Assumes nothing.
-use Prim.Native.Nat.{ℕ, _+_, _-_, _*_, _≤_, _<_}
-use mathlib.Core.Path.{_≡_, refl, sym, _∙_}
+use Prim.Native.Nat.{ℕ, _+_, _-_, _*_, _≤_}
+use mathlib.Core.Path.{_≡_, refl, _∙_}
 use lib.ListN.{getD}
 use Rattle.meaning.specs.Limits.{blockSegments}
 use Rattle.meaning.specs.Column.{pairValue}

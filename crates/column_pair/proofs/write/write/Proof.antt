@@ -15,7 +15,7 @@ use Rattle.laws.proofs.NewIndexes.{room-within}
 use Rattle.new_index.specs.Layouts.{StartsOf, Headed}
 use Rattle.new_index.specs.Writers.{writerOf, Laid}
 use Rattle.pairs.specs.Passes.{Columns, bodyOf}
-use Rattle.column_pair.specs.Written.{pairedIndex}
+use Rattle.laws.specs.ColumnLaws.{pairIndex}
 use Rattle.pairs.proofs.Rows.{zeros}
 use Rattle.column_pair.proofs.Laying.{nowhere-laid, nothing-kept, none-stored, headed-as, body-low, need-is, laid, contents-fit, exact, written}
 use Rattle.column_pair.proofs.write.write.Statement.{statement}
@@ -63,7 +63,7 @@ module _ (s : tie.After-starts) where
   same : s .before .before .before .before .before .pass .last .1 .1 .1 .1 .1 .0 ≡ old
   same = nothing-kept (replicate mostStarts 0) old _ (n + 1) (zeros mostStarts) (s .before .before .before .before .before .pass .ensures .back)
 
-  need : getD starts (n + 1) 0 ≡ length (pairedIndex op index first second n)
+  need : getD starts (n + 1) 0 ≡ length (pairIndex op index first second n)
   need = need-is op index first second n cs ws starts used st
 
   in-order : (room : ℕ) → getD starts (n + 1) 0 ≤ room → Laid starts (n + 1) room

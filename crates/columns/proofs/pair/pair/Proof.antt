@@ -8,11 +8,11 @@ use denote.Ref.{now}
 use lib.ListN.{length}
 use Rattle.meaning.specs.Limits.{mostColumn}
 use Rattle.meaning.specs.Refusal.{Outcome, _then_}
-use Rattle.meaning.specs.Columns.{badColumn, strays}
+use Rattle.meaning.specs.Columns.{badColumn, strays, writePair}
 use Rattle.answers.specs.Told.{Wrote}
 use Rattle.answers.proofs.Checks.{refuses}
 use Rattle.answers.proofs.Tells.{wrote-refused, wrote-then}
-use Rattle.columns.proofs.Asking.{good-column, writing, pair-bad-first, pair-bad-second, pair-rest}
+use Rattle.columns.proofs.Asking.{good-column, pair-bad-first, pair-bad-second, pair-rest}
 use native.Mathlib.Omega.{arith}
 use borrow.Author.Needs.{needs}
 use Rattle.columns.proofs.pair.pair.Statement.{statement}
@@ -68,7 +68,7 @@ returns-3 c =
     let k = c .before .before .before in
     let a = k .before .before .before .before .before .before .before .before .before .args in
     wrote-refused (now (a .out)) _ _
-    (refuses (k .strays .result) _ (k .strays .ensures) (strays (now (a .index)) (now (a .second)) then writing (a .op) (now (a .index)) (now (a .first)) (now (a .second)) (length (now (a .out)))) _ (c .before .checked .given .1)
+    (refuses (k .strays .result) _ (k .strays .ensures) (strays (now (a .index)) (now (a .second)) then writePair (now (a .index)) (a .op) (now (a .first)) (now (a .second)) (length (now (a .out)))) _ (c .before .checked .given .1)
     ∙ pair-rest (a .op) (now (a .index)) (now (a .first)) (now (a .second)) (now (a .out)) (good-first (k .before .before .before)) (good-second (k .before)))
 
 same-length : tie.Need-same-length
@@ -82,7 +82,7 @@ returns-4 c =
     let a = k .before .before .before .before .before .before .before .before .before .args in
     subst (λ (o : Outcome (List ℕ)). Wrote o (w .pair-second .result) (now (a .out)) (w .pair-second .last .1 .1 .1 .1 .0))
     (pair-rest (a .op) (now (a .index)) (now (a .first)) (now (a .second)) (now (a .out)) (good-first (k .before .before .before)) (good-second (k .before)))
-    (wrote-then (k .strays .result) _ (strays (now (a .index)) (now (a .second)) then writing (a .op) (now (a .index)) (now (a .first)) (now (a .second)) (length (now (a .out)))) (w .pair-second .result) (now (a .out)) (w .pair-second .last .1 .1 .1 .1 .0) (k .strays .ensures) (t .enum-told .given .1) (w .pair-second .ensures))
+    (wrote-then (k .strays .result) _ (strays (now (a .index)) (now (a .second)) then writePair (now (a .index)) (a .op) (now (a .first)) (now (a .second)) (length (now (a .out)))) (w .pair-second .result) (now (a .out)) (w .pair-second .last .1 .1 .1 .1 .0) (k .strays .ensures) (t .enum-told .given .1) (w .pair-second .ensures))
 
 pub pair-spec : {M : Type 1} → statement M
 pair-spec =

@@ -2,9 +2,10 @@
 -- Assumes nothing.
 use denote.Ref.{now}
 use lib.ListN.{length}
+use Rattle.meaning.specs.Columns.{writePair}
 use Rattle.answers.proofs.Checks.{refuses}
 use Rattle.answers.proofs.Tells.{wrote-refused, wrote-then}
-use Rattle.columns.proofs.Asking.{good-column, writing}
+use Rattle.columns.proofs.Asking.{good-column}
 use native.Mathlib.Omega.{arith}
 use borrow.Author.Needs.{needs}
 use Rattle.columns.proofs.pair.pair_second.Statement.{statement}
@@ -29,7 +30,7 @@ returns : tie.Need-returns
 returns c =
     let k = c .before .before .before in
     let a = k .before .before .before .before .before .args in
-    wrote-refused (now (a .out)) _ _ (refuses (k .strays .result) _ (k .strays .ensures) (writing (a .op) (now (a .index)) (now (a .first)) (now (a .second)) (length (now (a .out)))) _ (c .before .checked .given .1))
+    wrote-refused (now (a .out)) _ _ (refuses (k .strays .result) _ (k .strays .ensures) (writePair (now (a .index)) (a .op) (now (a .first)) (now (a .second)) (length (now (a .out)))) _ (c .before .checked .given .1))
 
 same-length : tie.Need-same-length
 same-length c = search needs
@@ -40,7 +41,7 @@ returns-2 c =
     let t = w .before .before in
     let k = t .before .before in
     let a = k .before .before .before .before .before .args in
-    wrote-then (k .strays .result) _ (writing (a .op) (now (a .index)) (now (a .first)) (now (a .second)) (length (now (a .out)))) (w .write-pair .result) (now (a .out)) (w .write-pair .last .1 .1 .1 .1 .0) (k .strays .ensures) (t .enum-told .given .1) (w .write-pair .ensures)
+    wrote-then (k .strays .result) _ (writePair (now (a .index)) (a .op) (now (a .first)) (now (a .second)) (length (now (a .out)))) (w .write-pair .result) (now (a .out)) (w .write-pair .last .1 .1 .1 .1 .0) (k .strays .ensures) (t .enum-told .given .1) (w .write-pair .ensures)
 
 pub pair-second-spec : {M : Type 1} → statement M
 pair-second-spec =

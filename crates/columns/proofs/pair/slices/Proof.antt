@@ -1,7 +1,6 @@
 -- `columns::pair::slices` meets its contract.
 -- Assumes nothing.
-use Prim.Native.Nat.{ℕ}
-use mathlib.Core.Path.{_≡_, refl}
+use mathlib.Core.Path.{refl}
 use denote.Ref.{now}
 use native.Mathlib.Numerals.{add-one}
 use Rattle.meaning.specs.Column.{pairSlices}

@@ -1,6 +1,5 @@
 -- `columns::pair::write_pair` meets its contract.
 -- Assumes nothing.
-use Prim.Native.Nat.{_+_}
 use mathlib.Core.Path.{ap}
 use denote.Ref.{now}
 use Rattle.meaning.specs.NewIndex.{indexRoom}

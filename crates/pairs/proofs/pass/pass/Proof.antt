@@ -144,13 +144,13 @@ mask-is k =
     k .mask-before .ensures (F (a w)) (R (a w)) (full-is (a w)) (last-is (a w)) (total (a w))
     (omega (arith, ch w .some)) (omega (arith, ch w .within, total (a w)))
 
--- ---- where both columns are gathered and added, and the block is spelled
+-- ---- where both columns are gathered and paired, and the block is spelled
 module _ (s : tie.After-spell Inv-loop μ-loop) where
-  abbrev added : tie.After-pair Inv-loop μ-loop
-  added = s .before .before
+  abbrev paired : tie.After-pair Inv-loop μ-loop
+  paired = s .before .before
 
   abbrev second-taken : tie.After-gather2 Inv-loop μ-loop
-  second-taken = added .before .before .before .before .before
+  second-taken = paired .before .before .before .before .before
 
   abbrev first-taken : tie.After-gather Inv-loop μ-loop
   first-taken = second-taken .before .before .before .before
@@ -171,7 +171,7 @@ module _ (s : tie.After-spell Inv-loop μ-loop) where
   y = second-taken .gather2 .last .1 .1 .1 .1 .1 .1 .0
 
   abbrev z : List ℕ
-  z = added .pair .last .1 .1 .1 .0
+  z = paired .pair .last .1 .1 .1 .0
 
   abbrev z′ : List ℕ
   z′ = s .spell .last .0
@@ -182,8 +182,8 @@ module _ (s : tie.After-spell Inv-loop μ-loop) where
   blocks2 : BlockOf (index (read h)) (second h) (o h) (m chosen) (even chosen) y
   blocks2 = block-of (g h .second-walking) (second-taken .gather2 .ensures) (h .before .loop .inv .3)
 
-  sums : Paired (pairValue (call (read h) .args .op)) x y (n h) z
-  sums = added .pair .ensures
+  made : Paired (pairValue (call (read h) .args .op)) x y (n h) z
+  made = paired .pair .ensures
 
   spelled : Spelled (F (read h)) (R (read h)) (o h) (m chosen) (even chosen) z (n h + 1) z′
   spelled =
@@ -364,9 +364,9 @@ emit-all-requires c κs =
     let i = h s in
     let t = call (read i) in
     let a = read i in
-    let long = spelled s .long ∙ sums s .long in
+    let long = spelled s .long ∙ made s .long in
     let e =
-    may-emit (cs a) (g i) (ch w) (near1 w) (near2 w) (blocks1 s) (blocks2 s) (sums s) (spelled s) (format-is a)
+    may-emit (cs a) (g i) (ch w) (near1 w) (near2 w) (blocks1 s) (blocks2 s) (made s) (spelled s) (format-is a)
     (t .pre .1 .0) (t .pre .1 .1) in (
       (omega (arith, cs a .few), g i .numbers-long, long, ch w .some, e .0, ch w .in-block),
       (rw (g i .long) (t .pre .1 .0), (e .1, (e .2, e .3))),
@@ -387,10 +387,10 @@ loop-again c =
     let i = h s in
     let taken1 = first-taken s .gather .ensures in
     let taken2 = second-taken s .gather2 .ensures in (
-      passing-more (cs (read i)) (g i) (ch w) (near1 w) (near2 w) (blocks1 s) (blocks2 s) (sums s) (spelled s)
+      passing-more (cs (read i)) (g i) (ch w) (near1 w) (near2 w) (blocks1 s) (blocks2 s) (made s) (spelled s)
           (format-is (read i)) (mask-is (masked s)) (c .before .before .emit-all .ensures)
           (walking-on (g i .first-walking) taken1) (walking-on (g i .second-walking) taken2),
-      spelled s .long ∙ sums s .long,
+      spelled s .long ∙ made s .long,
       still-cleared (g i .first-walking) taken1 (i .before .loop .inv .2),
       still-cleared (g i .second-walking) taken2 (i .before .loop .inv .3),
     )
