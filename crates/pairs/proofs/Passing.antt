@@ -141,7 +141,7 @@ module _ {op : Pairing} {index first second : List ℕ} {n : ℕ} {starts old : 
   -- ---- one block more: m segments, where no piece ends before `near`
   module _ {near m : ℕ} {even : Bool} (ch : Chosen near (S index) o m even)
       (near1 : (k : ℕ) → k < length first → near ≤ leftOf (cursorOf ns1 k .piece))
-      (near2 : (k : ℕ) → k < length second → near ≤ leftOf (cursorOf ns2 k .piece)) where
+      (near2 : even ≡ true → (k : ℕ) → k < length second → near ≤ leftOf (cursorOf ns2 k .piece)) where
     -- a run is no longer than the format can say
     m-low : m ≤ mostRun F
     m-low = go even refl
@@ -160,7 +160,7 @@ module _ {op : Pairing} {index first second : List ℕ} {n : ℕ} {starts old : 
           (all-alike (g .first-walking) (cs .facts) (cs .first-listed) (ch .some) (ch .within) bx′
           (λ j l. omega (arith, ch .in-runs e, near1 j l)))
           (all-alike (g .second-walking) (cs .facts) (cs .second-listed) (ch .some) (ch .within) (rw e at by)
-          (λ j l. omega (arith, ch .in-runs e, near2 j l)))
+          (λ j l. omega (arith, ch .in-runs e, near2 e j l)))
           p (pair-low (omega (arith, cs .first-some)) bx′ p 0 (omega (arith, ch .some)) (omega arith)) i h
         where
           bx′ : BlockOf index first o m true x

@@ -12,7 +12,8 @@ use Rattle.laws.specs.Laws.{IndexFacts}
 use Rattle.meaning.specs.Columns.{pairColumn}
 use Rattle.meaning.specs.Rows.{none}
 use Rattle.meaning.specs.declared.Pairing.{Pairing}
-use Rattle.walk.specs.Queries.{Listed}
+use Rattle.ewah.specs.Cursors.{leftOf}
+use Rattle.walk.specs.Queries.{cursorOf, Listed}
 use Rattle.new_index.specs.Writers.{writerOf, region}
 
 -- two columns of a sound index, neither of more than n slices
@@ -26,13 +27,18 @@ pub record Columns (index first second : List ℕ) (n : ℕ) : Type 0 where
   pub second-fits : length second ≤ n + 1
   pub few : n < mostValueColumn
 
+-- no piece of the first m places ends before `near`; nor does one of the other n, if that is a block's segments or more
+pub record Near (p : List ℕ) (m : ℕ) (q : List ℕ) (n near : ℕ) : Type 0 where
+  pub first : (k : ℕ) → k < m → near ≤ leftOf (cursorOf p k .piece)
+  pub second : blockSegments ≤ near → (k : ℕ) → k < n → near ≤ leftOf (cursorOf q k .piece)
+
 -- the next n of S segments from segment o on, where no piece ends before `near`: all within the pieces, or at most
 -- a block's
 pub record Chosen (near S o n : ℕ) (even : Bool) : Type 0 where
   pub some : 1 ≤ n
   pub within : o + n ≤ S
   pub in-pieces : even ≡ true → n ≤ near
-  pub in-runs : even ≡ true → 2 ≤ near
+  pub in-runs : even ≡ true → blockSegments ≤ near
   pub in-block : even ≡ false → n ≤ blockSegments
 
 -- body i of the answer

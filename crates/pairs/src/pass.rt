@@ -49,9 +49,8 @@ pub fn pass(
     let mut run = false;
     let mut o: u32 = 0;
     while o < segments {
-        let near = gather::nearest(&p, first.len());
-        let close = gather::nearest(&q, second.len());
-        let s = choose::choose(survey::smaller(near, close), o, segments, run);
+        let near = choose::nearest(&p, first.len(), &q, second.len());
+        let s = choose::choose(near, o, segments, run);
         let m = s.n;
         let even = s.even;
         let mask = rows::mask_before(full, last, segments, o + m);

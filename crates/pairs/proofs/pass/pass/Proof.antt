@@ -1,7 +1,7 @@
 -- `pairs::pass::pass` meets its contract: block by block, by `Passing`.
 -- Assumes nothing.
-use Prim.Native.Nat.{ℕ, _+_, _-_, _*_, _≤_, _<_, min}
-use mathlib.Core.Bool.{Bool}
+use Prim.Native.Nat.{ℕ, _+_, _-_, _*_, _≤_, _<_}
+use mathlib.Core.Bool.{Bool, true}
 use mathlib.Core.Path.{_≡_, refl, ap, ap₂, _∙_, subst}
 use mathlib.Core.List.{List}
 use lib.ListN.{length}
@@ -106,7 +106,7 @@ module _ (i : tie.In-loop Inv-loop μ-loop) where
 -- ---- at a block that was chosen
 module _ (w : tie.After-choose Inv-loop μ-loop) where
   abbrev here : tie.In-loop Inv-loop μ-loop
-  here = w .before .before .before .before .before .before
+  here = w .before .before .before .before
 
   abbrev a : tie.After-last-mask Inv-loop μ-loop
   a = read here
@@ -118,19 +118,16 @@ module _ (w : tie.After-choose Inv-loop μ-loop) where
   even = w .choose .result .even
 
   abbrev near : ℕ
-  near = w .before .smaller .result
+  near = w .before .nearest .result
 
   ch : Chosen near (segmentCount (width (F a)) (R a)) (o here) m even
   ch = subst (λ (k : ℕ). Chosen near k (o here) m even) (total a) (w .choose .ensures)
 
-  near-is : near ≡ min (w .before .before .before .before .nearest .result) (w .before .before .nearest2 .result)
-  near-is = w .before .smaller .ensures
-
   near1 : (k : ℕ) → k < length (first here) → near ≤ leftOf (cursorOf (ns1 here) k .piece)
-  near1 k h = omega (arith, near-is, w .before .before .before .before .nearest .ensures k h)
+  near1 = w .before .nearest .ensures .first
 
-  near2 : (k : ℕ) → k < length (second here) → near ≤ leftOf (cursorOf (ns2 here) k .piece)
-  near2 k h = omega (arith, near-is, w .before .before .nearest2 .ensures k h)
+  near2 : even ≡ true → (k : ℕ) → k < length (second here) → near ≤ leftOf (cursorOf (ns2 here) k .piece)
+  near2 e = w .before .nearest .ensures .second (ch .in-runs e)
 
   end-fits : o here + m < 4294967296
   end-fits = omega (arith, ch .within, few a)
@@ -248,26 +245,19 @@ loop-holds c =
 slice-aggregate-nearest : tie.Need-slice-aggregate-nearest Inv-loop μ-loop
 slice-aggregate-nearest c = search needs
 
-nearest-requires : tie.Need-nearest-requires Inv-loop μ-loop
-nearest-requires c κs =
-    let i = c .before in
-    let w = cs (read i) in
-    (w .first-listed .most, room (first i) _ _ (w .first-fits) (w .few) (g i .first-walking .long))
-
 slice-aggregate-nearest-2 : tie.Need-slice-aggregate-nearest-2 Inv-loop μ-loop
 slice-aggregate-nearest-2 c = search needs
 
-nearest-requires-2 : tie.Need-nearest-requires-2 Inv-loop μ-loop
-nearest-requires-2 c κs =
-    let i = c .before .before .before in
-    let w = cs (read i) in
-    (w .second-listed .most, room (second i) _ _ (w .second-fits) (w .few) (g i .second-walking .long))
-
-smaller-requires : tie.Need-smaller-requires Inv-loop μ-loop
-smaller-requires c κs = search needs
+nearest-requires : tie.Need-nearest-requires Inv-loop μ-loop
+nearest-requires c κs =
+    let i = c .before .before in
+    let w = cs (read i) in (
+      (w .first-listed .most, room (first i) _ _ (w .first-fits) (w .few) (g i .first-walking .long)),
+      (w .second-listed .most, room (second i) _ _ (w .second-fits) (w .few) (g i .second-walking .long)),
+    )
 
 choose-requires : tie.Need-choose-requires Inv-loop μ-loop
-choose-requires c κs = c .before .before .before .before .before .loop-test .taken
+choose-requires c κs = c .before .before .before .loop-test .taken
 
 add-mask-before : tie.Need-add-mask-before Inv-loop μ-loop
 add-mask-before c = omega (arith, end-fits c)
@@ -328,7 +318,7 @@ gather-requires-2 c κs =
                 i .before .loop .inv .3 .long,
                 omega (arith, s .second-fits, s .few),
                 ch w .some,
-                λ e k l. omega (arith, ch w .in-pieces e, near2 w k l),
+                λ e k l. omega (arith, ch w .in-pieces e, near2 w e k l),
                 ch w .in-block,
               ),
             ),
@@ -421,10 +411,8 @@ pass-spec =
     start-requires
     loop-holds
     slice-aggregate-nearest
-    nearest-requires
     slice-aggregate-nearest-2
-    nearest-requires-2
-    smaller-requires
+    nearest-requires
     choose-requires
     add-mask-before
     mask-before-requires
