@@ -1,5 +1,5 @@
 -- The outcome of every call on columns of an index. A list of bitmap numbers names a column: existence first, then its slices, the
--- lowest first; a number may be named twice. Requests 1 and 7. The order of refusals is the index's own, 8, 11, 9.
+-- lowest first; a number may be named twice. Requests 1, 7 and 8. The order of refusals is the index's own, 8, 11, 9.
 -- Assumes nothing.
 use Prim.Native.Nat.{ℕ, _-_, max}
 use mathlib.Core.Bool.{Bool, false, not, _||_}
@@ -12,11 +12,14 @@ use Rattle.meaning.specs.Rows.{countBelow, nthBelow}
 use Rattle.meaning.specs.Refusal.{Outcome, answer, Verdict, sound, refuseIf, _then_}
 use Rattle.meaning.specs.Index.{formatOf, rowCount, rowsAt}
 use Rattle.meaning.specs.Question.{intersection, difference}
-use Rattle.meaning.specs.Answer.{check, anyBad, named}
+use Rattle.meaning.specs.Answer.{write, check, anyBad, named}
 use Rattle.meaning.specs.NewIndex.{writeIndex}
 use Rattle.meaning.specs.Column.{valueOf, signedOf, columnOf, pairValue, pairSlices}
+use Rattle.meaning.specs.Ranking.{firstRows}
 use Rattle.meaning.specs.declared.Pairing.{Pairing}
 use Rattle.meaning.specs.declared.Pairing.the-variants.{Sum, Difference, Smaller, DifferenceOrZero}
+use Rattle.meaning.specs.declared.Ranking.{Ranking}
+use Rattle.meaning.specs.declared.Ranking.the-variants.{Largest, Smallest}
 
 -- how many slices a list names
 unfoldable pub sliceCount : List ℕ → ℕ
@@ -152,3 +155,32 @@ module _ (index : List ℕ) where
 
   abbrev pub differenceOrZero : (first second : List ℕ) (room : ℕ) → Outcome (List ℕ)
   differenceOrZero = pair DifferenceOrZero
+
+  -- ---- the k largest or smallest of a column, as a body of the index's format (request 8)
+
+  -- the rows of the answer
+  unfoldable pub rankedRows : (op : Ranking) (list : List ℕ) (k : ℕ) → ℕ → Bool
+  unfolding firstRows rowCount existing valueAt
+  rankedRows op list k = firstRows op (rowCount index) (existing list) (valueAt list) k
+
+  -- 8: the list names no column, or fewer than k rows exist
+  unfoldable pub badRank : (list : List ℕ) (k : ℕ) → Bool
+  unfolding badColumn countBelow rowCount existing
+  badRank list k = badColumn mostColumn list || ltb (countBelow (rowCount index) (existing list)) k
+
+  -- what is left once the index is sound
+  unfoldable pub askRanked : (op : Ranking) (list : List ℕ) (k room : ℕ) → Outcome (List ℕ)
+  unfolding _then_ refuseIf badRank strays write rowCount rankedRows
+  askRanked op list k room =
+      refuseIf (badRank list k) 8 0 0 (strays list then write (formatOf index) (rowCount index) (rankedRows op list k) room)
+
+  unfoldable pub ranked : (op : Ranking) (list : List ℕ) (k room : ℕ) → Outcome (List ℕ)
+  unfolding check _then_ askRanked
+  ranked op list k room = check index then askRanked op list k room
+
+  -- `largest` and `smallest`
+  abbrev pub largest : (list : List ℕ) (k room : ℕ) → Outcome (List ℕ)
+  largest = ranked Largest
+
+  abbrev pub smallest : (list : List ℕ) (k room : ℕ) → Outcome (List ℕ)
+  smallest = ranked Smallest

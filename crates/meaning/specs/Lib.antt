@@ -14,6 +14,7 @@ pub mod Question
 pub mod Answer
 pub mod NewIndex
 pub mod Column
+pub mod Ranking
 pub mod Columns
 pub mod Rewriting
 pub mod Readings
