@@ -4,6 +4,7 @@ pub mod Paragraph
 pub mod Laws
 pub mod PieceLaws
 pub mod ColumnLaws
+pub mod RankLaws
 pub mod RewriteLaws
 -- for contracts between the crates
 pub mod Ahead
