@@ -33,7 +33,7 @@ count-upto p m (suc n) h = elim (decLe m n) [
 ]
 
 -- a later row has more set rows before it than a set row has
-count-later : (p : ℕ → Bool) (r s : ℕ) → p r ≡ true → r < s → countBelow r p < countBelow s p
+pub count-later : (p : ℕ → Bool) (r s : ℕ) → p r ≡ true → r < s → countBelow r p < countBelow s p
 unfolding countBelow sumBelow
 count-later p r s h g =
     let one : bit (p r) ≡ 1 = ap bit h ∙ (unfold bit in refl) in

@@ -41,6 +41,7 @@ pub mod Demanded
 pub mod Counted
 pub mod Sums
 pub mod Counting
+pub mod Ranking
 pub mod Pads
 pub mod Asked
 pub mod Parts
