@@ -42,6 +42,7 @@ pub mod Counted
 pub mod Sums
 pub mod Counting
 pub mod Ranking
+pub mod Pivoting
 pub mod Pads
 pub mod Asked
 pub mod Parts

@@ -14,42 +14,12 @@ use Rattle.meaning.specs.Ranking.{ahead, precedes, firstRows}
 use Rattle.meaning.specs.declared.Ranking.{Ranking}
 use Rattle.meaning.specs.declared.Ranking.the-variants.{Largest, Smallest}
 use Rattle.laws.specs.RankLaws.{Ranked, RankLaws}
-use Rattle.laws.proofs.Tests.{or-true, never-true}
+pub use Rattle.laws.specs.Pivot.{above, level}
+use Rattle.laws.proofs.Tests.{or-true, or-cases, and-both, and-swap, and-yes, and-no, and-over-or, never-true, never-both}
 use Rattle.laws.proofs.Segments.{both}
 use Rattle.laws.proofs.Sums.{sum-ext, sum-add}
 use Rattle.laws.proofs.Counted.{nth-holds, count-none, count-upto, count-later}
 use Rattle.laws.proofs.Counting.{count-ext, count-add}
-
--- ---- tests
-
-and-both : (a b : Bool) → a ≡ true → b ≡ true → a && b ≡ true
-and-both a b e f = rw (e, f)
-
-and-swap : (a b : Bool) → a && b ≡ b && a
-and-swap true true = refl
-and-swap true false = refl
-and-swap false true = refl
-and-swap false false = refl
-
-and-yes : (a : Bool) → a && true ≡ a
-and-yes true = refl
-and-yes false = refl
-
-and-no : (a : Bool) → a && false ≡ false
-and-no true = refl
-and-no false = refl
-
-or-cases : (a b : Bool) → a || b ≡ true → (a ≡ true) ⊎ (b ≡ true)
-or-cases true b e = inl refl
-or-cases false b e = inr e
-
-spread-or : (a b c d : Bool) → a && (b || (c && d)) ≡ (a && b) || ((a && c) && d)
-spread-or true b c d = refl
-spread-or false b c d = refl
-
--- no test both holds and fails
-clash : (t : Bool) → t ≡ true → t ≡ false → ⊥
-clash t e f = true≢false (sym e ∙ f)
 
 -- ---- counts
 
@@ -171,13 +141,23 @@ unfolding ahead
 ahead-total Largest x y a b = omega (arith, ltb-false y x a, ltb-false x y b)
 ahead-total Smallest x y a b = omega (arith, ltb-false x y a, ltb-false y x b)
 
--- ---- the rows before a value, and the rows that have it
+-- ---- the rows that come before a value, and those that have it
 
-abbrev pub above : (op : Ranking) (exists : ℕ → Bool) (v : ℕ → ℕ) (m : ℕ) → ℕ → Bool
-above op exists v m r = exists r && ahead op (v r) m
+module _ (op : Ranking) (exists : ℕ → Bool) (v : ℕ → ℕ) (m r : ℕ) where
+  in-above : above op exists v m r ≡ true → (exists r ≡ true) × (ahead op (v r) m ≡ true)
+  in-above h = both (exists r) (ahead op (v r) m) h
 
-abbrev pub level : (exists : ℕ → Bool) (v : ℕ → ℕ) (m : ℕ) → ℕ → Bool
-level exists v m r = exists r && eqb (v r) m
+  in-level : level exists v m r ≡ true → (exists r ≡ true) × (v r ≡ m)
+  in-level h = let p = both (exists r) (eqb (v r) m) h in (p .0, eqb-true (v r) m (p .1))
+
+  -- no row is both
+  pub above-not-level : above op exists v m r ≡ true → level exists v m r ≡ false
+  above-not-level a =
+      never-true (level exists v m r)
+      (λ e. never-both (ahead op (v r) m) (in-above a .1)
+      (ap (λ (x : ℕ). ahead op x m) (in-level e .1) ∙ ahead-self op m))
+
+-- ---- ranks
 
 module _ (op : Ranking) (R : ℕ) (exists : ℕ → Bool) (v : ℕ → ℕ) where
   -- row s comes before row r
@@ -228,7 +208,7 @@ module _ (op : Ranking) (R : ℕ) (exists : ℕ → Bool) (v : ℕ → ℕ) wher
   before-self r =
       never-true (precedes op exists v r r)
       (λ e. ⊎-elim
-      (λ a. clash (ahead op (v r) (v r)) a (ahead-self op (v r)))
+      (λ a. never-both (ahead op (v r) (v r)) a (ahead-self op (v r)))
       (λ a. omega (arith, a .1))
       (before-cases r r e .1))
 
@@ -238,16 +218,16 @@ module _ (op : Ranking) (R : ℕ) (exists : ℕ → Bool) (v : ℕ → ℕ) wher
   before-total r s er es a b =
       ends
       (ahead-total op (v s) (v r)
-      (never-true (ahead op (v s) (v r)) (λ e. clash (precedes op exists v r s) (by-value r s es e) a))
-      (never-true (ahead op (v r) (v s)) (λ e. clash (precedes op exists v s r) (by-value s r er e) b)))
+      (never-true (ahead op (v s) (v r)) (λ e. never-both (precedes op exists v r s) (by-value r s es e) a))
+      (never-true (ahead op (v r) (v s)) (λ e. never-both (precedes op exists v s r) (by-value s r er e) b)))
     where
       ends : v s ≡ v r → r ≡ s
       ends e = elim (decLe r s) [
         | yes l ↦ elim (decLe s r) [
           | yes g ↦ omega arith
-          | no g ↦ absurd (clash (precedes op exists v s r) (by-number s r er (sym e) (omega arith)) b)
+          | no g ↦ absurd (never-both (precedes op exists v s r) (by-number s r er (sym e) (omega arith)) b)
         ]
-        | no l ↦ absurd (clash (precedes op exists v r s) (by-number r s es e (omega arith)) a)
+        | no l ↦ absurd (never-both (precedes op exists v r s) (by-number r s es e (omega arith)) a)
       ]
 
   -- fewer rows come before a row that comes before
@@ -402,19 +382,6 @@ module _ (op : Ranking) (R : ℕ) (exists : ℕ → Bool) (v : ℕ → ℕ) wher
     abbrev equal : ℕ → Bool
     equal = level exists v m
 
-    in-above : (s : ℕ) → better s ≡ true → (exists s ≡ true) × (ahead op (v s) m ≡ true)
-    in-above s h = both (exists s) (ahead op (v s) m) h
-
-    in-level : (s : ℕ) → equal s ≡ true → (exists s ≡ true) × (v s ≡ m)
-    in-level s h = let p = both (exists s) (eqb (v s) m) h in (p .0, eqb-true (v s) m (p .1))
-
-    -- no row is both
-    above-not-level : (s : ℕ) → better s ≡ true → equal s ≡ false
-    above-not-level s a =
-        never-true (equal s)
-        (λ e. clash (ahead op (v s) m) (in-above s a .1)
-        (ap (λ (x : ℕ). ahead op x m) (in-level s e .1) ∙ ahead-self op m))
-
     -- before a row that comes before the value there are fewer rows than such
     above-rank : (r : ℕ) → r < R → exists r ≡ true → ahead op (v r) m ≡ true → rankOf r < countBelow R better
     above-rank r l e a =
@@ -433,23 +400,23 @@ module _ (op : Ranking) (R : ℕ) (exists : ℕ → Bool) (v : ℕ → ℕ) wher
     level-rank : (r : ℕ) → r < R → v r ≡ m → rankOf r ≡ countBelow R better + countBelow r equal
     level-rank r l e =
         count-ext R (precedes op exists v r) (λ s. better s || (equal s && ltb s r)) (λ s g. same s)
-        ∙ count-apart R better (λ s. equal s && ltb s r) (λ s a. rw (above-not-level s a))
+        ∙ count-apart R better (λ s. equal s && ltb s r) (λ s a. rw (above-not-level op exists v m s a))
         ∙ ap (λ (n : ℕ). countBelow R better + n) (count-low R r equal (omega arith))
       where
         same : (s : ℕ) → precedes op exists v r s ≡ better s || (equal s && ltb s r)
-        same s = unfold precedes in rw e (spread-or (exists s) (ahead op (v s) m) (eqb (v s) m) (ltb s r))
+        same s = unfold precedes in rw e (and-over-or (exists s) (ahead op (v s) m) (eqb (v s) m) (ltb s r))
 
     -- before one behind the value all of them
     below-rank : (r : ℕ) → ahead op m (v r) ≡ true → countBelow R better + countBelow R equal ≤ rankOf r
     below-rank r b =
         omega (
           arith,
-          count-apart R better equal above-not-level,
+          count-apart R better equal (above-not-level op exists v m),
           count-mono R (λ s. better s || equal s) (precedes op exists v r)
               (λ s l h. ⊎-elim
-              (λ a. let p = in-above s a in by-value r s (p .0) (ahead-trans op (v s) m (v r) (p .1) b))
+              (λ a. let p = in-above op exists v m s a in by-value r s (p .0) (ahead-trans op (v s) m (v r) (p .1) b))
               (λ a.
-                  let p = in-level s a in
+                  let p = in-level op exists v m s a in
                   by-value r s (p .0) (subst (λ (x : ℕ). ahead op x (v r) ≡ true) (sym (p .1)) b))
               (or-cases (better s) (equal s) h)),
         )

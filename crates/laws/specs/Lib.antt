@@ -8,3 +8,4 @@ pub mod RankLaws
 pub mod RewriteLaws
 -- for contracts between the crates
 pub mod Ahead
+pub mod Pivot
