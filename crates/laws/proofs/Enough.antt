@@ -178,7 +178,8 @@ trues [] = 0
 trues (t ∷ ts) = bit t + trues ts
 
 -- how many bodies have row r
-held-trues : (F : Format) (bodies : List (List ℕ)) (r : ℕ) → held (map (rowsOf F) bodies) r ≡ trues (rowBits F bodies r)
+held-trues : (F : Format) (bodies : List (List ℕ)) (r : ℕ)
+    → held (map (rowsOf F) bodies) r ≡ trues (rowBits F bodies r)
 unfolding held trues
 held-trues F [] r = refl
 held-trues F (b ∷ bs) r = ap (λ (n : ℕ). bit (rowsOf F b r) + n) (held-trues F bs r)

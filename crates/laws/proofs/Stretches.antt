@@ -99,7 +99,8 @@ pieces-le Ewah b = ewah-le 0 b
 pieces-le Wah b = wah-le b
 
 -- so at most as many of n segments are the last of one of its pieces
-pub ends-le : (F : Format) (b : List ℕ) (n : ℕ) → countBelow n (λ i. isIn (endsFrom 0 (piecesOf F b)) (suc i)) ≤ length b
+pub ends-le : (F : Format) (b : List ℕ) (n : ℕ)
+    → countBelow n (λ i. isIn (endsFrom 0 (piecesOf F b)) (suc i)) ≤ length b
 ends-le F b n = omega (arith, count-in n (endsFrom 0 (piecesOf F b)), length-ends 0 (piecesOf F b), pieces-le F b)
 
 -- and there are at most as many stretches as words
