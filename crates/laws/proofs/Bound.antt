@@ -1,5 +1,5 @@
 -- The words of some segments in canonical form, in either format: at most two for each end, where between two ends all
--- segments are clean and of one value.
+-- segments are clean and of one value. The segment at an end itself may be any.
 -- Assumes nothing.
 use Prim.Native.Nat.{ℕ, zero, suc, _+_, _*_, _≤_, _<_}
 use mathlib.Core.Bool.{Bool, true, false, true≢false}
@@ -57,14 +57,14 @@ module _ (F : Format) (R : ℕ) (ss : List Segment) (E : ℕ → Bool) where
   abbrev cost : ℕ → ℕ
   cost n = length (wordsOf F R (take n ss))
 
-  -- segment i and the next are clean, and of one value
+  -- segment i is clean, and the next is of the same value, unless it is an end
   pub record Held (i : ℕ) : Type 0 where
     pub v : ℕ
     pub here : getD ss i (clean 0) ≡ clean v
-    pub next : getD ss (suc i) (clean 0) ≡ clean v
+    pub next : E (suc i) ≡ false → getD ss (suc i) (clean 0) ≡ clean v
     pub more : suc i < length ss
 
-  -- after n segments, k of them since the last end, which are clean with value v, and so is the next
+  -- after n segments, k of them since the last end, which are clean with value v, and so is the next if it is no end
   record Open (n : ℕ) : Type 0 where
     from : ℕ
     k : ℕ
@@ -73,7 +73,7 @@ module _ (F : Format) (R : ℕ) (ss : List Segment) (E : ℕ → Bool) where
     paid : cost from ≤ 2 * countBelow n E
     drawn : take n ss ≡ take from ss ++ replicate k (clean v)
     quiet : (i : ℕ) → from ≤ i → i < n → E i ≡ false
-    next : 0 < k → getD ss n (clean 0) ≡ clean v
+    next : 0 < k → E n ≡ false → getD ss n (clean 0) ≡ clean v
     more : 0 < k → n < length ss
 
 -- one more behind k clean segments
@@ -130,7 +130,7 @@ module _ (F : Format) (R : ℕ) (ss : List Segment) (E : ℕ → Bool)
             drawn =
                 drawn-more n h o
                 ∙ ap (λ (t : Segment). take (o .from) ss ++ replicate (o .k) (clean (o .v)) ++ t ∷ []) (s .here)
-                ∙ rep-more (take (o .from) ss) (o .k) (o .v) (s .v) (λ z. sym (o .next z) ∙ s .here);
+                ∙ rep-more (take (o .from) ss) (o .k) (o .v) (s .v) (λ z. sym (o .next z q) ∙ s .here);
             quiet = λ i a b. elim (decLe (suc i) n) [
               | yes g ↦ o .quiet i a g
               | no g ↦ (let is : i ≡ n = omega arith in ap E is ∙ q)

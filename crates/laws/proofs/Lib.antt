@@ -37,6 +37,7 @@ pub mod Even
 pub mod Ends
 pub mod Bound
 pub mod Enough
+pub mod CutEnough
 pub mod Demanded
 pub mod Counted
 pub mod Sums

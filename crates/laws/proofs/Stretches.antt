@@ -1,8 +1,8 @@
 -- The stretches of some bodies are at most their words, in either format.
 -- Assumes nothing.
-use Prim.Native.Nat.{ℕ, zero, suc, _+_, _≤_}
+use Prim.Native.Nat.{ℕ, zero, suc, _+_, _≤_, _<_}
 use mathlib.Core.Bool.{Bool, true, false, _||_}
-use mathlib.Core.Path.{_≡_, refl, ap}
+use mathlib.Core.Path.{_≡_, refl, ap, _∙_}
 use mathlib.Core.List.{List, [], _∷_}
 use lib.Dec.{eqb}
 use lib.ListN.{length}
@@ -23,18 +23,33 @@ use Rattle.laws.proofs.Counted.{count-none}
 
 -- ---- counting
 
+or-bits : (a b : Bool) → bit (a || b) ≤ bit a + bit b
+unfolding bit
+or-bits true b = omega arith
+or-bits false b = omega arith
+
 -- numbers that pass one of two tests
-count-or : (n : ℕ) (p q : ℕ → Bool) → countBelow n (λ e. p e || q e) ≤ countBelow n p + countBelow n q
+pub count-or : (n : ℕ) (p q : ℕ → Bool) → countBelow n (λ e. p e || q e) ≤ countBelow n p + countBelow n q
 unfolding countBelow sumBelow bit
 count-or zero p q = omega arith
-count-or (suc n) p q = omega (arith, count-or n p q, go (p n) (q n))
-  where
-    go : (a b : Bool) → bit (a || b) ≤ bit a + bit b
-    go true b = omega arith
-    go false b = omega arith
+count-or (suc n) p q = omega (arith, count-or n p q, or-bits (p n) (q n))
+
+-- and one less where a number passes both
+pub count-both : (n m : ℕ) (p q : ℕ → Bool) → m < n → p m ≡ true → q m ≡ true
+    → countBelow n (λ e. p e || q e) + 1 ≤ countBelow n p + countBelow n q
+unfolding countBelow sumBelow bit
+count-both zero m p q h hp hq = absurd (omega arith)
+count-both (suc n) m p q h hp hq = elim (decLe (suc m) n) [
+  | yes g ↦ omega (arith, count-both n m p q g hp hq, or-bits (p n) (q n))
+  | no g ↦
+      let e : n ≡ m = omega arith in
+      let yes-p : bit (p n) ≡ 1 = ap (λ (k : ℕ). bit (p k)) e ∙ ap bit hp in
+      let yes-q : bit (q n) ≡ 1 = ap (λ (k : ℕ). bit (q k)) e ∙ ap bit hq in
+      omega (arith, count-or n p q, bit-le (p n || q n))
+]
 
 -- at most one number is x
-count-one : (n x : ℕ) → countBelow n (λ e. eqb x (suc e)) ≤ 1
+pub count-one : (n x : ℕ) → countBelow n (λ e. eqb x (suc e)) ≤ 1
 unfolding countBelow sumBelow
 count-one zero x = omega arith
 count-one (suc n) x = elim (decLe x n) [
@@ -83,7 +98,12 @@ pieces-le : (F : Format) (b : List ℕ) → length (piecesOf F b) ≤ length b
 pieces-le Ewah b = ewah-le 0 b
 pieces-le Wah b = wah-le b
 
--- and so there are at most as many stretches as words
+-- so at most as many of n segments are the last of one of its pieces
+pub ends-le : (F : Format) (b : List ℕ) (n : ℕ)
+    → countBelow n (λ i. isIn (endsFrom 0 (piecesOf F b)) (suc i)) ≤ length b
+ends-le F b n = omega (arith, count-in n (endsFrom 0 (piecesOf F b)), length-ends 0 (piecesOf F b), pieces-le F b)
+
+-- and there are at most as many stretches as words
 pub stretches-le : (F : Format) (R : ℕ) (bodies : List (List ℕ)) → stretches F R bodies ≤ totalWords bodies
 unfolding stretches endsAt totalWords
 stretches-le F R [] = omega (arith, count-none (segmentCount (width F) R) (λ e. false) (λ e h. refl))
@@ -91,8 +111,6 @@ stretches-le F R (b ∷ bs) =
     omega (
       arith,
       count-or (segmentCount (width F) R) (λ i. isIn (endsFrom 0 (piecesOf F b)) (suc i)) (endsAt F bs),
-      count-in (segmentCount (width F) R) (endsFrom 0 (piecesOf F b)),
-      length-ends 0 (piecesOf F b),
-      pieces-le F b,
+      ends-le F b (segmentCount (width F) R),
       stretches-le F R bs,
     )
