@@ -31,7 +31,7 @@ leb-iff m n = (leb-true m n, le-leb m n)
 
 -- ---- the bodies of a sound index are sound
 
-all-sound : (index list : List ℕ) → SoundIndex index → ((i : ℕ) → i < length list → getD list i 0 < bitmapCount index)
+pub all-sound : (index list : List ℕ) → SoundIndex index → ((i : ℕ) → i < length list → getD list i 0 < bitmapCount index)
     → AllSound (formatOf index) (rowCount index) (map (bodyAt index) list)
 all-sound index [] s h = tt
 all-sound index (k ∷ ks) s h = (index-means index .0 s .bodies k (h 0 (omega arith)), all-sound index ks s (λ i g. h (suc i) (omega arith)))
@@ -82,6 +82,38 @@ unfolding badList
 list-good index list g =
     rw (ne-eqb (length list) 0 (omega (arith, g .some)), le-ltb mostNamed (length list) (g .most), all-good index list (g .its))
 
+-- ---- demand 3 of a question of which nothing but the room is left to be asked
+
+module _ (F : Format) (R : ℕ) (p : ℕ → Bool) (bodies : List (List ℕ)) (buffer : List ℕ) (o : Outcome (List ℕ))
+    (writes : o ≡ write F R p (length buffer)) where
+  no-room : length buffer < length (canonical F R p) → NoRoom (length (canonical F R p)) buffer o (bufferAfter o buffer)
+  unfolding write bufferAfter
+  no-room h =
+      let e : o ≡ refused 9 0 (length (canonical F R p)) = writes ∙ fits-no (length buffer) (canonical F R p) h in
+      record { number = e; kept = ap (λ (z : Outcome (List ℕ)). bufferAfter z buffer) e }
+
+  room : length (canonical F R p) ≤ length buffer → Written F R p (length (canonical F R p)) buffer o (bufferAfter o buffer)
+  unfolding write bufferAfter
+  room h =
+      let e : o ≡ answer (canonical F R p) = writes ∙ fits-yes (length buffer) (canonical F R p) h in
+      record {
+        body = canonical F R p;
+        answered = e;
+        buffer-is = ap (λ (z : Outcome (List ℕ)). bufferAfter z buffer) e;
+        form = canonical-form F R p;
+        right = canonical-body F R p;
+        fewest = refl;
+      }
+
+  pub written-demand : length (canonical F R p) ≤ 2 * totalWords bodies → Demand3 F R p bodies buffer o (bufferAfter o buffer)
+  written-demand few = record {
+    least = length (canonical F R p);
+    least-is = canonical-fewest F R p;
+    no-room = no-room;
+    room = room;
+    enough = few;
+  }
+
 -- ---- a threshold question
 
 pub asked-means : AskedMeans
@@ -128,53 +160,23 @@ module _ (index list : List ℕ) (T : ℕ) where
   unfolding rightRows atLeast
   right-iff r = leb-iff T (held (named index list) r)
 
-  module _ (buffer : List ℕ) (a : Asked index list T) where
-    abbrev F : Format
-    F = formatOf index
-
-    abbrev R : ℕ
-    R = rowCount index
-
-    abbrev p : ℕ → Bool
-    p = rightRows index list T
-
-    abbrev o : Outcome (List ℕ)
-    o = threshold index list T (length buffer)
-
-    no-room : length buffer < length (canonical F R p) → NoRoom (length (canonical F R p)) buffer o (bufferAfter o buffer)
-    unfolding write bufferAfter
-    no-room h =
-        let e : o ≡ refused 9 0 (length (canonical F R p)) = asked-writes a (length buffer) ∙ fits-no (length buffer) (canonical F R p) h in
-        record { number = e; kept = ap (λ (z : Outcome (List ℕ)). bufferAfter z buffer) e }
-
-    room : length (canonical F R p) ≤ length buffer → Written F R p (length (canonical F R p)) buffer o (bufferAfter o buffer)
-    unfolding write bufferAfter
-    room h =
-        let e : o ≡ answer (canonical F R p) = asked-writes a (length buffer) ∙ fits-yes (length buffer) (canonical F R p) h in
-        record {
-          body = canonical F R p;
-          answered = e;
-          buffer-is = ap (λ (z : Outcome (List ℕ)). bufferAfter z buffer) e;
-          form = canonical-form F R p;
-          right = canonical-body F R p;
-          fewest = refl;
-        }
-
-    few : length (canonical F R p) ≤ 2 * totalWords (namedBodies index list)
-    unfolding rightRows atLeast
-    few = omega (arith, twice-stretches index list (λ c. leb T c) (a .isSound) (a .some) (a .its), stretches-le F R (namedBodies index list))
-
-    demand : Demand3 F R p (namedBodies index list) buffer o (bufferAfter o buffer)
-    demand = record {
-      least = length (canonical F R p);
-      least-is = canonical-fewest F R p;
-      no-room = no-room;
-      room = room;
-      enough = few;
-    }
+  few : Asked index list T
+      → length (canonical (formatOf index) (rowCount index) (rightRows index list T)) ≤ 2 * totalWords (namedBodies index list)
+  unfolding rightRows atLeast
+  few a =
+      omega (
+        arith,
+        twice-stretches index list (λ c. leb T c) (a .isSound) (a .some) (a .its),
+        stretches-le (formatOf index) (rowCount index) (namedBodies index list),
+      )
 
 pub threshold-demand : ThresholdHolds
-threshold-demand index list T buffer a = record { right = right-iff index list T; demand = demand index list T buffer a }
+threshold-demand index list T buffer a = record {
+  right = right-iff index list T;
+  demand =
+      written-demand (formatOf index) (rowCount index) (rightRows index list T) (namedBodies index list) buffer
+      (threshold index list T (length buffer)) (asked-writes index list T a (length buffer)) (few index list T a);
+}
 
 -- ---- stretches
 

@@ -44,6 +44,7 @@ pub mod Sums
 pub mod Counting
 pub mod Ranking
 pub mod Pivoting
+pub mod RankHolds
 pub mod Pads
 pub mod Asked
 pub mod Parts

@@ -21,6 +21,7 @@ use Rattle.meaning.specs.Question.{intersection, union, symmetricDifference, di
 use Rattle.meaning.specs.Extent.{rowAnswer}
 use Rattle.meaning.specs.NewIndex.{indexOf, indexRoom, writeIndex}
 use Rattle.meaning.specs.declared.Pairing.{Pairing}
+use Rattle.meaning.specs.declared.Ranking.{Ranking}
 use Rattle.meaning.specs.Answer as meaning
 use Rattle.meaning.specs.Columns as columns
 use Rattle.meaning.specs.Rewriting as rewriting
@@ -274,6 +275,14 @@ module _ (index : List ℕ) where
       (after (columns.strays index first) _ (strays first)
       (after (columns.strays index second) _ (strays second)
       (fits (indexRoom room) (indexOf (formatOf index) (rowCount index) sets)))))
+
+  pub ranked : (op : Ranking) (list : List ℕ) (k room : ℕ) → Numbered (columns.ranked index op list k room)
+  unfolding columns.ranked columns.askRanked
+  ranked op list k room =
+      after (meaning.check index) _ (check index)
+      (refuse (columns.badRank index list k) 8 0 0 _ (omega arith)
+      (after (columns.strays index list) _ (strays list)
+      (write (formatOf index) (rowCount index) (columns.rankedRows index op list k) room)))
 
   -- ---- rewriting
 

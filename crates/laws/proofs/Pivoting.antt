@@ -209,11 +209,10 @@ module _ {op : Ranking} {R : ℕ} {exists : ℕ → Bool} {v : ℕ → ℕ} {k :
   -- at the end P is the k-th value
   pub narrowed-all : {P take : ℕ} → Narrowed op R exists v k 0 P take
       → (countBelow R (above op exists v P) + take ≡ k) × (take ≤ countBelow R (level exists v P))
-  narrowed-all {P} {take} g =
-      (
-        omega (arith, count-ext R (above op exists (λ r. v r / 2 ^ 0) P) (above op exists v P) (λ r l. rw (whole r)), g .counts),
-        omega (arith, count-ext R (level exists (λ r. v r / 2 ^ 0) P) (level exists v P) (λ r l. rw (whole r)), g .some),
-      )
+  narrowed-all {P} {take} g = (
+    omega (arith, count-ext R (above op exists (λ r. v r / 2 ^ 0) P) (above op exists v P) (λ r l. rw (whole r)), g .counts),
+    omega (arith, count-ext R (level exists (λ r. v r / 2 ^ 0) P) (level exists v P) (λ r l. rw (whole r)), g .some),
+  )
     where
       whole : (r : ℕ) → v r / 2 ^ 0 ≡ v r
       whole r = omega arith

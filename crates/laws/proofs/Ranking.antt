@@ -13,6 +13,7 @@ use Rattle.meaning.specs.Rows.{bit, sumBelow, countBelow, nthBelow}
 use Rattle.meaning.specs.Ranking.{ahead, precedes, firstRows}
 use Rattle.meaning.specs.declared.Ranking.{Ranking}
 use Rattle.meaning.specs.declared.Ranking.the-variants.{Largest, Smallest}
+use Rattle.laws.specs.Demands.{IsNth}
 use Rattle.laws.specs.RankLaws.{Ranked, RankLaws}
 pub use Rattle.laws.specs.Pivot.{above, level}
 use Rattle.laws.proofs.Tests.{or-true, or-cases, and-both, and-swap, and-yes, and-no, and-over-or, never-true, never-both}
@@ -55,6 +56,11 @@ count-strict (suc n) p q h r l a b = elim (decLe n r) [
     here e =
         rw (ap p e ∙ a, ap q e ∙ b)
         (unfold bit in omega (arith, count-mono n p q (λ s i. h s (omega arith))))
+
+-- with one set row more
+count-next : (n : ℕ) (p : ℕ → Bool) → p n ≡ true → countBelow (suc n) p ≡ suc (countBelow n p)
+unfolding countBelow sumBelow bit
+count-next n p h = rw h (omega arith)
 
 -- at most one row
 count-one : (n : ℕ) (p : ℕ → Bool) → ((r s : ℕ) → r < n → s < n → p r ≡ true → p s ≡ true → r ≡ s) → countBelow n p ≤ 1
@@ -157,6 +163,13 @@ module _ (op : Ranking) (exists : ℕ → Bool) (v : ℕ → ℕ) (m r : ℕ) wh
       (λ e. never-both (ahead op (v r) m) (in-above a .1)
       (ap (λ (x : ℕ). ahead op x m) (in-level e .1) ∙ ahead-self op m))
 
+-- a set of rows that tests of existence and of the value decide, for some of them with the rows below a cut
+pub record CutRows (R : ℕ) (exists : ℕ → Bool) (v : ℕ → ℕ) (p : ℕ → Bool) : Type 0 where
+  pub yes : Bool → ℕ → Bool
+  pub low : Bool → ℕ → Bool
+  pub cut : ℕ
+  pub rows : (r : ℕ) → r < R → p r ≡ yes (exists r) (v r) || (low (exists r) (v r) && ltb r cut)
+
 -- ---- ranks
 
 module _ (op : Ranking) (R : ℕ) (exists : ℕ → Bool) (v : ℕ → ℕ) where
@@ -165,7 +178,7 @@ module _ (op : Ranking) (R : ℕ) (exists : ℕ → Bool) (v : ℕ → ℕ) wher
   Before r s = precedes op exists v r s ≡ true
 
   -- how many rows come before row r
-  abbrev pub rankOf : ℕ → ℕ
+  abbrev rankOf : ℕ → ℕ
   rankOf r = countBelow R (precedes op exists v r)
 
   by-value : (r s : ℕ) → exists s ≡ true → ahead op (v s) (v r) ≡ true → Before r s
@@ -181,8 +194,7 @@ module _ (op : Ranking) (R : ℕ) (exists : ℕ → Bool) (v : ℕ → ℕ) wher
   before-cases : (r s : ℕ) → Before r s → (exists s ≡ true) × ((ahead op (v s) (v r) ≡ true) ⊎ ((v s ≡ v r) × (s < r)))
   unfolding precedes
   before-cases r s b =
-      let p = both (exists s) _ b in
-      (
+      let p = both (exists s) _ b in (
         p .0,
         ⊎-elim (λ a. inl a)
             (λ c. let q = both (eqb (v s) (v r)) (ltb s r) c in inr (eqb-true (v s) (v r) (q .0), ltb-true s r (q .1)))
@@ -256,7 +268,7 @@ module _ (op : Ranking) (R : ℕ) (exists : ℕ → Bool) (v : ℕ → ℕ) wher
   E = countBelow R exists
 
   -- the existing rows that have k rows before them: one at most
-  abbrev pub atRank : ℕ → ℕ → Bool
+  abbrev atRank : ℕ → ℕ → Bool
   atRank k r = exists r && eqb (rankOf r) k
 
   at-rank : (k : ℕ) → countBelow R (atRank k) ≤ 1
@@ -416,8 +428,8 @@ module _ (op : Ranking) (R : ℕ) (exists : ℕ → Bool) (v : ℕ → ℕ) wher
               (λ s l h. ⊎-elim
               (λ a. let p = in-above op exists v m s a in by-value r s (p .0) (ahead-trans op (v s) m (v r) (p .1) b))
               (λ a.
-                  let p = in-level op exists v m s a in
-                  by-value r s (p .0) (subst (λ (x : ℕ). ahead op x (v r) ≡ true) (sym (p .1)) b))
+              let p = in-level op exists v m s a in
+              by-value r s (p .0) (subst (λ (x : ℕ). ahead op x (v r) ≡ true) (sym (p .1)) b))
               (or-cases (better s) (equal s) h)),
         )
 
@@ -450,6 +462,44 @@ module _ (op : Ranking) (R : ℕ) (exists : ℕ → Bool) (v : ℕ → ℕ) wher
             behind : (t : Bool) → ahead op m (v r) ≡ t → ahead op m (v r) ≡ true
             behind true z = z
             behind false z = absurd (eqb-false (v r) m hq (ahead-total op (v r) m ha z))
+
+  -- ---- there is such a value, and such a cut
+
+  -- exactly one row has k rows before it, where more than k exist
+  rank-there : (k : ℕ) → k < E → IsNth R (atRank k) 0 (nthBelow R (atRank k) 0)
+  rank-there k h =
+      nth-holds R (atRank k) 0
+      (omega (arith, first-more k, first-count k (omega arith), first-count (suc k) (omega arith))) .is
+
+  -- the first k rows, by tests of existence and of the value, and a cut
+  pub cut-there : (k : ℕ) → k ≤ E → CutRows R exists v (firstRows op R exists v k)
+  cut-there zero h = record {
+    yes = λ e x. false;
+    low = λ e x. false;
+    cut = 0;
+    rows = λ r l. none-first r;
+  }
+  cut-there (suc k) h =
+      let s = nthBelow R (atRank k) 0 in
+      let i = rank-there k h in
+      let m = v s in
+      let p = both (exists s) (eqb (rankOf s) k) (i .set) in
+      let own : level exists v m s ≡ true = and-both (exists s) (eqb m m) (p .0) (eq-eqb m m refl) in
+      record {
+        yes = λ e x. e && ahead op x m;
+        low = λ e x. e && eqb x m;
+        cut = suc s;
+        rows =
+            pivot-rows m (suc k) (countBelow (suc s) (level exists v m)) (suc s)
+            (omega (
+              arith,
+              count-next s (level exists v m) own,
+              level-rank m s (i .below) refl,
+              eqb-true (rankOf s) k (p .1),
+            ))
+            (count-upto (level exists v m) (suc s) R (i .below))
+            refl;
+      }
 
 pub rank-laws : RankLaws
 rank-laws = record {
