@@ -1,4 +1,5 @@
--- The digits of the k-th value are found from the top one down: each is told by how many rows have the digits so far and the leading one.
+-- The digits of the k-th value are found from the top one down: each is told by how many rows have the digits so far and
+-- the leading one.
 -- Assumes nothing.
 use Prim.Native.Nat.{ℕ, zero, suc, _+_, _-_, _*_, _/_, _%_, _^_, _≤_, _<_}
 use mathlib.Core.Bool.{Bool, true, false, not, _&&_, _||_}
@@ -95,33 +96,37 @@ not-lead Smallest (suc (suc b)) h = absurd (omega arith)
 -- ---- one place down
 
 module _ (op : Ranking) (R : ℕ) (exists : ℕ → Bool) (v : ℕ → ℕ) (i P : ℕ) where
-  -- the digits of row r above place i, and the digit there
+  -- the digits of row r from place i on, those above it, and the one there
+  abbrev from : ℕ → ℕ
+  from r = v r / 2 ^ i
+
   abbrev up : ℕ → ℕ
   up r = v r / 2 ^ suc i
 
   abbrev digit : ℕ → ℕ
-  digit r = v r / 2 ^ i % 2
+  digit r = from r % 2
 
+  -- how many rows come before digits from a place on, and how many have them
   abbrev A : ℕ → ℕ → ℕ
   A = aheadFrom op R exists v
 
   abbrev L : ℕ → ℕ → ℕ
-  L = levelFrom op R exists v
+  L = levelFrom R exists v
 
   digit-low : (r : ℕ) → digit r < 2
   digit-low r = omega arith
 
-  parts : (r : ℕ) → v r / 2 ^ i ≡ 2 * up r + digit r
+  parts : (r : ℕ) → from r ≡ 2 * up r + digit r
   parts r = let e : i + 1 ≡ suc i = omega arith in omega (arith, rw e at (shr-shr (v r) i 1))
 
   -- by the digits above and this one
-  above-at : (d r : ℕ) → d < 2 → above op exists (λ s. v s / 2 ^ i) (2 * P + d) r
+  above-at : (d r : ℕ) → d < 2 → above op exists from (2 * P + d) r
       ≡ exists r && (ahead op (up r) P || (eqb (up r) P && ahead op (digit r) d))
   above-at d r h =
       ap (λ (x : ℕ). exists r && ahead op x (2 * P + d)) (parts r)
       ∙ ap (λ (t : Bool). exists r && t) (ahead-digit op (up r) (digit r) P d (digit-low r) h)
 
-  level-at : (d r : ℕ) → d < 2 → level exists (λ s. v s / 2 ^ i) (2 * P + d) r ≡ level exists up P r && eqb (digit r) d
+  level-at : (d r : ℕ) → d < 2 → level exists from (2 * P + d) r ≡ level exists up P r && eqb (digit r) d
   level-at d r h =
       ap (λ (x : ℕ). exists r && eqb x (2 * P + d)) (parts r)
       ∙ ap (λ (t : Bool). exists r && t) (eqb-digit (up r) (digit r) P d (digit-low r) h)
@@ -134,7 +139,7 @@ module _ (op : Ranking) (R : ℕ) (exists : ℕ → Bool) (v : ℕ → ℕ) (i P
   -- what comes before P and the leading digit comes before P
   pub same-lead : A i (2 * P + lead op) ≡ A (suc i) P
   same-lead =
-      count-ext R (above op exists (λ s. v s / 2 ^ i) (2 * P + lead op)) (above op exists up P)
+      count-ext R (above op exists from (2 * P + lead op)) (above op exists up P)
       (λ r l. above-at (lead op) r (lead-low op)
       ∙ rw (none-ahead op (digit r) (digit-low r)) (plain (exists r) (ahead op (up r) P) (eqb (up r) P)))
     where
@@ -147,18 +152,18 @@ module _ (op : Ranking) (R : ℕ) (exists : ℕ → Bool) (v : ℕ → ℕ) (i P
   -- before P and the other digit come these, and what has P and the leading digit
   pub other-digit : A i (2 * P + (1 - lead op)) ≡ A (suc i) P + L i (2 * P + lead op)
   other-digit =
-      count-ext R (above op exists (λ s. v s / 2 ^ i) (2 * P + (1 - lead op)))
-      (λ r. above op exists up P r || level exists (λ s. v s / 2 ^ i) (2 * P + lead op) r) (λ r l. row r)
-      ∙ count-apart R (above op exists up P) (level exists (λ s. v s / 2 ^ i) (2 * P + lead op)) apart
+      count-ext R (above op exists from (2 * P + (1 - lead op)))
+      (λ r. above op exists up P r || level exists from (2 * P + lead op) r) (λ r l. row r)
+      ∙ count-apart R (above op exists up P) (level exists from (2 * P + lead op)) apart
     where
-      row : (r : ℕ) → above op exists (λ s. v s / 2 ^ i) (2 * P + (1 - lead op)) r
-          ≡ above op exists up P r || level exists (λ s. v s / 2 ^ i) (2 * P + lead op) r
+      row : (r : ℕ) → above op exists from (2 * P + (1 - lead op)) r
+          ≡ above op exists up P r || level exists from (2 * P + lead op) r
       row r =
           above-at (1 - lead op) r (omega arith)
           ∙ rw (lead-ahead op (digit r) (digit-low r), level-at (lead op) r (lead-low op))
           (and-over-or (exists r) (ahead op (up r) P) (eqb (up r) P) (eqb (digit r) (lead op)))
 
-      apart : (r : ℕ) → above op exists up P r ≡ true → level exists (λ s. v s / 2 ^ i) (2 * P + lead op) r ≡ false
+      apart : (r : ℕ) → above op exists up P r ≡ true → level exists from (2 * P + lead op) r ≡ false
       apart r a = level-at (lead op) r (lead-low op) ∙ rw (above-not-level op exists up P r a)
 
   -- what has P has one digit or the other
@@ -166,10 +171,10 @@ module _ (op : Ranking) (R : ℕ) (exists : ℕ → Bool) (v : ℕ → ℕ) (i P
   level-parts =
       count-split R (level exists up P) (λ r. eqb (digit r) (lead op))
       ∙ ap₂ (λ (m n : ℕ). m + n)
-      (count-ext R (λ r. level exists up P r && eqb (digit r) (lead op)) (level exists (λ s. v s / 2 ^ i) (2 * P + lead op))
+      (count-ext R (λ r. level exists up P r && eqb (digit r) (lead op)) (level exists from (2 * P + lead op))
       (λ r l. sym (level-at (lead op) r (lead-low op))))
       (count-ext R (λ r. level exists up P r && not (eqb (digit r) (lead op)))
-      (level exists (λ s. v s / 2 ^ i) (2 * P + (1 - lead op)))
+      (level exists from (2 * P + (1 - lead op)))
       (λ r l. rw (← not-lead op (digit r) (digit-low r)) (sym (level-at (1 - lead op) r (omega arith)))))
 
 -- ---- what holds while the digits are found
@@ -179,11 +184,17 @@ pub narrowed-none : (op : Ranking) (R : ℕ) (exists : ℕ → Bool) (v : ℕ �
     → ((r : ℕ) → v r < 2 ^ n) → Narrowed op R exists v k n 0 k
 narrowed-none op R exists v k n h low = record {
   counts =
-      let none = count-none R (above op exists (λ r. v r / 2 ^ n) 0) (λ r l. rw (empty r, ahead-self op 0) (and-no (exists r))) in
-      omega arith;
+      omega (
+        arith,
+        count-none R (above op exists (λ r. v r / 2 ^ n) 0)
+            (λ r l. rw (empty r, ahead-self op 0) (and-no (exists r))),
+      );
   some =
-      let all = count-ext R exists (level exists (λ r. v r / 2 ^ n) 0) (λ r l. rw (empty r) (sym (and-yes (exists r)))) in
-      omega arith;
+      omega (
+        arith,
+        count-ext R exists (level exists (λ r. v r / 2 ^ n) 0)
+            (λ r l. rw (empty r) (sym (and-yes (exists r)))),
+      );
 }
   where
     empty : (r : ℕ) → v r / 2 ^ n ≡ 0
@@ -192,15 +203,14 @@ narrowed-none op R exists v k n h low = record {
 module _ {op : Ranking} {R : ℕ} {exists : ℕ → Bool} {v : ℕ → ℕ} {k : ℕ} where
   -- the next digit is the leading one where enough rows have it
   pub narrowed-lead : {i P take : ℕ} → Narrowed op R exists v k (suc i) P take
-      → take ≤ countBelow R (level exists (λ r. v r / 2 ^ i) (2 * P + lead op))
+      → take ≤ levelFrom R exists v i (2 * P + lead op)
       → Narrowed op R exists v k i (2 * P + lead op) take
   narrowed-lead {i} {P} {take} g h = record { counts = omega (arith, same-lead op R exists v i P, g .counts); some = h }
 
   -- and else the other, with fewer rows to take
   pub narrowed-other : {i P take : ℕ} → Narrowed op R exists v k (suc i) P take
-      → countBelow R (level exists (λ r. v r / 2 ^ i) (2 * P + lead op)) < take
-      → Narrowed op R exists v k i (2 * P + (1 - lead op))
-      (take - countBelow R (level exists (λ r. v r / 2 ^ i) (2 * P + lead op)))
+      → levelFrom R exists v i (2 * P + lead op) < take
+      → Narrowed op R exists v k i (2 * P + (1 - lead op)) (take - levelFrom R exists v i (2 * P + lead op))
   narrowed-other {i} {P} {take} g h = record {
     counts = omega (arith, other-digit op R exists v i P, g .counts);
     some = omega (arith, level-parts op R exists v i P, g .some);
@@ -209,10 +219,10 @@ module _ {op : Ranking} {R : ℕ} {exists : ℕ → Bool} {v : ℕ → ℕ} {k :
   -- at the end P is the k-th value
   pub narrowed-all : {P take : ℕ} → Narrowed op R exists v k 0 P take
       → (countBelow R (above op exists v P) + take ≡ k) × (take ≤ countBelow R (level exists v P))
-  narrowed-all {P} {take} g = (
-    omega (arith, count-ext R (above op exists (λ r. v r / 2 ^ 0) P) (above op exists v P) (λ r l. rw (whole r)), g .counts),
-    omega (arith, count-ext R (level exists (λ r. v r / 2 ^ 0) P) (level exists v P) (λ r l. rw (whole r)), g .some),
-  )
+  narrowed-all {P} {take} g =
+      let a = count-ext R (above op exists (λ r. v r / 2 ^ 0) P) (above op exists v P) (λ r l. rw (whole r)) in
+      let b = count-ext R (level exists (λ r. v r / 2 ^ 0) P) (level exists v P) (λ r l. rw (whole r)) in
+      (omega (arith, a, g .counts), omega (arith, b, g .some))
     where
       whole : (r : ℕ) → v r / 2 ^ 0 ≡ v r
       whole r = omega arith

@@ -48,7 +48,7 @@ asked-means index list k = (to, from)
         × (strays index list ≡ sound)
         → RankAsked index list k
     from h =
-        let b = or-false (badColumn index mostColumn list) (ltb (countBelow (rowCount index) (existing index list)) k) (h .1) in
+        let b = or-false (badColumn index mostColumn list) _ (h .1) in
         let l = column-length index mostColumn list (b .0) in
         record {
           isSound = h .0;

@@ -1,5 +1,5 @@
--- The k rows that come first, by value and then by number, are exactly k, and four properties tell them from all others. They are the
--- rows before a value, and of the rows that have it those below a row.
+-- The k rows that come first, by value and then by number, are exactly k, and four properties tell them from all others.
+-- They are the rows before a value, and of the rows that have it those below a row.
 -- Assumes nothing.
 use Prim.Native.Nat.{ℕ, zero, suc, _+_, _-_, _≤_, _<_}
 use mathlib.Core.Bool.{Bool, true, false, not, _&&_, _||_, true≢false, false≢true}
@@ -31,7 +31,8 @@ bit-mono true false f = absurd (false≢true (f refl))
 bit-mono false b f = unfold bit in omega arith
 
 -- fewer rows
-pub count-mono : (n : ℕ) (p q : ℕ → Bool) → ((r : ℕ) → r < n → p r ≡ true → q r ≡ true) → countBelow n p ≤ countBelow n q
+pub count-mono : (n : ℕ) (p q : ℕ → Bool) → ((r : ℕ) → r < n → p r ≡ true → q r ≡ true)
+    → countBelow n p ≤ countBelow n q
 unfolding countBelow sumBelow
 count-mono zero p q h = omega arith
 count-mono (suc n) p q h =
@@ -245,7 +246,8 @@ module _ (op : Ranking) (R : ℕ) (exists : ℕ → Bool) (v : ℕ → ℕ) wher
   -- fewer rows come before a row that comes before
   rank-less : (r s : ℕ) → s < R → Before r s → rankOf s < rankOf r
   rank-less r s l b =
-      count-strict R (precedes op exists v s) (precedes op exists v r) (λ t g c. before-trans r s t b c) s l (before-self s) b
+      count-strict R (precedes op exists v s) (precedes op exists v r) (λ t g c. before-trans r s t b c)
+      s l (before-self s) b
 
   -- fewer than there are
   rank-low : (r : ℕ) → r < R → exists r ≡ true → rankOf r < countBelow R exists
@@ -376,7 +378,8 @@ module _ (op : Ranking) (R : ℕ) (exists : ℕ → Bool) (v : ℕ → ℕ) wher
         let x = exchange R p q (f .count ∙ sym (g .count)) r l a b in
         crossed r (x .0) l (x .1) a (x .3) (x .2) b
 
-  same-rows : (k : ℕ) (p q : ℕ → Bool) → Ranked op R exists v k p → Ranked op R exists v k q → (r : ℕ) → r < R → p r ≡ q r
+  same-rows : (k : ℕ) (p q : ℕ → Bool) → Ranked op R exists v k p → Ranked op R exists v k q
+      → (r : ℕ) → r < R → p r ≡ q r
   same-rows k p q f g r l = go (p r) refl (q r) refl
     where
       go : (t : Bool) → p r ≡ t → (u : Bool) → q r ≡ u → p r ≡ q r
@@ -397,7 +400,8 @@ module _ (op : Ranking) (R : ℕ) (exists : ℕ → Bool) (v : ℕ → ℕ) wher
     -- before a row that comes before the value there are fewer rows than such
     above-rank : (r : ℕ) → r < R → exists r ≡ true → ahead op (v r) m ≡ true → rankOf r < countBelow R better
     above-rank r l e a =
-        count-strict R (precedes op exists v r) better inner r l (before-self r) (and-both (exists r) (ahead op (v r) m) e a)
+        count-strict R (precedes op exists v r) better inner
+        r l (before-self r) (and-both (exists r) (ahead op (v r) m) e a)
       where
         inner : (s : ℕ) → s < R → Before r s → better s ≡ true
         inner s g b =
@@ -433,7 +437,8 @@ module _ (op : Ranking) (R : ℕ) (exists : ℕ → Bool) (v : ℕ → ℕ) wher
               (or-cases (better s) (equal s) h)),
         )
 
-    -- THE LAW OF THE PIVOT: the first k rows are those before m, and of those of m the ones below `cut`, where these are k
+    -- THE LAW OF THE PIVOT: the first k rows are those before m, and of those that have m the ones below `cut`, where
+    -- these are k
     pub pivot-rows : (k take cut : ℕ) → countBelow R (above op exists v m) + take ≡ k
         → take ≤ countBelow R (level exists v m) → countBelow cut (level exists v m) ≡ take → (r : ℕ) → r < R
         → firstRows op R exists v k r ≡ above op exists v m r || (level exists v m r && ltb r cut)

@@ -1,4 +1,5 @@
--- How the k-th value is found, digit by digit from the top one down, for contracts of the code that does it. No rule of a paper is here.
+-- How the k-th value is found, digit by digit from the top one down, for contracts of the code that does it. No rule of a
+-- paper is here.
 -- Assumes nothing.
 use Prim.Native.Nat.{ℕ, _+_, _/_, _^_, _≤_}
 use mathlib.Core.Bool.{Bool, _&&_}
@@ -22,16 +23,15 @@ abbrev pub lead : Ranking → ℕ
 lead Largest = 1
 lead Smallest = 0
 
-module _ (op : Ranking) (R : ℕ) (exists : ℕ → Bool) (v : ℕ → ℕ) where
-  -- how many rows come before P by their digits from place i on
-  abbrev pub aheadFrom : (i P : ℕ) → ℕ
-  aheadFrom i P = countBelow R (above op exists (λ r. v r / 2 ^ i) P)
+-- how many rows come before P by their digits from place i on
+abbrev pub aheadFrom : (op : Ranking) (R : ℕ) (exists : ℕ → Bool) (v : ℕ → ℕ) (i P : ℕ) → ℕ
+aheadFrom op R exists v i P = countBelow R (above op exists (λ r. v r / 2 ^ i) P)
 
-  -- how many have the digits P there
-  abbrev pub levelFrom : (i P : ℕ) → ℕ
-  levelFrom i P = countBelow R (level exists (λ r. v r / 2 ^ i) P)
+-- how many have the digits P there
+abbrev pub levelFrom : (R : ℕ) (exists : ℕ → Bool) (v : ℕ → ℕ) (i P : ℕ) → ℕ
+levelFrom R exists v i P = countBelow R (level exists (λ r. v r / 2 ^ i) P)
 
-  -- the digits from place i on of the k-th value are P: `take` rows that have them, and all that come before them, are k
-  pub record Narrowed (k i P take : ℕ) : Type 0 where
-    pub counts : countBelow R (above op exists (λ r. v r / 2 ^ i) P) + take ≡ k
-    pub some : take ≤ countBelow R (level exists (λ r. v r / 2 ^ i) P)
+-- the k-th value has the digits P from place i on: the rows that come before P, and `take` of those that have P, are k
+pub record Narrowed (op : Ranking) (R : ℕ) (exists : ℕ → Bool) (v : ℕ → ℕ) (k i P take : ℕ) : Type 0 where
+  pub counts : aheadFrom op R exists v i P + take ≡ k
+  pub some : take ≤ levelFrom R exists v i P
