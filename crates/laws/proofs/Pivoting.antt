@@ -22,6 +22,7 @@ use Rattle.laws.proofs.Ranking.{ahead-self, count-split, count-apart, a
 
 -- ---- two numbers are told apart by their upper digits, or by the lowest
 
+-- the smaller by the upper digits, or with the same upper digits by the lowest
 ltb-digit : (a b c d : ℕ) → b < 2 → d < 2 → ltb (2 * a + b) (2 * c + d) ≡ ltb a c || (eqb a c && ltb b d)
 ltb-digit a b c d l m = elim (decLe (suc a) c) [
   | yes h ↦ rw (lt-ltb a c h) (lt-ltb (2 * a + b) (2 * c + d) (omega arith))
@@ -39,6 +40,7 @@ ltb-digit a b c d l m = elim (decLe (suc a) c) [
       | no h ↦ le-ltb (2 * a + b) (2 * c + d) (omega arith) ∙ sym (le-ltb b d (omega arith))
     ]
 
+-- equality goes both ways
 eqb-swap : (a b : ℕ) → eqb a b ≡ eqb b a
 eqb-swap a b = go (eqb b a) refl
   where
@@ -46,12 +48,14 @@ eqb-swap a b = go (eqb b a) refl
     go true e = eq-eqb a b (sym (eqb-true b a e)) ∙ sym e
     go false e = ne-eqb a b (λ f. eqb-false b a e (sym f)) ∙ sym e
 
+-- the one that comes first
 pub ahead-digit : (op : Ranking) (a b c d : ℕ) → b < 2 → d < 2
     → ahead op (2 * a + b) (2 * c + d) ≡ ahead op a c || (eqb a c && ahead op b d)
 unfolding ahead
 ahead-digit Largest a b c d l m = rw (eqb-swap a c) (ltb-digit c d a b m l)
 ahead-digit Smallest a b c d l m = ltb-digit a b c d l m
 
+-- the same by both
 pub eqb-digit : (a b c d : ℕ) → b < 2 → d < 2 → eqb (2 * a + b) (2 * c + d) ≡ eqb a c && eqb b d
 eqb-digit a b c d l m = go (eqb a c) refl (eqb b d) refl
   where
@@ -64,6 +68,7 @@ eqb-digit a b c d l m = go (eqb a c) refl (eqb b d) refl
 
 -- ---- the leading digit and the other
 
+-- the leading one is a digit
 lead-low : (op : Ranking) → lead op < 2
 lead-low Largest = omega arith
 lead-low Smallest = omega arith
@@ -113,19 +118,22 @@ module _ (op : Ranking) (R : ℕ) (exists : ℕ → Bool) (v : ℕ → ℕ) (i P
   abbrev L : ℕ → ℕ → ℕ
   L = levelFrom R exists v
 
+  -- it is a digit
   digit-low : (r : ℕ) → digit r < 2
   digit-low r = omega arith
 
+  -- the digits from place i on are those above it, and the one there
   parts : (r : ℕ) → from r ≡ 2 * up r + digit r
   parts r = let e : i + 1 ≡ suc i = omega arith in omega (arith, rw e at (shr-shr (v r) i 1))
 
-  -- by the digits above and this one
+  -- a row comes before digits by those above, or by this one where it has those above
   above-at : (d r : ℕ) → d < 2 → above op exists from (2 * P + d) r
       ≡ exists r && (ahead op (up r) P || (eqb (up r) P && ahead op (digit r) d))
   above-at d r h =
       ap (λ (x : ℕ). exists r && ahead op x (2 * P + d)) (parts r)
       ∙ ap (λ (t : Bool). exists r && t) (ahead-digit op (up r) (digit r) P d (digit-low r) h)
 
+  -- a row has digits if it has those above and this one
   level-at : (d r : ℕ) → d < 2 → level exists from (2 * P + d) r ≡ level exists up P r && eqb (digit r) d
   level-at d r h =
       ap (λ (x : ℕ). exists r && eqb x (2 * P + d)) (parts r)

@@ -30,6 +30,7 @@ use Rattle.laws.proofs.Ranking.{cut-there, rank-laws}
 
 -- ---- what is asked
 
+-- it is asked exactly where nothing but the room can be refused
 asked-means : RankAskedMeans
 unfolding check badRank
 asked-means index list k = (to, from)
@@ -167,6 +168,7 @@ rank-holds = record {
 -- ---- the order of refusals
 
 module _ (op : Ranking) (index list : List ℕ) (k room : ℕ) where
+  -- the two tests of 8
   abbrev noColumn : Bool
   noColumn = badColumn index mostColumn list
 
@@ -193,6 +195,7 @@ module _ (op : Ranking) (index list : List ℕ) (k room : ℕ) where
       → ranked index op list k room ≡ write (formatOf index) (rowCount index) (rankedRows index op list k) room
   asks-room g n = asks-strays g ∙ then-sound (strays index list) _ n
 
+  -- so this is the order
   of-rank : RankOrder op index list k room
   of-rank = record {
     faulty = λ n b w e. unfold ranked in then-refused (check index) _ n b w e;

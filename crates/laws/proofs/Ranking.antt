@@ -132,11 +132,13 @@ exchange n p q e r l a b =
 
 -- ---- the order of values
 
+-- no value comes before itself
 pub ahead-self : (op : Ranking) (x : ℕ) → ahead op x x ≡ false
 unfolding ahead
 ahead-self Largest x = le-ltb x x (omega arith)
 ahead-self Smallest x = le-ltb x x (omega arith)
 
+-- a value before one before another is before that too
 ahead-trans : (op : Ranking) (x y z : ℕ) → ahead op x y ≡ true → ahead op y z ≡ true → ahead op x z ≡ true
 unfolding ahead
 ahead-trans Largest x y z a b = lt-ltb z x (omega (arith, ltb-true y x a, ltb-true z y b))
@@ -151,6 +153,7 @@ ahead-total Smallest x y a b = omega (arith, ltb-false x y a, ltb-false y x b)
 -- ---- the rows that come before a value, and those that have it
 
 module _ (op : Ranking) (exists : ℕ → Bool) (v : ℕ → ℕ) (m r : ℕ) where
+  -- what is known of a row that comes before the value, and of one that has it
   in-above : above op exists v m r ≡ true → (exists r ≡ true) × (ahead op (v r) m ≡ true)
   in-above h = both (exists r) (ahead op (v r) m) h
 
@@ -182,16 +185,19 @@ module _ (op : Ranking) (R : ℕ) (exists : ℕ → Bool) (v : ℕ → ℕ) wher
   abbrev rankOf : ℕ → ℕ
   rankOf r = countBelow R (precedes op exists v r)
 
+  -- it does by its value
   by-value : (r s : ℕ) → exists s ≡ true → ahead op (v s) (v r) ≡ true → Before r s
   unfolding precedes
   by-value r s e a = rw (e, a)
 
+  -- or by its number
   by-number : (r s : ℕ) → exists s ≡ true → v s ≡ v r → s < r → Before r s
   unfolding precedes
   by-number r s e a l =
       and-both (exists s) _ e
       (or-true (ahead op (v s) (v r)) _ (and-both (eqb (v s) (v r)) _ (eq-eqb (v s) (v r) a) (lt-ltb s r l)))
 
+  -- and in no other way
   before-cases : (r s : ℕ) → Before r s → (exists s ≡ true) × ((ahead op (v s) (v r) ≡ true) ⊎ ((v s ≡ v r) × (s < r)))
   unfolding precedes
   before-cases r s b =
@@ -202,6 +208,7 @@ module _ (op : Ranking) (R : ℕ) (exists : ℕ → Bool) (v : ℕ → ℕ) wher
             (or-cases (ahead op (v s) (v r)) _ (p .1)),
       )
 
+  -- a row before one before another is before that too
   before-trans : (r s t : ℕ) → Before r s → Before s t → Before r t
   before-trans r s t b c =
       let p = before-cases r s b in
@@ -217,6 +224,7 @@ module _ (op : Ranking) (R : ℕ) (exists : ℕ → Bool) (v : ℕ → ℕ) wher
       (q .1))
       (p .1)
 
+  -- and no row before itself
   before-self : (r : ℕ) → precedes op exists v r r ≡ false
   before-self r =
       never-true (precedes op exists v r r)
@@ -263,16 +271,19 @@ module _ (op : Ranking) (R : ℕ) (exists : ℕ → Bool) (v : ℕ → ℕ) wher
 
   -- ---- exactly k
 
+  -- the rows that are looked for
   abbrev first : ℕ → ℕ → Bool
   first k = firstRows op R exists v k
 
+  -- how many exist
   abbrev E : ℕ
   E = countBelow R exists
 
-  -- the existing rows that have k rows before them: one at most
+  -- the existing rows that have k rows before them
   abbrev atRank : ℕ → ℕ → Bool
   atRank k r = exists r && eqb (rankOf r) k
 
+  -- one at most
   at-rank : (k : ℕ) → countBelow R (atRank k) ≤ 1
   at-rank k = count-one R (atRank k) (λ r s lr ls a b.
       let p = both (exists r) (eqb (rankOf r) k) a in
@@ -291,6 +302,7 @@ module _ (op : Ranking) (R : ℕ) (exists : ℕ → Bool) (v : ℕ → ℕ) wher
     ]
   ]
 
+  -- so one row more for k + 1
   first-more : (k : ℕ) → countBelow R (first (suc k)) ≡ countBelow R (first k) + countBelow R (atRank k)
   unfolding firstRows countBelow
   first-more k =
@@ -298,14 +310,17 @@ module _ (op : Ranking) (R : ℕ) (exists : ℕ → Bool) (v : ℕ → ℕ) wher
       (λ r l. one-more (exists r) (rankOf r) k)
       ∙ sum-add R (λ r. bit (first k r)) (λ r. bit (atRank k r))
 
+  -- none for 0
   none-first : (r : ℕ) → first 0 r ≡ false
   unfolding firstRows
   none-first r = rw (le-ltb (rankOf r) 0 (omega arith)) (and-no (exists r))
 
+  -- k at most
   first-most : (k : ℕ) → countBelow R (first k) ≤ k
   first-most zero = omega (arith, count-none R (first 0) (λ r l. none-first r))
   first-most (suc k) = omega (arith, first-more k, at-rank k, first-most k)
 
+  -- all that exist, for as many
   all-first : (r : ℕ) → r < R → first E r ≡ exists r
   unfolding firstRows
   all-first r l = go (exists r) refl
@@ -314,21 +329,25 @@ module _ (op : Ranking) (R : ℕ) (exists : ℕ → Bool) (v : ℕ → ℕ) wher
       go true h = rw (h, lt-ltb (rankOf r) E (rank-low r l h))
       go false h = rw h
 
+  -- k at least, from the end down
   first-least : (n k : ℕ) → k + n ≡ E → k ≤ countBelow R (first k)
   first-least zero k h =
       let e : k ≡ E = omega arith in
       subst (λ (j : ℕ). j ≤ countBelow R (first j)) (sym e) (omega (arith, count-ext R (first E) exists all-first))
   first-least (suc n) k h = omega (arith, first-least n (suc k) (omega arith), first-more k, at-rank k)
 
+  -- exactly k
   first-count : (k : ℕ) → k ≤ E → countBelow R (first k) ≡ k
   first-count k h = omega (arith, first-most k, first-least (E - k) k (omega arith))
 
   -- ---- the four properties
 
+  -- a row inside exists, with fewer than k rows before it
   first-in : (k r : ℕ) → first k r ≡ true → (exists r ≡ true) × (rankOf r < k)
   unfolding firstRows
   first-in k r h = let p = both (exists r) (ltb (rankOf r) k) h in (p .0, ltb-true (rankOf r) k (p .1))
 
+  -- an existing row outside has k or more
   first-out : (k s : ℕ) → exists s ≡ true → first k s ≡ false → k ≤ rankOf s
   unfolding firstRows
   first-out k s e h = ltb-false (rankOf s) k (rw e at h)
@@ -344,6 +363,7 @@ module _ (op : Ranking) (R : ℕ) (exists : ℕ → Bool) (v : ℕ → ℕ) wher
   outside-before : (k r s : ℕ) → s < R → first k r ≡ true → first k s ≡ false → exists s ≡ true → Before r s → ⊥
   outside-before k r s l a b e c = omega (arith, first-in k r a .1, first-out k s e b, rank-less r s l c)
 
+  -- the rows have the four properties
   first-ranked : (k : ℕ) → k ≤ E → Ranked op R exists v k (first k)
   first-ranked k h = record {
     count = first-count k h;
@@ -366,6 +386,7 @@ module _ (op : Ranking) (R : ℕ) (exists : ℕ → Bool) (v : ℕ → ℕ) wher
 
   -- two sets with these properties have the same rows
   module _ (k : ℕ) (p q : ℕ → Bool) (f : Ranked op R exists v k p) (g : Ranked op R exists v k q) where
+    -- it cannot be that each has a row that the other lacks
     crossed : (r s : ℕ) → r < R → s < R → p r ≡ true → p s ≡ false → q s ≡ true → q r ≡ false → ⊥
     crossed r s lr ls a b c d =
         let er = f .exist r lr a in
@@ -373,6 +394,7 @@ module _ (op : Ranking) (R : ℕ) (exists : ℕ → Bool) (v : ℕ → ℕ) wher
         let e : v s ≡ v r = ahead-total op (v s) (v r) (f .best r s lr ls a b es) (g .best s r ls lr c d er) in
         omega (arith, f .ties r s lr ls a b es e, g .ties s r ls lr c d er (sym e))
 
+    -- nor that one has, since then the other has too, being of equal size
     one-way : (r : ℕ) → r < R → p r ≡ true → q r ≡ false → ⊥
     one-way r l a b =
         let x = exchange R p q (f .count ∙ sym (g .count)) r l a b in
@@ -391,6 +413,7 @@ module _ (op : Ranking) (R : ℕ) (exists : ℕ → Bool) (v : ℕ → ℕ) wher
   -- ---- by the value m
 
   module _ (m : ℕ) where
+    -- the rows before m, and those that have it
     abbrev better : ℕ → Bool
     better = above op exists v m
 

@@ -25,19 +25,23 @@ never-true false h = refl
 pub never-both : (t : Bool) → t ≡ true → t ≡ false → ⊥
 never-both t e f = true≢false (sym e ∙ f)
 
+-- one of two tests holds
 pub or-cases : (a b : Bool) → a || b ≡ true → (a ≡ true) ⊎ (b ≡ true)
 or-cases true b e = inl refl
 or-cases false b e = inr e
 
+-- two tests hold
 pub and-both : (a b : Bool) → a ≡ true → b ≡ true → a && b ≡ true
 and-both a b e f = rw (e, f)
 
+-- in either order
 pub and-swap : (a b : Bool) → a && b ≡ b && a
 and-swap true true = refl
 and-swap true false = refl
 and-swap false true = refl
 and-swap false false = refl
 
+-- with a test that holds, and with one that fails
 pub and-yes : (a : Bool) → a && true ≡ a
 and-yes true = refl
 and-yes false = refl
