@@ -14,6 +14,7 @@ use Rattle.meaning.specs.Limits.{wordBits, blockSegments}
 use Rattle.meaning.specs.Segment.{bitAt, isSet}
 use Rattle.meaning.specs.Column.{pairValue}
 use Rattle.meaning.specs.declared.Pairing.the-variants.{Difference, Smaller, DifferenceOrZero}
+use Rattle.laws.proofs.Tests.{and-assoc}
 use Rattle.words.proofs.BitLaws.{and-set}
 use Rattle.adder.specs.Digits.{numberAt, Paired, NotLess}
 use Rattle.adder.specs.Blocks.{RowOf, ChosenBy, Existing}
@@ -92,10 +93,6 @@ chosen-digit {x} {y} {a} {b} {m} {d} {n} {i} less p q c h w j l k =
   where
     ap₃ : {s s′ t t′ u u′ : Bool} → s ≡ s′ → t ≡ t′ → u ≡ u′ → cond s t u ≡ cond s′ t′ u′
     ap₃ e f g = rw (e, f, g)
-
-and-assoc : (s t u : Bool) → (s && t) && u ≡ s && (t && u)
-and-assoc true t u = refl
-and-assoc false t u = refl
 
 -- row i of the difference in the block z, masked where x is less
 pub kept-digit : {x y z m : List ℕ} {n : ℕ} (a : List ℕ) (i : ℕ) → NotLess x y n m → Paired (pairValue Difference) x y n z → i < n

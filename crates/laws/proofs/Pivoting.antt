@@ -100,6 +100,10 @@ not-lead Smallest (suc (suc b)) h = absurd (omega arith)
 
 -- ---- one place down
 
+-- a number's digits from place i on are those above it, and the one there
+pub halves : (x i : ℕ) → x / 2 ^ i ≡ 2 * (x / 2 ^ suc i) + x / 2 ^ i % 2
+halves x i = let e : i + 1 ≡ suc i = omega arith in omega (arith, rw e at (shr-shr x i 1))
+
 module _ (op : Ranking) (R : ℕ) (exists : ℕ → Bool) (v : ℕ → ℕ) (i P : ℕ) where
   -- the digits of row r from place i on, those above it, and the one there
   abbrev from : ℕ → ℕ
@@ -122,9 +126,8 @@ module _ (op : Ranking) (R : ℕ) (exists : ℕ → Bool) (v : ℕ → ℕ) (i P
   digit-low : (r : ℕ) → digit r < 2
   digit-low r = omega arith
 
-  -- the digits from place i on are those above it, and the one there
   parts : (r : ℕ) → from r ≡ 2 * up r + digit r
-  parts r = let e : i + 1 ≡ suc i = omega arith in omega (arith, rw e at (shr-shr (v r) i 1))
+  parts r = halves (v r) i
 
   -- a row comes before digits by those above, or by this one where it has those above
   above-at : (d r : ℕ) → d < 2 → above op exists from (2 * P + d) r

@@ -41,6 +41,10 @@ and-swap true false = refl
 and-swap false true = refl
 and-swap false false = refl
 
+pub and-assoc : (a b c : Bool) → (a && b) && c ≡ a && (b && c)
+and-assoc true b c = refl
+and-assoc false b c = refl
+
 -- with a test that holds, and with one that fails
 pub and-yes : (a : Bool) → a && true ≡ a
 and-yes true = refl
