@@ -1,10 +1,10 @@
--- `pairs::choose::choose` meets its contract: each way is a law of `Choosing`.
+-- `blocks::choose::choose` meets its contract: each way is a law of `Choosing`.
 -- Assumes nothing.
 use native.Mathlib.Omega.{arith}
 use borrow.Author.Needs.{needs}
-use Rattle.pairs.proofs.Choosing.{chosen-run, chosen-one, chosen-block}
-use Rattle.pairs.proofs.choose.choose.Statement.{statement}
-use Rattle.pairs.proofs.choose.choose.Tie as tie
+use Rattle.blocks.proofs.Choosing.{chosen-run, chosen-one, chosen-block}
+use Rattle.blocks.proofs.choose.choose.Statement.{statement}
+use Rattle.blocks.proofs.choose.choose.Tie as tie
 
 wide-requires : tie.Need-wide-requires
 wide-requires c κs = search needs

@@ -5,7 +5,7 @@ use mathlib.Core.Bool.{true, false, true≢false}
 use mathlib.Core.Path.{_≡_, sym}
 use native.Mathlib.Omega.{arith}
 use Rattle.meaning.specs.Limits.{blockSegments}
-use Rattle.pairs.specs.Passes.{Chosen}
+use Rattle.blocks.specs.Blocks.{Chosen}
 
 module _ (near S o : ℕ) (inside : o < S) where
   -- the segments before the nearest end

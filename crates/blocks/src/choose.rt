@@ -1,0 +1,33 @@
+// How many segments come next, and whether as a run: where no piece ends within a block or more, the segments up to the nearest end are
+// alike in every place, and one word for each says them all.
+ghost use Prim.Native.Nat.{_<_};
+ghost use Rattle.blocks.specs.Blocks.{Chosen};
+use meaning::BLOCK_SEGMENTS;
+use walk::survey;
+
+// So many segments, and whether all of them are alike in every place.
+pub struct Step {
+    pub n: u32,
+    pub even: bool,
+}
+
+// The next segments from segment o on, where no piece ends within the next `near`. Behind a run comes one segment
+// alone: often the next run begins behind it, and a block would cut that.
+pub fn choose(near: u32, o: u32, end: u32, behind_run: bool) -> Step
+    requires { ⌜ o < end ⌝ }
+    ensures { λ r. ⌜ Chosen near end o (r .n) (r .even) ⌝ }
+{
+    if BLOCK_SEGMENTS <= contents::wide(near) {
+        return Step {
+            n: survey::smaller(near, end - o),
+            even: true,
+        };
+    }
+    if behind_run {
+        return Step { n: 1, even: false };
+    }
+    Step {
+        n: survey::smaller(BLOCK_SEGMENTS as u32, end - o),
+        even: false,
+    }
+}
