@@ -12,13 +12,14 @@ use Rattle.meaning.specs.Index.{formatOf}
 use Rattle.block_read.specs.Taken.{wordAt}
 use Rattle.walk.specs.Queries.{Standing, placeBody}
 
--- the next n segments from segment o on, up to `end` at most, where no piece ends before `near`: all within the
--- pieces, or at most a block's
+-- the next n segments from segment o on, up to `end` at most, where no piece ends before `near`: several and all within
+-- the pieces, or at most a block's
 pub record Chosen (near end o n : ℕ) (even : Bool) : Type 0 where
   pub some : 1 ≤ n
   pub within : o + n ≤ end
   pub in-pieces : even ≡ true → n ≤ near
   pub in-runs : even ≡ true → blockSegments ≤ near
+  pub several : even ≡ true → 2 ≤ n
   pub in-block : even ≡ false → n ≤ blockSegments
 
 -- every cursor stands at segment o of its body
