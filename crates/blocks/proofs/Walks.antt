@@ -1,8 +1,8 @@
 -- The cursors of one list, from block to block.
 -- Assumes nothing.
 use Prim.Native.Nat.{ℕ, _+_, _≤_, _<_}
-use mathlib.Core.Bool.{Bool, true}
-use mathlib.Core.Path.{_≡_, _∙_}
+use mathlib.Core.Bool.{Bool, true, false}
+use mathlib.Core.Path.{_≡_, refl, _∙_}
 use mathlib.Core.List.{List}
 use lib.ListN.{length, getD}
 use native.Mathlib.Omega.{arith}
@@ -17,7 +17,7 @@ use Rattle.laws.proofs.Formats.{facts-count}
 use Rattle.ewah.specs.Cursors.{leftOf}
 use Rattle.walk.specs.Queries.{placeBody, cursorOf, Listed}
 use Rattle.gather.specs.Gathered.{StandingBefore, Gathered}
-use Rattle.blocks.specs.Blocks.{BlockOf, Cleared, AllAlike, Walking}
+use Rattle.blocks.specs.Blocks.{Chosen, BlockOf, Cleared, AllAlike, Walking, NextBlock}
 use Rattle.blocks.proofs.Runs.{alike}
 
 -- how many segments each body has
@@ -56,3 +56,32 @@ module _ {index list ns : List ℕ} {o : ℕ} (g : Walking index list ns o) wher
 pub block-low : (F : Format) → blockSegments ≤ mostRun F
 block-low Ewah = omega arith
 block-low Wah = omega arith
+
+-- ---- the next segments, where no piece ends before `near`
+
+module _ {index list ns : List ℕ} {near end o n : ℕ} {even : Bool} (g : Walking index list ns o)
+    (some : 1 ≤ length list) (ch : Chosen near end o n even)
+    (far : (k : ℕ) → k < length list → near ≤ leftOf (cursorOf ns k .piece)) where
+  -- a run is no longer than the format can say
+  pub run-low : n ≤ mostRun (formatOf index)
+  run-low = go even refl
+    where
+      go : (t : Bool) → even ≡ t → n ≤ mostRun (formatOf index)
+      go true e = omega (arith, ch .in-pieces e, far 0 some, g .standing 0 some .in-order .left-low)
+      go false e = omega (arith, ch .in-block e, block-low (formatOf index))
+
+  pub next-block : IndexFacts index → Listed index list → end ≤ S index → {x ns′ x′ : List ℕ} → Cleared list x
+      → Gathered (formatOf index) index list ns n even x ns′ x′ → NextBlock index list o end n even ns′ x′
+  next-block facts listed h {x} {ns′} {x′} z gd = record {
+    some = ch .some;
+    within = ch .within;
+    in-block = ch .in-block;
+    several = ch .several;
+    in-run = run-low;
+    walking = walking-on g gd;
+    cleared = still-cleared g gd z;
+    block = block-of g gd z;
+    alike = λ e.
+        all-alike g facts listed (ch .some) (omega (arith, ch .within)) (rw e at (block-of g gd z))
+        (λ k l. omega (arith, ch .several e, ch .in-pieces e, far k l));
+  }

@@ -7,7 +7,7 @@ use mathlib.Core.List.{List}
 use lib.ListN.{length, getD}
 use Rattle.meaning.specs.Limits.{blockSegments, blockWords, shortNumbers}
 use Rattle.meaning.specs.Segment.{isSet}
-use Rattle.meaning.specs.Format.{segmentsOf}
+use Rattle.meaning.specs.Format.{width, mostRun, segmentsOf}
 use Rattle.meaning.specs.Index.{formatOf}
 use Rattle.block_read.specs.Taken.{wordAt}
 use Rattle.walk.specs.Queries.{Standing, placeBody}
@@ -42,3 +42,16 @@ pub record BlockOf (index list : List ℕ) (o n : ℕ) (even : Bool) (x : List �
 abbrev pub AllAlike : (w : ℕ) → List ℕ → Type 0
 AllAlike w x =
     (k j : ℕ) → j < w → isSet (getD x (k * blockSegments + 0) 0) j ≡ isSet (getD x (k * blockSegments + 0) 0) 0
+
+-- the n segments from o on, none behind `end`, became the block x′, in a run one clean word for each place, and the
+-- cursors went on
+pub record NextBlock (index list : List ℕ) (o end n : ℕ) (even : Bool) (ns′ x′ : List ℕ) : Type 0 where
+  pub some : 1 ≤ n
+  pub within : o + n ≤ end
+  pub in-block : even ≡ false → n ≤ blockSegments
+  pub several : even ≡ true → 2 ≤ n
+  pub in-run : n ≤ mostRun (formatOf index)
+  pub walking : Walking index list ns′ (o + n)
+  pub cleared : Cleared list x′
+  pub block : BlockOf index list o n even x′
+  pub alike : even ≡ true → AllAlike (width (formatOf index)) x′

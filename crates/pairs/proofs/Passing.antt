@@ -1,7 +1,7 @@
 -- The pass over two columns: what holds where it has passed o segments, and at its end.
 -- Assumes nothing.
 use Prim.Native.Nat.{ℕ, _+_, _-_, _*_, _^_, _≤_, _<_}
-use mathlib.Core.Bool.{Bool, true, false}
+use mathlib.Core.Bool.{Bool, true}
 use mathlib.Core.Path.{_≡_, refl, sym, ap, _∙_, subst}
 use mathlib.Core.List.{List, [], _++_}
 use lib.ListN.{length, getD, take, drop}
@@ -22,7 +22,7 @@ use Rattle.walk.specs.Queries.{cursorOf}
 use Rattle.block_write.specs.Rowed.{CleanWord}
 use Rattle.blocks.specs.Blocks.{Chosen, BlockOf, Walking}
 use Rattle.blocks.proofs.Segmented.{segs, segs-length}
-use Rattle.blocks.proofs.Walks.{S, all-alike, block-low}
+use Rattle.blocks.proofs.Walks.{S, all-alike, run-low}
 use Rattle.new_index.specs.Writers.{rowOf, writerOf, region, Laid, EmittedAll}
 use Rattle.new_index.proofs.Regions.{region-length}
 use Rattle.pairs.specs.Passes.{Columns, bodyOf, PassedTo}
@@ -97,15 +97,8 @@ module _ {op : Pairing} {index first second : List ℕ} {n : ℕ} {starts old : 
   module _ {near m : ℕ} {even : Bool} (ch : Chosen near (S index) o m even)
       (near1 : (k : ℕ) → k < length first → near ≤ leftOf (cursorOf ns1 k .piece))
       (near2 : even ≡ true → (k : ℕ) → k < length second → near ≤ leftOf (cursorOf ns2 k .piece)) where
-    -- a run is no longer than the format can say
     m-low : m ≤ mostRun F
-    m-low = go even refl
-      where
-        go : (t : Bool) → even ≡ t → m ≤ mostRun F
-        go true e =
-            let one : 0 < length first = omega (arith, cs .first-some) in
-            omega (arith, ch .in-pieces e, near1 0 one, g .first-walking .standing 0 one .in-order .left-low)
-        go false e = omega (arith, ch .in-block e, block-low F)
+    m-low = run-low (g .first-walking) (omega (arith, cs .first-some)) ch near1
 
     module _ {x y z z′ : List ℕ} (bx : BlockOf index first o m even x) (by : BlockOf index second o m even y)
         (p : Paired (pairValue op) x y n z) (sp : Spelled (formatOf index) (rowCount index) o m even z (n + 1) z′) where
