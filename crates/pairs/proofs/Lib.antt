@@ -1,4 +1,3 @@
-pub mod Choosing
 pub mod Spelling
 pub mod Blocks
 pub mod Rows

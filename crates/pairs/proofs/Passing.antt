@@ -1,75 +1,35 @@
 -- The pass over two columns: what holds where it has passed o segments, and at its end.
 -- Assumes nothing.
 use Prim.Native.Nat.{ℕ, _+_, _-_, _*_, _^_, _≤_, _<_}
-use mathlib.Core.Bool.{Bool, true, false}
+use mathlib.Core.Bool.{Bool, true}
 use mathlib.Core.Path.{_≡_, refl, sym, ap, _∙_, subst}
 use mathlib.Core.List.{List, [], _++_}
 use lib.ListN.{length, getD, take, drop}
 use native.Mathlib.Omega.{arith}
-use Rattle.meaning.specs.Limits.{mostSegments, mostValueColumn, shortNumbers, blockSegments, writersNumbers}
-use Rattle.meaning.specs.Segment.{Segment, segmentCount, allSet, rowsIn}
-use Rattle.meaning.specs.Format.{width, mostRun, segmentsOf, wordsOf, canonical}
+use Rattle.meaning.specs.Segment.{Segment, rowsIn, allSet}
+use Rattle.meaning.specs.Format.{width, mostRun, wordsOf, canonical}
 use Rattle.meaning.specs.declared.Format.{Format}
-use Rattle.meaning.specs.declared.Format.the-variants.{Ewah, Wah}
 use Rattle.meaning.specs.Index.{formatOf, rowCount}
-use Rattle.laws.specs.Laws.{IndexFacts}
 use Rattle.meaning.specs.Column.{pairValue}
 use Rattle.meaning.specs.declared.Pairing.{Pairing}
-use Rattle.laws.proofs.Formats.{facts-count, segments-most}
+use Rattle.meaning.specs.Limits.{blockSegments, mostSegments, mostValueColumn, writersNumbers}
+use Rattle.laws.proofs.Formats.{segments-most}
+use Rattle.adder.specs.Digits.{Paired}
 use Rattle.ewah.specs.Cursors.{leftOf}
 use Rattle.body_write.specs.Bodies.{Stands, Growing, RoomFor, UpTo}
 use Rattle.body_write.proofs.UpTo.{up-none, up-growing, up-room, up-more, up-used, up-all}
-use Rattle.adder.specs.Digits.{Paired}
-use Rattle.walk.specs.Queries.{cursorOf, Listed, Standing, placeBody}
-use Rattle.gather.specs.Gathered.{StandingBefore, Gathered}
+use Rattle.walk.specs.Queries.{cursorOf}
 use Rattle.block_write.specs.Rowed.{CleanWord}
-use Rattle.new_index.specs.Writers.{writerOf, region, Laid, rowOf, EmittedAll}
+use Rattle.blocks.specs.Blocks.{Chosen, BlockOf, Walking}
+use Rattle.blocks.proofs.Segmented.{segs, segs-length}
+use Rattle.blocks.proofs.Walks.{S, all-alike, run-low}
+use Rattle.new_index.specs.Writers.{rowOf, writerOf, region, Laid, EmittedAll}
 use Rattle.new_index.proofs.Regions.{region-length}
-use Rattle.pairs.specs.Passes.{Columns, Chosen, bodyOf, PassedTo}
+use Rattle.pairs.specs.Passes.{Columns, bodyOf, PassedTo}
 use Rattle.pairs.specs.Spellings.{Spelled}
-use Rattle.pairs.proofs.Blocks.{sets, segs, segs-length}
-use Rattle.pairs.proofs.Rows.{BlockOf, Cleared, pair-low, row-part}
-use Rattle.pairs.proofs.Evenly.{AllAlike, alike, clean-words}
-
--- how many segments a body has
-abbrev S : (index : List ℕ) → ℕ
-S index = segmentCount (width (formatOf index)) (rowCount index)
-
--- ---- the places of one list
-
--- every cursor stands at segment o of its body
-pub record Walking (index list ns : List ℕ) (o : ℕ) : Type 0 where
-  pub standing : Standing (formatOf index) index list ns (length list) o
-  pub long : length ns ≡ shortNumbers
-
-module _ {index list ns : List ℕ} {o : ℕ} (g : Walking index list ns o) where
-  module _ {n : ℕ} {even : Bool} {x ns′ x′ : List ℕ}
-      (gd : Gathered (formatOf index) index list ns n even x ns′ x′) where
-    pub walking-on : Walking index list ns′ (o + n)
-    walking-on = record { standing = gd .on o (g .standing); long = gd .long ∙ g .long }
-
-    pub still-cleared : Cleared list x → Cleared list x′
-    still-cleared z = record { long = gd .rows-long; past = λ i h. gd .rest i h ∙ z .past i h }
-
-    pub block-of : Cleared list x → BlockOf index list o n even x′
-    block-of z = record { has = gd .words o (g .standing); rest = still-cleared z .past }
-
-  module _ (facts : IndexFacts index) (listed : Listed index list) where
-    -- every body has as many segments as the index's rows
-    count-is : (k : ℕ) → k < length list → length (segmentsOf (formatOf index) (placeBody index list k)) ≡ S index
-    count-is k h =
-        facts-count (formatOf index) (rowCount index) (placeBody index list k)
-        (facts .bodies (getD list k 0) (listed .its k h))
-
-    pub before : (n : ℕ) → o + n ≤ S index → StandingBefore (formatOf index) index list ns n
-    before n l = (o, g .standing, λ k h. omega (arith, count-is k h))
-
-    pub all-alike : {n : ℕ} {x : List ℕ} → 1 ≤ n → o + n ≤ S index → BlockOf index list o n true x
-        → ((k : ℕ) → k < length list → 2 ≤ leftOf (cursorOf ns k .piece)) → AllAlike (width (formatOf index)) x
-    all-alike {n} {x} some l b left =
-        alike index list ns x o n some b (g .standing) (λ k h. omega (arith, count-is k h)) left
-
--- ---- the pass
+use Rattle.pairs.proofs.Blocks.{sets}
+use Rattle.pairs.proofs.Rows.{pair-low, row-part}
+use Rattle.pairs.proofs.Evenly.{clean-words}
 
 -- the segments of body i
 abbrev ownSegments : (op : Pairing) (index first second : List ℕ) (n i : ℕ) → List Segment
@@ -79,11 +39,6 @@ body-is : (op : Pairing) (index first second : List ℕ) (n i : ℕ)
     → wordsOf (formatOf index) (rowCount index) (ownSegments op index first second n i)
     ≡ bodyOf op index first second n i
 body-is op index first second n i = unfold canonical in refl
-
--- a run can be as long as a block
-block-low : (F : Format) → blockSegments ≤ mostRun F
-block-low Ewah = omega arith
-block-low Wah = omega arith
 
 module _ (op : Pairing) (index first second : List ℕ) (n : ℕ) (starts old : List ℕ) (store : Bool) where
   -- both lists' cursors stand at segment o, and of each body the first o segments are put, in its part of the buffer
@@ -142,15 +97,8 @@ module _ {op : Pairing} {index first second : List ℕ} {n : ℕ} {starts old : 
   module _ {near m : ℕ} {even : Bool} (ch : Chosen near (S index) o m even)
       (near1 : (k : ℕ) → k < length first → near ≤ leftOf (cursorOf ns1 k .piece))
       (near2 : even ≡ true → (k : ℕ) → k < length second → near ≤ leftOf (cursorOf ns2 k .piece)) where
-    -- a run is no longer than the format can say
     m-low : m ≤ mostRun F
-    m-low = go even refl
-      where
-        go : (t : Bool) → even ≡ t → m ≤ mostRun F
-        go true e =
-            let one : 0 < length first = omega (arith, cs .first-some) in
-            omega (arith, ch .in-pieces e, near1 0 one, g .first-walking .standing 0 one .in-order .left-low)
-        go false e = omega (arith, ch .in-block e, block-low F)
+    m-low = run-low (g .first-walking) (omega (arith, cs .first-some)) ch near1
 
     module _ {x y z z′ : List ℕ} (bx : BlockOf index first o m even x) (by : BlockOf index second o m even y)
         (p : Paired (pairValue op) x y n z) (sp : Spelled (formatOf index) (rowCount index) o m even z (n + 1) z′) where

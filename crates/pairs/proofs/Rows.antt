@@ -1,95 +1,34 @@
 -- The rows of a block: what an operation made of the words that were gathered are the segments of the answer's bodies.
 -- Assumes nothing.
-use Prim.Native.Nat.{ℕ, zero, suc, _+_, _*_, _/_, _%_, _^_, _≤_, _<_}
-use mathlib.Core.Bool.{Bool, true, false, cond, _&&_}
+use Prim.Native.Nat.{ℕ, zero, suc, _+_, _*_, _^_, _≤_, _<_}
+use mathlib.Core.Bool.{Bool, true, false, _&&_}
 use mathlib.Core.Path.{_≡_, refl, sym, ap, ap₂, _∙_}
 use mathlib.Core.List.{List}
-use lib.ListN.{length, getD, take, drop, replicate, length-map, length-drop, length-replicate, getD-replicate, List·getD-map, List·getD-eq-default}
+use lib.ListN.{length, getD, take, drop, length-map, length-drop, length-replicate, getD-replicate, List·getD-map}
 use lib.Seq.{getD-take, getD-drop, length-take-le}
-use native.Mathlib.Decide.{decLe, ℕ-discrete}
-use native.Mathlib.Nat.{mod-eq-of-lt, zero-mul, one-mul}
 use native.Mathlib.Omega.{arith}
-use borrow.Author.Tests.{eqb-false, ne-eqb}
-use Rattle.meaning.specs.Limits.{blockSegments, blockWords}
-use Rattle.meaning.specs.Segment.{Segment, clean, kind, fill, allSet, bitAt, isSet, rowsIn, segmentCount, lastLimit}
-use Rattle.meaning.specs.Format.{width, segmentsOf}
+use Rattle.meaning.specs.Segment.{Segment, clean, kind, isSet, segmentCount, allSet}
+use Rattle.meaning.specs.Format.{width}
 use Rattle.meaning.specs.declared.Format.{Format}
-use Rattle.meaning.specs.declared.Format.the-variants.{Ewah, Wah}
 use Rattle.meaning.specs.Index.{formatOf, rowCount}
-use Rattle.meaning.specs.Wah.{wahSegments}
 use Rattle.meaning.specs.Column.{pairValue}
 use Rattle.meaning.specs.declared.Pairing.{Pairing}
-use Rattle.laws.proofs.Segments.{fill-cut, kind-fill}
-use Rattle.laws.proofs.Pieces.{fill-lt}
-use Rattle.laws.proofs.Cut.{rows-inside, rows-end, rows-some}
-use Rattle.laws.proofs.WahBody.{wah-below}
-use Rattle.laws.proofs.Formats.{width-pos}
+use Rattle.meaning.specs.Limits.{blockSegments, blockWords}
 use Rattle.laws.proofs.Evaluated.{part-is}
 use Rattle.adder.specs.Digits.{numberAt, Paired}
 use Rattle.block_read.specs.Taken.{wordAt}
 use Rattle.walk.specs.Queries.{placeBody}
 use Rattle.block_write.specs.Rowed.{rowSegments, CleanWord}
+use Rattle.blocks.specs.Blocks.{Chosen, BlockOf}
+use Rattle.blocks.proofs.Values.{numberOf, place, place-low, words-at, number-same}
+use Rattle.blocks.proofs.Segmented.{segs, segs-length, segment-clear, word-low}
+use Rattle.blocks.proofs.Runs.{rowsKind, clean-kind}
 use Rattle.new_index.specs.Writers.{rowOf}
-use Rattle.pairs.specs.Passes.{Columns, Chosen}
+use Rattle.pairs.specs.Passes.{Columns}
 use Rattle.pairs.specs.Spellings.{Spelled}
-use Rattle.pairs.proofs.Blocks.{WordsAt, PairWords, numberOf, sets, segs, segs-length, block-segment}
+use Rattle.pairs.proofs.Blocks.{PairWords, sets, block-segment}
 
--- the rows of x are the words of a list's places in the n segments from o on, and 0 past the list
-pub record BlockOf (index list : List ℕ) (o n : ℕ) (even : Bool) (x : List ℕ) : Type 0 where
-  pub has : (k i : ℕ) → k < length list → i < n
-      → wordAt even x (k * blockSegments) i ≡ getD (segmentsOf (formatOf index) (placeBody index list k)) (o + i) 0
-  pub rest : (i : ℕ) → length list * blockSegments ≤ i → getD x i 0 ≡ 0
-
--- the place in its row of the word of segment i
-abbrev place : (even : Bool) (i : ℕ) → ℕ
-place even i = cond even 0 i
-
-place-low : (even : Bool) (i n : ℕ) → i < n → (even ≡ false → n ≤ blockSegments) → place even i < blockSegments
-place-low true i n h g = omega arith
-place-low false i n h g = omega (arith, g refl)
-
--- a block whose rows past a list's are empty
-pub record Cleared (list x : List ℕ) : Type 0 where
-  pub long : length x ≡ blockWords
-  pub past : (i : ℕ) → length list * blockSegments ≤ i → getD x i 0 ≡ 0
-
--- a block before anything is gathered
-pub zeros : (n i : ℕ) → getD {A = ℕ} (replicate n 0) i 0 ≡ 0
-zeros n i = elim (decLe (suc i) n) [
-  | yes l ↦ getD-replicate {A = ℕ} n i 0 0 l
-  | no l ↦ List·getD-eq-default {A = ℕ} (replicate n 0) 0 (omega (arith, length-replicate {A = ℕ} n 0))
-]
-
--- the words of all places at one segment
-words-at : {index list x : List ℕ} {o n : ℕ} {even : Bool} → BlockOf index list o n even x → (i : ℕ) → i < n
-    → WordsAt index list (o + i) (λ k. wordAt even x (k * blockSegments) i)
-words-at {even = even} b i h = record {
-  has = λ k l. b .has k i l h;
-  rest = λ k l. unfold wordAt in b .rest (k * blockSegments + place even i) (omega arith);
-}
-
--- their number is the adder's
-number-same : (x : List ℕ) (even : Bool) (n i j : ℕ) → numberOf (λ k. wordAt even x (k * blockSegments) i) n j ≡ numberAt x n (place even i) j
-unfolding wordAt numberAt
-number-same x even n i j = refl
-
--- ---- no bit behind a segment's width
-
-segment-clear : (F : Format) (b : List ℕ) (i j : ℕ) → width F ≤ j → j < 32 → isSet (getD (segmentsOf F b) i 0) j ≡ false
-unfolding isSet bitAt
-segment-clear Ewah b i j l h = absurd (omega arith)
-segment-clear Wah b i j l h =
-    let e : j ≡ 31 = omega arith in
-    let low = wah-below b i in
-    rw e (ne-eqb (getD (wahSegments b) i 0 / 2 ^ 31 % 2) 1 (omega arith))
-
--- a word that has none is a segment's
-word-low : (F : Format) (x : ℕ) → x < 2 ^ 32 → ((j : ℕ) → width F ≤ j → j < 32 → isSet x j ≡ false) → x < 2 ^ width F
-unfolding isSet bitAt
-word-low Ewah x h g = h
-word-low Wah x h g = omega (arith, eqb-false (x / 2 ^ 31 % 2) 1 (g 31 (omega arith) (omega arith)))
-
--- the answer has none, since what exists has none
+-- the answer has no bit behind a segment's width, since what exists has none
 module _ {op : (n x y : ℕ) → ℕ} {index first : List ℕ} {N o n : ℕ} {even : Bool} {x y z : List ℕ} (some : 1 ≤ length first)
     (bx : BlockOf index first o n even x) (p : Paired op x y N z) (i : ℕ) (h : i < n)
     (low : place even i < blockSegments) where
@@ -116,41 +55,6 @@ module _ {op : (n x y : ℕ) → ℕ} {index first : List ℕ} {N o n : ℕ} {ev
   pub pair-low : (b : ℕ) → b ≤ N → getD z (b * blockSegments + place even i) 0 < 2 ^ width (formatOf index)
   pair-low b g =
       word-low (formatOf index) (getD z (b * blockSegments + at) 0) (p .low b at g low) (pair-clear b g)
-
--- ---- a word of a run, over a segment with pad bits too
-
-module _ (F : Format) (R i : ℕ) where
-  abbrev pos : 0 < width F
-  pos = width-pos F
-
-  abbrev real : ℕ
-  real = rowsIn (width F) R i
-
-  -- how a word is written as segment i: by its rows
-  abbrev rowsKind : (x : ℕ) → Segment
-  rowsKind x = kind real (x % 2 ^ real)
-
-  module _ (h : i < segmentCount (width F) R) where
-    fill-rows : (v : ℕ) → v < 2 → fill (width F) v % 2 ^ real ≡ fill real v
-    fill-rows v l = elim (decLe (suc (suc i)) (segmentCount (width F) R)) [
-      | yes g ↦ rw (rows-inside (width F) pos R i g) (mod-eq-of-lt (fill-lt (width F) v l))
-      | no g ↦
-          let e : suc i ≡ segmentCount (width F) R = omega arith in
-          rw (rows-end (width F) pos R i e) (unfold lastLimit in fill-cut (width F) R pos v l)
-    ]
-
-    by-value : (x v : ℕ) → v < 2 → x ≡ fill (width F) v → kind (width F) x ≡ rowsKind x
-    by-value x v l e =
-        ap (kind (width F)) e
-        ∙ kind-fill (width F) v pos l
-        ∙ sym (ap (kind real) (ap (λ (y : ℕ). y % 2 ^ real) e ∙ fill-rows v l)
-        ∙ kind-fill real v (rows-some (width F) pos R i h) l)
-
-    clean-kind : (x : ℕ) → CleanWord F x → kind (width F) x ≡ rowsKind x
-    clean-kind x c = elim (ℕ-discrete x 0) [
-      | yes e ↦ by-value x 0 (omega arith) (unfold fill in e ∙ sym (zero-mul (allSet (width F))))
-      | no e ↦ by-value x 1 (omega arith) (unfold fill in c e ∙ sym (one-mul (allSet (width F))))
-    ]
 
 -- ---- the answer
 

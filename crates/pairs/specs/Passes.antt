@@ -1,7 +1,7 @@
 -- What one pass over two columns gives: the bodies of what an operation makes of them, measured or written.
 -- Assumes nothing.
 use Prim.Native.Nat.{ℕ, _+_, _≤_, _<_}
-use mathlib.Core.Bool.{Bool, true, false}
+use mathlib.Core.Bool.{Bool, true}
 use mathlib.Core.Path.{_≡_}
 use mathlib.Core.List.{List, _++_}
 use lib.ListN.{length, getD, take, drop}
@@ -31,15 +31,6 @@ pub record Columns (index first second : List ℕ) (n : ℕ) : Type 0 where
 pub record Near (p : List ℕ) (m : ℕ) (q : List ℕ) (n near : ℕ) : Type 0 where
   pub first : (k : ℕ) → k < m → near ≤ leftOf (cursorOf p k .piece)
   pub second : blockSegments ≤ near → (k : ℕ) → k < n → near ≤ leftOf (cursorOf q k .piece)
-
--- the next n of S segments from segment o on, where no piece ends before `near`: all within the pieces, or at most
--- a block's
-pub record Chosen (near S o n : ℕ) (even : Bool) : Type 0 where
-  pub some : 1 ≤ n
-  pub within : o + n ≤ S
-  pub in-pieces : even ≡ true → n ≤ near
-  pub in-runs : even ≡ true → blockSegments ≤ near
-  pub in-block : even ≡ false → n ≤ blockSegments
 
 -- body i of the answer
 abbrev pub bodyOf : (op : Pairing) (index first second : List ℕ) (n i : ℕ) → List ℕ

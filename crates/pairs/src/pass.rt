@@ -5,8 +5,9 @@ ghost use Prim.Native.Nat.{ℕ, _+_, _≤_};
 ghost use lib.ListN.{length};
 ghost use Rattle.new_index.specs.Writers.{Laid, region};
 ghost use Rattle.pairs.specs.Passes.{Columns, bodyOf, PassedTo};
-use crate::choose;
+use crate::nearest;
 use crate::spell;
+use blocks::choose;
 use meaning::BLOCK_WORDS;
 use meaning::Pairing;
 use meaning::SHORT_NUMBERS;
@@ -49,7 +50,7 @@ pub fn pass(
     let mut run = false;
     let mut o: u32 = 0;
     while o < segments {
-        let near = choose::nearest(&p, first.len(), &q, second.len());
+        let near = nearest::nearest(&p, first.len(), &q, second.len());
         let s = choose::choose(near, o, segments, run);
         let m = s.n;
         let even = s.even;

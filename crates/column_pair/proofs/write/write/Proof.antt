@@ -12,11 +12,11 @@ use Rattle.meaning.specs.Index.{formatOf, rowCount}
 use Rattle.meaning.specs.NewIndex.{indexRoom}
 use Rattle.meaning.specs.declared.Pairing.{Pairing}
 use Rattle.laws.proofs.NewIndexes.{room-within}
+use Rattle.blocks.proofs.Values.{zeros}
 use Rattle.new_index.specs.Layouts.{StartsOf, Headed}
 use Rattle.new_index.specs.Writers.{writerOf, Laid}
 use Rattle.pairs.specs.Passes.{Columns, bodyOf}
 use Rattle.laws.specs.ColumnLaws.{pairIndex}
-use Rattle.pairs.proofs.Rows.{zeros}
 use Rattle.column_pair.proofs.Laying.{nowhere-laid, nothing-kept, none-stored, headed-as, body-low, need-is, laid, contents-fit, exact, written}
 use Rattle.column_pair.proofs.write.write.Statement.{statement}
 use Rattle.column_pair.proofs.write.write.Tie as tie

@@ -18,10 +18,11 @@ use Rattle.laws.proofs.Formats.{segments-most}
 use Rattle.ewah.specs.Cursors.{leftOf}
 use Rattle.adder.specs.Digits.{Paired}
 use Rattle.walk.specs.Queries.{cursorOf}
-use Rattle.pairs.specs.Passes.{Columns, Chosen}
+use Rattle.blocks.specs.Blocks.{Chosen, BlockOf, Cleared}
+use Rattle.blocks.proofs.Values.{zeros}
+use Rattle.blocks.proofs.Walks.{before, walking-on, still-cleared, block-of}
+use Rattle.pairs.specs.Passes.{Columns}
 use Rattle.pairs.specs.Spellings.{Spelled}
-use Rattle.pairs.proofs.Rows.{BlockOf, Cleared, zeros}
-use Rattle.pairs.proofs.Passing.{before, walking-on, still-cleared, block-of}
 use Rattle.pairs.proofs.Passing.{Passing, passing-none, may-emit, passing-more, passing-all}
 use Rattle.pairs.proofs.pass.pass.Statement.{statement}
 use Rattle.pairs.proofs.pass.pass.Tie as tie

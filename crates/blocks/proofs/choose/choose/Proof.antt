@@ -1,16 +1,16 @@
--- `pairs::choose::choose` meets its contract: each way is a law of `Choosing`.
+-- `blocks::choose::choose` meets its contract: each way is a law of `Choosing`.
 -- Assumes nothing.
 use native.Mathlib.Omega.{arith}
 use borrow.Author.Needs.{needs}
-use Rattle.pairs.proofs.Choosing.{chosen-run, chosen-one, chosen-block}
-use Rattle.pairs.proofs.choose.choose.Statement.{statement}
-use Rattle.pairs.proofs.choose.choose.Tie as tie
+use Rattle.blocks.proofs.Choosing.{chosen-run, chosen-one, chosen-block}
+use Rattle.blocks.proofs.choose.choose.Statement.{statement}
+use Rattle.blocks.proofs.choose.choose.Tie as tie
 
-wide-requires : tie.Need-wide-requires
-wide-requires c κs = search needs
+sub-ahead : tie.Need-sub-ahead
+sub-ahead c = search needs
 
-sub-smaller : tie.Need-sub-smaller
-sub-smaller c = search needs
+is-run-requires : tie.Need-is-run-requires
+is-run-requires c κs = search needs
 
 smaller-requires : tie.Need-smaller-requires
 smaller-requires c κs = search needs
@@ -18,17 +18,13 @@ smaller-requires c κs = search needs
 returns : tie.Need-returns
 returns c =
     let t = c .before .before in
-    chosen-run _ _ _ (t .before .pre) _ (omega (arith, c .before .if1 .taken, t .wide .ensures .0))
-    (omega (arith, c .smaller .ensures))
+    chosen-run _ _ _ (t .before .pre) _ (t .is-run .ensures (c .before .if1 .taken)) (c .smaller .ensures)
 
 returns-2 : tie.Need-returns-2
 returns-2 c = chosen-one _ _ _ (c .before .before .before .pre)
 
 cast-smaller : tie.Need-cast-smaller
 cast-smaller c = search needs
-
-sub-smaller-2 : tie.Need-sub-smaller-2
-sub-smaller-2 c = search needs
 
 smaller-requires-2 : tie.Need-smaller-requires-2
 smaller-requires-2 c κs = search needs
@@ -40,12 +36,11 @@ pub choose-spec : {M : Type 1} → statement M
 choose-spec =
     tie.close
     (tie.spec
-    wide-requires
-    sub-smaller
+    sub-ahead
+    is-run-requires
     smaller-requires
     returns
     returns-2
     cast-smaller
-    sub-smaller-2
     smaller-requires-2
     returns-3)

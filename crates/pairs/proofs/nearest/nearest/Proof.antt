@@ -1,9 +1,9 @@
--- `pairs::choose::nearest` meets its contract.
+-- `pairs::nearest::nearest` meets its contract.
 -- Assumes nothing.
 use borrow.Author.Needs.{needs}
 use native.Mathlib.Omega.{arith}
-use Rattle.pairs.proofs.choose.nearest.Statement.{statement}
-use Rattle.pairs.proofs.choose.nearest.Tie as tie
+use Rattle.pairs.proofs.nearest.nearest.Statement.{statement}
+use Rattle.pairs.proofs.nearest.nearest.Tie as tie
 
 nearest-requires : tie.Need-nearest-requires
 nearest-requires c κs = search needs

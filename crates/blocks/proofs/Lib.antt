@@ -1,0 +1,5 @@
+pub mod Choosing
+pub mod Values
+pub mod Segmented
+pub mod Runs
+pub mod Walks
