@@ -1,1 +1,3 @@
 pub mod Refining
+pub mod Counting
+pub mod Placing
