@@ -32,7 +32,7 @@ ones-past : (k j : ℕ) → k ≤ j → isSet (2 ^ k - 1) j ≡ false
 unfolding isSet bitAt
 ones-past k j h = let z : (2 ^ k - 1) / 2 ^ j ≡ 0 = div-eq-of-lt (omega (arith, ones-lt k, pow-mono h)) in rw z
 
-ones-bit : (k j : ℕ) → isSet (2 ^ k - 1) j ≡ ltb j k
+pub ones-bit : (k j : ℕ) → isSet (2 ^ k - 1) j ≡ ltb j k
 ones-bit k j = elim (decLe (suc j) k) [
   | yes h ↦ full-set k j h ∙ sym (lt-ltb j k h)
   | no h ↦ ones-past k j (omega arith) ∙ sym (le-ltb j k (omega arith))

@@ -69,7 +69,7 @@ eqb-digit a b c d l m = go (eqb a c) refl (eqb b d) refl
 -- ---- the leading digit and the other
 
 -- the leading one is a digit
-lead-low : (op : Ranking) → lead op < 2
+pub lead-low : (op : Ranking) → lead op < 2
 lead-low Largest = omega arith
 lead-low Smallest = omega arith
 

@@ -15,25 +15,17 @@ use Rattle.meaning.specs.Index.{formatOf}
 use Rattle.meaning.specs.Ranking.{ahead}
 use Rattle.meaning.specs.Columns.{existing, valueAt}
 use Rattle.meaning.specs.declared.Format.{Format}
-use Rattle.meaning.specs.declared.Format.the-variants.{Ewah, Wah}
 use Rattle.meaning.specs.declared.Ranking.{Ranking}
-use Rattle.laws.proofs.Formats.{width-pos}
+use Rattle.laws.proofs.Formats.{width-pos, width-le}
 use Rattle.adder.specs.Digits.{numberAt}
 use Rattle.block_read.specs.Taken.{wordAt}
 use Rattle.walk.specs.Queries.{placeBody}
-use Rattle.block_write.specs.Rowed.{CleanWord}
-use Rattle.blocks.specs.Blocks.{NextBlock, BlockOf, AllAlike}
+use Rattle.blocks.specs.Blocks.{NextBlock}
 use Rattle.blocks.proofs.Values.{exists-bit, value-number, place, place-low, words-at, number-same}
 use Rattle.blocks.proofs.Segmented.{segment-clear, word-low}
-use Rattle.blocks.proofs.Runs.{uniform, number-alike}
+use Rattle.blocks.proofs.Runs.{number-alike}
 use Rattle.pivots.specs.Splits.{HasRows, SplitBy}
 use Rattle.ranks.specs.Frames.{Column}
-use Rattle.ranks.specs.Found.{rowsAbove, rowsLevel}
-
--- no segment has more bits than a word
-width-low : (F : Format) → width F ≤ wordBits
-width-low Ewah = omega arith
-width-low Wah = omega arith
 
 -- the words t have, of the rows that exist, those whose value passes the test g
 pub record Tested (x : List ℕ) (n : ℕ) (g : ℕ → Bool) (t : List ℕ) : Type 0 where
@@ -70,7 +62,7 @@ module _ {index list : List ℕ} {o end n : ℕ} {even : Bool} {ns x : List ℕ}
     unfolding wordAt
     first = ap (λ (q : ℕ). getD x q 0) (omega arith)
 
-    clear : (j : ℕ) → width F ≤ j → j < 32 → isSet (getD t at 0) j ≡ false
+    pub clear : (j : ℕ) → width (formatOf index) ≤ j → j < 32 → isSet (getD t (place even i) 0) j ≡ false
     clear j l k =
         ts .bits at j at-low k
         ∙ ap (λ (b : Bool). b && g (numberAt x (length list - 1) at j))
@@ -81,7 +73,7 @@ module _ {index list : List ℕ} {o end n : ℕ} {even : Bool} {ns x : List ℕ}
     bit-is j l =
         let ws = words-at (nb .block) i h in
         ap (λ (v : ℕ). isSet v j) (front t)
-        ∙ ts .bits at j at-low (omega (arith, width-low F))
+        ∙ ts .bits at j at-low (omega (arith, width-le F))
         ∙ ap₂ (λ (b : Bool) (v : ℕ). b && g v)
         (sym (exists-bit index (o + i) j l list _ ws one ∙ ap (λ (v : ℕ). isSet v j) first))
         (sym (value-number index (o + i) j l list _ (length list - 1) ws one (omega arith)
@@ -95,11 +87,11 @@ module _ {index list : List ℕ} {o end n : ℕ} {even : Bool} {ns x : List ℕ}
 
   -- within a run all rows are alike
   module _ (e : even ≡ true) where
-    like : (j : ℕ) → j < width F → isSet (getD t 0 0) j ≡ isSet (getD t 0 0) 0
+    pub like : (j : ℕ) → j < width (formatOf index) → isSet (getD t 0 0) j ≡ isSet (getD t 0 0) 0
     like j l =
         let al = nb .alike e in
         let pos = width-pos F in
-        let wide = width-low F in
+        let wide = width-le F in
         ts .bits 0 j (omega arith) (omega arith)
         ∙ ap₂ (λ (b : Bool) (v : ℕ). b && g v) (al 0 j l) (number-alike (width F) x (length list - 1) j l al)
         ∙ sym (ts .bits 0 0 (omega arith) (omega arith))
@@ -123,14 +115,6 @@ module _ {index list : List ℕ} {o end n : ℕ} {even : Bool} {ns x : List ℕ}
         ap rows a
         ∙ run-row (k / w) (k % w) (div-lt-iff-lt-mul pos .1 l) (mod-lt k pos)
         ∙ sym (ap rows b ∙ run-row 0 0 (omega arith) pos)
-
-    -- and their word is that of a clean segment
-    pub run-clean : CleanWord (formatOf index) (getD t 0 0)
-    run-clean =
-        uniform F (getD t 0 0) (word-low F (getD t 0 0) (ts .low 0) (rw (at-zero) at (clear 0 (omega (arith, nb .some))))) like
-      where
-        at-zero : at 0 (omega (arith, nb .some)) ≡ 0
-        at-zero = rw e
 
 -- ---- the two tests
 

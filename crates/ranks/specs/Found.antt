@@ -41,3 +41,9 @@ pub record PivotOf (op : Ranking) (index list : List ℕ) (k m take : ℕ) : Typ
 pub record CutAt (index list : List ℕ) (m take r : ℕ) : Type 0 where
   pub within : r ≤ segmentCount (width (formatOf index)) (rowCount index) * width (formatOf index)
   pub before : countBelow r (rowsLevel index list m) ≡ take
+
+-- of the rows that have the value m, if there are `most`, the row where so many of them are cut; if there are fewer, how many
+pub record Scanned (index list : List ℕ) (m most count row : ℕ) : Type 0 where
+  pub found : most ≤ countBelow (rowCount index) (rowsLevel index list m) → CutAt index list m most row
+  pub counted : countBelow (rowCount index) (rowsLevel index list m) < most
+      → count ≡ countBelow (rowCount index) (rowsLevel index list m)

@@ -3,8 +3,7 @@
 // Calls here have a `requires`; the public ones of `zvonurel` test their input first.
 pub mod write;
 
-mod count;
-mod cut;
 mod frame;
 mod pass;
 mod pivot;
+mod scan;

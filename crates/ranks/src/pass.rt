@@ -1,8 +1,9 @@
 // One pass that makes the body of the rows that come before the pivot, and of those that have its value and come before the cut.
-ghost use mathlib.Core.Bool.{true};
+ghost use mathlib.Core.Bool.{true, false};
 ghost use mathlib.Core.Path.{_≡_};
 ghost use Prim.Native.Nat.{ℕ, _≤_, _<_, _^_, _*_};
 ghost use lib.ListN.{length};
+ghost use Rattle.meaning.specs.Limits.{blockSegments};
 ghost use Rattle.meaning.specs.Segment.{segmentCount};
 ghost use Rattle.meaning.specs.Format.{width};
 ghost use Rattle.meaning.specs.Index.{formatOf, rowCount};
@@ -57,7 +58,7 @@ fn spelled(
     mask: u32,
     full: u32,
 ) -> [u32; BLOCK_SEGMENTS]
-    requires { ⌜ (1 ≤ n) ⌝ }
+    requires { ⌜ (1 ≤ n) × (even ≡ false → n ≤ blockSegments) ⌝ }
     ensures { λ r. ⌜ Spelled words n even mask full r ⌝ }
 {
     if even {
@@ -96,23 +97,25 @@ pub fn pass(
     ensures { λ r. ⌜ Passed op (now (index .entry)) (now (list .entry)) value cut (now (out .entry)) (now (out .exit)) store r ⌝ }
 {
     let f = frame::of(index);
+    let format = f.format;
+    let segments = f.segments;
     let at = cut / f.width;
     let low = cut % f.width;
     let mut numbers: [u32; SHORT_NUMBERS] = [0; SHORT_NUMBERS];
-    survey::open(f.format, index, list, &mut numbers);
+    survey::open(format, index, list, &mut numbers);
     let mut x: [u32; BLOCK_WORDS] = [0; BLOCK_WORDS];
-    let mut w = writer::start(f.format);
+    let mut w = writer::start(format);
     let mut run = false;
     let mut o: u32 = 0;
-    while o < f.segments {
-        let end = end_of(o, at, f.segments);
-        let s = next::next(f.format, index, list, &mut numbers, &mut x, o, end, run);
+    while o < segments {
+        let end = end_of(o, at, segments);
+        let s = next::next(format, index, list, &mut numbers, &mut x, o, end, run);
         let mask = frame::mask(f, o + s.n);
         let told = compare::split(op, &x, list.len() - 1, value);
         let rows = compare::taken(told, kept(o, at, low));
         let row = spelled(rows, s.n, s.even, mask, f.full);
         let len = row_length(s.n, s.even);
-        let v = block_write::emit_row(f.format, out, w, &row[0..len], s.n, s.even, mask, store);
+        let v = block_write::emit_row(format, out, w, &row[0..len], s.n, s.even, mask, store);
         w = v;
         run = s.even;
         o += s.n;

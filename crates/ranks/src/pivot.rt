@@ -10,7 +10,7 @@ ghost use Rattle.meaning.specs.Columns.{existing, valueAt};
 ghost use Rattle.laws.specs.Pivot.{level};
 ghost use Rattle.ranks.specs.Frames.{Column};
 ghost use Rattle.ranks.specs.Found.{Top, Stepped, PivotOf};
-use crate::count;
+use crate::scan;
 use meaning::MOST_COLUMN;
 use meaning::Ranking;
 use pivots::compare;
@@ -46,7 +46,7 @@ fn count_top(index: &[u32], list: &[u32], from: usize, value: u32) -> u32
 {
     let named = top(list, from);
     let len = list.len() - from + 1;
-    count::count(index, &named[0..len], value)
+    scan::count(index, &named[0..len], value)
 }
 
 // One digit more, where c rows have the digits so far and then the first one.

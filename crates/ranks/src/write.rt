@@ -5,9 +5,9 @@ ghost use Rattle.meaning.specs.Index.{rowCount};
 ghost use Rattle.meaning.specs.Columns.{existing};
 ghost use Rattle.ranks.specs.Frames.{Column};
 ghost use Rattle.ranks.specs.Passes.{RankWritten};
-use crate::cut;
 use crate::pass;
 use crate::pivot;
+use crate::scan;
 use body_write::bound;
 use meaning::Ranking;
 
@@ -18,7 +18,7 @@ pub fn write(op: Ranking, index: &[u32], list: &[u32], k: u32, out: &mut [u32]) 
     ensures { λ r. ⌜ RankWritten op (now (index .entry)) (now (list .entry)) k (now (out .entry)) (now (out .exit)) r ⌝ }
 {
     let p = pivot::find(op, index, list, k);
-    let row = cut::find(index, list, p.value, p.take);
+    let row = scan::cut(index, list, p.value, p.take);
     if bound::most_words(contents::format(index), contents::rows(index)) <= out.len() {
         return pass::pass(op, index, list, p.value, row, out, true);
     }
