@@ -1,19 +1,19 @@
 -- The pass that makes the body: the words of a block as they are written are the body's segments.
 -- Assumes nothing.
-use Prim.Native.Nat.{ℕ, suc, _+_, _-_, _*_, _%_, _^_, _≤_, _<_}
+use Prim.Native.Nat.{ℕ, suc, _+_, _-_, _*_, _/_, _%_, _^_, _≤_, _<_}
 use mathlib.Core.Bool.{Bool, true, false, _&&_, _||_, true≢false}
 use mathlib.Core.Path.{_≡_, refl, sym, ap, ap₂, _∙_, subst}
 use mathlib.Core.List.{List}
 use lib.Dec.{eqb, ltb}
 use lib.ListN.{length, getD, take, drop, length-map, length-replicate, getD-replicate, List·getD-map}
 use lib.Seq.{getD-take, length-take-le}
-use native.Mathlib.Nat.{mod-eq-of-lt, add-mul, suc-mul, mul-le-mul-right}
+use native.Mathlib.Nat.{mod-eq-of-lt, suc-mul, mul-le-mul-right, le-div-iff-mul-le}
 use native.Mathlib.Decide.{decLe, ℕ-discrete}
 use native.Mathlib.Omega.{arith}
 use borrow.Author.Tests.{lt-ltb, le-ltb}
-use Rattle.meaning.specs.Limits.{wordBits, blockSegments}
+use Rattle.meaning.specs.Limits.{wordBits, mostSegments, blockSegments}
 use Rattle.meaning.specs.Segment.{Segment, clean, kind, rowsIn, allSet, isSet, segmentCount}
-use Rattle.meaning.specs.Format.{width}
+use Rattle.meaning.specs.Format.{width, mostRun, wordsOf, canonical}
 use Rattle.meaning.specs.Index.{formatOf, rowCount}
 use Rattle.meaning.specs.Ranking.{ahead}
 use Rattle.meaning.specs.declared.Format.{Format}
@@ -21,6 +21,9 @@ use Rattle.meaning.specs.declared.Ranking.{Ranking}
 use Rattle.laws.proofs.Formats.{width-pos, width-le}
 use Rattle.laws.proofs.Cut.{rows-inside, rows-some, rows-le}
 use Rattle.laws.proofs.Evaluated.{part-is}
+use Rattle.ewah_write.specs.declared.writer.Writer.{Writer}
+use Rattle.body_write.specs.Bodies.{Growing, RoomFor, Emitted, UpTo}
+use Rattle.body_write.proofs.UpTo.{up-growing, up-room, up-more}
 use Rattle.block_read.specs.Taken.{wordAt}
 use Rattle.block_write.specs.Rowed.{rowSegments, CleanWord}
 use Rattle.blocks.specs.Blocks.{NextBlock}
@@ -31,8 +34,33 @@ use Rattle.blocks.proofs.Walks.{S}
 use Rattle.pivots.specs.Splits.{HasRows, SplitBy, Taken}
 use Rattle.ranks.specs.Frames.{Column}
 use Rattle.ranks.specs.Found.{rowsAbove, rowsLevel}
-use Rattle.ranks.specs.Passes.{EndOf, Kept, Spelled, RowLength, cutRows}
+use Rattle.ranks.specs.Passes.{EndOf, Kept, Spelled, RowLength, cutRows, cutBody}
+use Rattle.ranks.proofs.Along.{few}
 use Rattle.ranks.proofs.Comparing.{Tested, has-rows, clear, like, tested-ahead, tested-same}
+
+-- the segments of the body
+abbrev pub ownSegments : (op : Ranking) (index list : List ℕ) (value cut : ℕ) → List Segment
+ownSegments op index list value cut = segs (formatOf index) (rowCount index) (cutRows op index list value cut)
+
+-- a cut that is no further than n segments is in one of them, or right behind the last
+pub at-most : {v w cut n : ℕ} → v ≡ w → 0 < v → cut ≤ n * w → cut / v ≤ n
+at-most {v} {w} {cut} {n} e pos h = elim (decLe (cut / v) n) [
+  | yes g ↦ g
+  | no g ↦
+      let more : suc n ≤ cut / v = omega arith in
+      absurd (omega (arith, le-div-iff-mul-le pos .0 more, suc-mul n v, ap (λ (k : ℕ). n * k) e))
+]
+
+pub body-is : (op : Ranking) (index list : List ℕ) (value cut : ℕ)
+    → wordsOf (formatOf index) (rowCount index) (ownSegments op index list value cut) ≡ cutBody op index list value cut
+body-is op index list value cut = unfold canonical in refl
+
+-- what a row that a writer of the format G is given must be
+abbrev MayEmit : (G : Format) (v : Writer) (ws : List ℕ) (n : ℕ) (even store : Bool) (room : ℕ) → Type 0
+MayEmit G v ws n even store room =
+    Growing G v n
+    × (((1 ≤ n) × (n ≤ mostRun G) × (even ≡ true → (1 ≤ length ws) × CleanWord G (getD ws 0 0)) × (even ≡ false → length ws ≡ n))
+    × (store ≡ true → RoomFor G (rowSegments G ws n even) v room))
 
 -- ---- the bits before the cut, which is at bit `low` of segment `at`
 
@@ -81,11 +109,12 @@ module _ {o at low w keep end n S : ℕ} (kp : Kept o at low keep) (en : EndOf o
 
 -- ---- a block
 
-module _ {op : Ranking} {index list : List ℕ} {value at low o end n : ℕ} {even : Bool} {ns x a s : List ℕ} {keep mask full len : ℕ}
+module _ {op : Ranking} {index list : List ℕ} {value cut at low o end n : ℕ} {even : Bool} {ns x a s : List ℕ} {keep mask full len : ℕ}
     {t row : List ℕ} (cs : Column index list) (nb : NextBlock index list o end n even ns x)
     (sp : SplitBy op x (length list - 1) value a s) (la : (w : ℕ) → getD a w 0 < 2 ^ wordBits)
     (ls : (w : ℕ) → getD s w 0 < 2 ^ wordBits) (tk : Taken a s keep t) (lt : (w : ℕ) → getD t w 0 < 2 ^ wordBits)
     (kp : Kept o at low keep) (en : EndOf o at (S index) end) (l : low < width (formatOf index))
+    (cut-is : cut ≡ at * width (formatOf index) + low)
     (ps : Spelled t n even mask full row) (rl : RowLength n even len) (long : length t ≡ blockSegments) where
   abbrev F : Format
   F = formatOf index
@@ -97,10 +126,10 @@ module _ {op : Ranking} {index list : List ℕ} {value at low o end n : ℕ} {ev
   w = width F
 
   abbrev q : ℕ → Bool
-  q = cutRows op index list value (at * width (formatOf index) + low)
+  q = cutRows op index list value cut
 
   abbrev T : List Segment
-  T = segs F R q
+  T = ownSegments op index list value cut
 
   ta : Tested x (length list - 1) (λ v. ahead op v value) a
   ta = tested-ahead sp la
@@ -135,7 +164,7 @@ module _ {op : Ranking} {index list : List ℕ} {value at low o end n : ℕ} {ev
         (ap (λ (v : ℕ). isSet v j) (sym (front a)) ∙ has-rows cs nb ta .bits i j h k)
         (ap₂ (λ (b c : Bool). b && c)
         (ap (λ (v : ℕ). isSet v j) (sym (front s)) ∙ has-rows cs nb tb .bits i j h k)
-        (kept-rows kp en (nb .within) l (width-le F) i j h k))
+        (kept-rows kp en (nb .within) l (width-le F) i j h k ∙ ap (ltb ((o + i) * w + j)) (sym cut-is)))
 
     segment : getD T (o + i) (clean 0) ≡ rowsKind F R (o + i) (getD t p 0)
     segment = segment-is F R q (o + i) (getD t p 0) (inside i h) (λ j k g. bits j k)
@@ -217,8 +246,37 @@ module _ {op : Ranking} {index list : List ℕ} {value at low o end n : ℕ} {ev
     many-segments false e = length-map words (kind w) ∙ words-all e
 
     pub part-of : rowSegments (formatOf index) (take len row) n even
-        ≡ take n (drop o (segs (formatOf index) (rowCount index) (cutRows op index list value (at * width (formatOf index) + low))))
+        ≡ take n (drop o (ownSegments op index list value cut))
     part-of =
         sym (part-is T (rowSegments F words n even) o n (many-segments even refl)
         (omega (arith, nb .within, en .within, segs-length F R q))
         (λ i h. segment i h ∙ sym (at-word even refl i h ∙ written even refl i h)))
+
+    -- ---- what the writer may be given, and what it has then
+
+    few-segments : o + n ≤ mostSegments
+    few-segments = omega (arith, nb .within, en .within, few cs)
+
+    -- by a writer of the index's format
+    pub may-emit : {G : Format} → G ≡ formatOf index → {store : Bool} {old out : List ℕ} {v : Writer}
+        → UpTo (formatOf index) (rowCount index) (ownSegments op index list value cut) store old out v o
+        → (store ≡ true → length (cutBody op index list value cut) ≤ length out)
+        → MayEmit G v (take len row) n even store (length out)
+    may-emit {G} is {store} {old} {out} {v} g fits =
+        subst (λ (H : Format). MayEmit H v words n even store (length out)) (sym is)
+        (up-growing g n few-segments, ((nb .some, nb .in-run, words-some, words-all), room-for))
+      where
+        room-for : store ≡ true → RoomFor F (rowSegments F words n even) v (length out)
+        room-for e = up-room g n few-segments _ part-of (length out) (rw (body-is op index list value cut) (fits e))
+
+    pub up-next : {G : Format} → G ≡ formatOf index → {store : Bool} {old out out′ : List ℕ} {v v′ : Writer}
+        → UpTo (formatOf index) (rowCount index) (ownSegments op index list value cut) store old out v o
+        → ((real : ℕ) → mask ≡ 2 ^ real - 1 → Emitted G real out out′ v (rowSegments G (take len row) n even) store v′)
+        → UpTo (formatOf index) (rowCount index) (ownSegments op index list value cut) store old out′ v′ (o + n)
+    unfolding allSet
+    up-next {G} is {store} {old} {out} {out′} {v} {v′} g put =
+        up-more g n few-segments _ part-of (nb .some) (omega (arith, nb .within, en .within))
+        (subst (λ (H : Format). Emitted H real out out′ v (rowSegments H words n even) store v′) is (put real mask-is))
+      where
+        real : ℕ
+        real = rowsIn w R (o + n - 1)

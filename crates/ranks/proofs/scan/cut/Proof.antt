@@ -1,18 +1,14 @@
-use native.Mathlib.Omega.{arith}
+-- `ranks::scan::cut` meets its contract.
+-- Assumes nothing.
 use borrow.Author.Needs.{needs}
 use Rattle.ranks.proofs.scan.cut.Statement.{statement}
 use Rattle.ranks.proofs.scan.cut.Tie as tie
-use Rattle.ranks.proofs.scan.cut.Reads as reads
-use Rattle.ranks.proofs.scan.cut.Lts as lts
-use Rattle.ranks.proofs.scan.scan.Reads as scan-reads
 
--- src/scan.rt:77:5
 scan-requires : tie.Need-scan-requires
 scan-requires c κs = search needs
 
--- src/scan.rt:71:1
 returns : tie.Need-returns
-returns c = search needs
+returns c = c .scan .ensures .found (c .before .before .before .pre .1 .1)
 
 pub cut-spec : {M : Type 1} → statement M
 cut-spec = tie.close (tie.spec scan-requires returns)
