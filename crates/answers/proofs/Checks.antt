@@ -3,7 +3,11 @@
 use Prim.Native.Nat.{ℕ}
 use native.Mathlib.Omega.{arith}
 use mathlib.Core.Path.{_≡_, sym, ap, _∙_}
+use mathlib.Core.List.{List}
 use Rattle.meaning.specs.Refusal.{Outcome, Verdict, sound, _then_}
+use Rattle.meaning.specs.Answer.{check}
+use Rattle.laws.specs.Laws.{IndexFacts}
+use Rattle.laws.proofs.IndexSound.{index-means}
 use Rattle.laws.proofs.Outcomes.{then-sound}
 use Rattle.answers.specs.declared.refusal.Refusal.{Refusal}
 use Rattle.answers.specs.declared.refusal.Checked.{Checked}
@@ -29,3 +33,8 @@ module _ (k : Checked) (v : Verdict) (e : verdictOf k ≡ v) where
 
     pub answers : (x : Outcome A) → k ≡ Sound → x ≡ o → x ≡ (v then o)
     answers x h f = f ∙ sym (then-sound v o (sound-is h))
+
+-- a check of a whole index
+pub checked-index : (k : Checked) (index : List ℕ) → verdictOf k ≡ check index → k ≡ Sound → IndexFacts index
+unfolding check
+checked-index k index e h = index-means index .0 (sound-is k (check index) e h)

@@ -3,7 +3,7 @@
 use borrow.Author.Needs.{needs}
 use Rattle.meaning.specs.Ewah.{ewahRows}
 use Rattle.meaning.specs.Format.{rowsOf}
-use Rattle.zvonurel.proofs.Alone.{count-refused, countable, count-answered}
+use Rattle.on_bodies.proofs.Alone.{count-refused, countable, count-answered}
 use Rattle.bitwise.proofs.body_count.Statement.{statement}
 use Rattle.bitwise.proofs.body_count.Tie as tie
 
