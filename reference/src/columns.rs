@@ -49,9 +49,20 @@ impl Column {
 
     /// The same for each row.
     pub fn numbers(&self) -> Spans<i64> {
+        self.weighed(|slice| slice.worth)
+    }
+
+    /// The same if a slice counted in its first place alone, for a mistake only.
+    pub fn numbers_by_first_place(&self) -> Spans<i64> {
+        self.weighed(|slice| 1 << slice.place)
+    }
+
+    /// For each row the worth of the slices that have it.
+    fn weighed(&self, worth: fn(&Slice) -> i64) -> Spans<i64> {
         let mut numbers = Spans::alike(self.exists.len(), 0);
         for slice in &self.slices {
-            numbers = numbers.with(&slice.rows, |number, set| if set { number + slice.worth } else { number });
+            let worth = worth(slice);
+            numbers = numbers.with(&slice.rows, |number, set| if set { number + worth } else { number });
         }
         numbers
     }
