@@ -166,6 +166,13 @@ impl Bodies {
             let columns = Question::pair(call, &[1, 3, 2], &[1, 1]).room(4 * index.len());
             limits.ask(&format!("  {call:?}"), &index, columns).ok();
         }
+        // "One row" is the digit above that of the runs.
+        for (list, k) in [1, MOST_ROWS / 2, MOST_ROWS - 1, MOST_ROWS].map(|k| ([1, 3, 2], k)) {
+            for question in Question::ranks(&list, k) {
+                let name = format!("  {:?} {k}", question.call);
+                limits.ask(&name, &index, question.room(4 * index.len())).ok();
+            }
+        }
         for (name, call) in [("  to EWAH", Call::IndexToEwah), ("  to WAH", Call::IndexToWah)] {
             limits.ask(name, &index, Question::new(call).room(4 * index.len() + 9_999)).ok();
         }

@@ -8,6 +8,7 @@ use crate::ask::words_needed;
 use crate::encode::{fill, full, index_in, last_mask, marker, mask_last, one_run, plain_mask, settled, FORMATS};
 use crate::fixed::values;
 use crate::question::{Call, Question};
+use crate::ranks;
 use crate::session::Session;
 use crate::tail::Spelling::{Dirty, Run};
 use crate::tail::{index, tails, with_idle, Tail, FRONTS, SOME, SPELLINGS};
@@ -54,7 +55,7 @@ fn nths(tail: &Tail) -> Vec<u32> {
 }
 
 /// Asks with just the room that is needed, and with a word less.
-fn fitting(session: &mut Session, words: &[u32], question: Question) {
+pub fn fitting(session: &mut Session, words: &[u32], question: Question) {
     if session.difference.is_some() {
         return;
     }
@@ -157,6 +158,12 @@ fn columns(session: &mut Session, format: Format, rows: u32) {
     for (exists, slice) in (0..n).flat_map(|j| (0..n).map(move |k| (j, k))) {
         let list = [exists, slice];
         values(session, &index, &list, &[0, rows - 1, rows, last_rows(format, rows)[3]]);
+        let there: u32 = tails[exists as usize].plain().iter().map(|word| word.count_ones()).sum();
+        for k in [there, [1, there / 2, there.saturating_sub(1), there + 1][(rows + slice) as usize % 4]] {
+            for question in Question::ranks(&list, k) {
+                session.ask(&index, question.room(format.most_body_words(rows)));
+            }
+        }
         // the others in turns
         let [sum, others @ ..] = Call::PAIRINGS;
         for (turn, second) in (rows as usize..).zip([[run, run], [run, dirty], [dirty, run], [run, mixed]]) {
@@ -174,6 +181,7 @@ fn columns(session: &mut Session, format: Format, rows: u32) {
         }
         session.ask(&index, Question::pair(Call::Changes, &wide, &other).number(rows));
         values(session, &index, &wide, &[0, rows - 1, rows]);
+        ranks::ask(session, &index, &wide, &[1, rows / 2, rows - 1, rows, rows + 1]);
     }
 }
 
@@ -291,6 +299,7 @@ fn all_and_none(session: &mut Session, format: Format, rows: u32) {
         session.ask(&index, of(call).second(&[0, 0]).room(3 * all.len() + 9));
     }
     values(session, &index, &[0, 1], &[rows - 1]);
+    ranks::ask(session, &index, &[0, 1], &[rows - 1, rows, rows + 1]);
 }
 
 /// A run over the last segment that just fills a marker, and one more.
@@ -333,6 +342,8 @@ fn many_dirty_words(session: &mut Session) {
             for call in Call::REWRITE_BITMAP {
                 fitting(session, &index, of(call).list(&[k]));
             }
+            let there: u32 = plain.iter().map(|word| word.count_ones()).sum();
+            ranks::ask(session, &index, &[k, 1 - k], &[there / 2, there - 1, there, there + 1]);
         }
     }
 }
