@@ -59,7 +59,7 @@ pub fn generate(random: &mut Random, long: bool) -> Columns {
     let few = random.one_in(FEW_IN);
     let shape = match long {
         true => tall(format, random),
-        false if random.one_in(if few { 60 } else { 400 }) => at_a_limit(format, random),
+        false if random.one_in(if few { 40 } else { 400 }) => at_a_limit(format, random),
         false => ordinary(format, random),
     };
     let [mut first, mut second] = [0, 1].map(|which| match few {

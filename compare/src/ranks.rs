@@ -1,6 +1,6 @@
 //! The first rows of a column, held against what the library tells of them; and fixed cases.
 //!
-//! The library writes the k largest rows and the k smallest, counts each, takes away from them the rows that exist, and
+//! The library writes the k largest rows and the k smallest, counts each, parts those that exist from the others, and
 //! tells the values at some that are taken and at some that are not. It also writes all rows that exist as the largest
 //! and as the smallest. The reference says what has to come of it: k rows, none that doesn't exist, none in the wrong
 //! order, and the existence bitmap in its canonical form.
@@ -35,32 +35,34 @@ pub struct Ranks([Taken; 2]);
 
 type Ranking = fn(&[u32], &[u32], u32, &mut [u32]) -> Result<usize, Refusal>;
 
-fn taken(words: &[u32], q: &Question, call: Ranking, before: fn(u64, u64) -> bool) -> Result<Taken, Refusal> {
-    let (rows, list) = (|k| measured(|out| call(words, &q.list, k, out)), &q.list);
-    let body = rows(q.number)?;
-    // The rows that are taken, and the rows that exist.
-    let exists = zvonurel::bitmap(words, list[0])?;
-    let both = index_in(format_of(words), words[1], &[&body[..], exists]);
-    let out = measured(|out| zvonurel::and_not(&both, 1, 0, out))?;
-    let missing = measured(|out| zvonurel::and_not(&both, 0, 1, out))?;
-    let [body, out, missing] = [body, out, missing].map(|body| index_in(format_of(words), words[1], &[body]));
-
-    let some = |body: &[u32]| {
-        let valued = |n| {
-            let row = zvonurel::nth(body, 0, n)?;
-            Ok((row, zvonurel::value(words, list, row)?))
-        };
-        some_of(zvonurel::count(body, 0)?, q.number).into_iter().map(valued).collect::<Result<Vec<_>, Refusal>>()
+/// Some rows of a bitmap, by its index and number, with their values in a column of another index.
+fn some_values(index: &[u32], k: u32, words: &[u32], q: &Question) -> Result<Vec<(u32, u64)>, Refusal> {
+    let valued = |n| {
+        let row = zvonurel::nth(index, k, n)?;
+        Ok((row, zvonurel::value(words, &q.list, row)?))
     };
-    let (inside, outside) = (some(&body)?, some(&out)?);
+    some_of(zvonurel::count(index, k)?, q.number).into_iter().map(valued).collect()
+}
+
+fn taken(words: &[u32], q: &Question, call: Ranking, before: fn(u64, u64) -> bool) -> Result<Taken, Refusal> {
+    let rows = |k| measured(|out| call(words, &q.list, k, out));
+    let (body, exists) = (rows(q.number)?, zvonurel::bitmap(words, q.list[0])?);
+    let index = |bodies: &[&[u32]]| index_in(format_of(words), words[1], bodies);
+    let both = index(&[&body, exists]);
+    let inside = measured(|out| zvonurel::and(&both, 0, 1, out))?;
+    let outside = measured(|out| zvonurel::and_not(&both, 1, 0, out))?;
+    let missing = measured(|out| zvonurel::and_not(&both, 0, 1, out))?;
+    let parts = index(&[&inside, &outside, &missing]);
+
+    let (inside, outside) = (some_values(&parts, 0, words, q)?, some_values(&parts, 1, words, q)?);
     let good = |&(row, value): &(u32, u64), &(later, other): &(u32, u64)| {
         before(value, other) || value == other && row < later
     };
     Ok(Taken {
-        count: zvonurel::count(&body, 0)?,
-        missing: zvonurel::count(&missing, 0)?,
+        count: zvonurel::count(&both, 0)?,
+        missing: zvonurel::count(&parts, 2)?,
         in_order: inside.iter().all(|row| outside.iter().all(|other| good(row, other))),
-        all: rows(zvonurel::count(words, list[0])?)?,
+        all: rows(zvonurel::count(&both, 1)?)?,
     })
 }
 
@@ -192,9 +194,8 @@ mod tests {
         let question = Question::new(Call::Ranks).list(&[0, 1, 2]).number(2);
         // Rows 0 and 2 are due; too few, one that doesn't exist, the higher of equal ones, a smaller one.
         fn told<const ROWS: u32>(_: &[u32], _: &[u32], _: u32, out: &mut [u32]) -> Result<usize, Refusal> {
-            match out {
-                [marker, rows] => (*marker, *rows) = (0x0002_0000, ROWS),
-                _ => return Err(zvonurel::largest(&[1, 64, 1, 5, 1, 5], &[0, 0], 1, &mut []).expect_err("no room")),
+            if let [marker, rows] = out {
+                (*marker, *rows) = (0x0002_0000, ROWS);
             }
             Ok(2)
         }

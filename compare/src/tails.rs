@@ -148,6 +148,16 @@ fn two_by_two(session: &mut Session, format: Format, rows: u32) {
     }
 }
 
+/// All rows that exist as the largest and as the smallest; and in turns another number of rows, of one or the other.
+fn all_and_some(session: &mut Session, index: &[u32], list: &[u32], exists: Vec<u32>, turn: usize) {
+    let there: u32 = exists.iter().map(|word| word.count_ones()).sum();
+    let some = [1, there / 2, there.saturating_sub(1), there + 1][turn % 4];
+    let ([largest, smallest, _], others) = (Question::ranks(list, there), Question::ranks(list, some));
+    for question in [largest, smallest, others[turn % others.len()].clone()] {
+        session.ask(index, question.room(exists.len() + 2));
+    }
+}
+
 /// Any two as existence and slice, full ones among them, as run and as dirty word either way round. Many have strays.
 fn columns(session: &mut Session, format: Format, rows: u32) {
     let tails = tails(format, rows, &FRONTS);
@@ -158,12 +168,7 @@ fn columns(session: &mut Session, format: Format, rows: u32) {
     for (exists, slice) in (0..n).flat_map(|j| (0..n).map(move |k| (j, k))) {
         let list = [exists, slice];
         values(session, &index, &list, &[0, rows - 1, rows, last_rows(format, rows)[3]]);
-        let there: u32 = tails[exists as usize].plain().iter().map(|word| word.count_ones()).sum();
-        for k in [there, [1, there / 2, there.saturating_sub(1), there + 1][(rows + slice) as usize % 4]] {
-            for question in Question::ranks(&list, k) {
-                session.ask(&index, question.room(format.most_body_words(rows)));
-            }
-        }
+        all_and_some(session, &index, &list, tails[exists as usize].plain(), (rows + slice) as usize);
         // the others in turns
         let [sum, others @ ..] = Call::PAIRINGS;
         for (turn, second) in (rows as usize..).zip([[run, run], [run, dirty], [dirty, run], [run, mixed]]) {

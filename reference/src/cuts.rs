@@ -1,7 +1,6 @@
 //! What taking a part of the rows that have equal numbers could get wrong, and what going by blocks and runs could.
 //! Only mistakes look here: without one, nothing is changed.
 
-use std::collections::HashSet;
 use std::ops::Range;
 
 use crate::columns::Column;
@@ -14,28 +13,28 @@ use crate::widths::by_32;
 /// Segments of a block that is looked at at once.
 const BLOCK: usize = 16;
 
-/// Rows with equal numbers, of which the lowest are taken and the others are not.
+/// The rows with the last number that is taken, of which the lowest are taken and others may not be.
 struct Cut {
     format: Format,
     /// All rows that are taken.
     taken: Spans<bool>,
-    /// Those with the last number that is taken, left out or not.
+    /// Those with the last number, left out or not.
     ties: Spans<bool>,
     /// The highest of these that is taken.
     last: usize,
 }
 
 impl Cut {
-    /// Where rows are cut, if they are.
-    fn of(taken: &Spans<bool>, ranked: &Spans<Option<i64>>, format: Format) -> Option<Cut> {
-        let numbers = |which: bool| {
-            let of_these = taken.with(ranked, |taken, number| number.filter(|_| taken == which));
-            of_these.iter().filter_map(|(_, number)| number).collect::<HashSet<i64>>()
-        };
-        let number = *numbers(true).intersection(&numbers(false)).next()?;
-        let ties = ranked.map(|other| other == Some(number));
+    /// None where no row is taken.
+    fn of(taken: &Spans<bool>, ranked: &Spans<Option<i64>>, last: Option<i64>, format: Format) -> Option<Cut> {
+        let ties = ranked.map(|number| number.is_some() && number == last);
         let last = ties.with(taken, |tie, taken| tie && taken).set().next_back()?.end - 1;
         Some(Cut { format, taken: taken.clone(), ties, last })
+    }
+
+    /// Are all rows with the last number taken?
+    fn is_exact(&self) -> bool {
+        !self.goes_on(&self.all())
     }
 
     /// The equal rows among these places, taken or left out.
@@ -44,6 +43,14 @@ impl Cut {
         within.push(self.ties.len().saturating_sub(within.len()), false);
         let changed = self.ties.with(&within, |tie, within| tie && within);
         self.taken.with(&changed, |taken, changed| if changed { take } else { taken })
+    }
+
+    /// The equal rows among these places left out, if they are cut there.
+    fn without_cut(&self, places: Range<usize>) -> Spans<bool> {
+        match self.goes_on(&places) {
+            true => self.with(places, false),
+            false => self.taken.clone(),
+        }
     }
 
     /// All places that there are.
@@ -73,6 +80,11 @@ impl Cut {
         self.ties.part(self.last + 1..places.end).any()
     }
 
+    /// The rows with the last number alone.
+    fn alone(&self) -> Spans<bool> {
+        self.taken.with(&self.ties, |taken, tie| taken && tie)
+    }
+
     /// The lowest of all rows that have numbers as good as the last, as many as are taken.
     fn lowest_of_enough(&self) -> Spans<bool> {
         let enough = self.with(self.all(), true);
@@ -85,22 +97,17 @@ impl Cut {
 
 type Wrong = fn(&Cut) -> Spans<bool>;
 
-/// The rows as each mistake takes them.
-const CUTS: [(Mistake, Wrong); 11] = [
+/// The rows as each mistake takes them, where some of the equal ones are left out.
+const CUTS: [(Mistake, Wrong); 13] = [
     (Mistake::TiesLeftOut, |cut| cut.with(cut.all(), false)),
     (Mistake::TiesAllTaken, |cut| cut.with(cut.all(), true)),
     (Mistake::LowestOfEnough, Cut::lowest_of_enough),
     (Mistake::CutTakesSegment, |cut| cut.with(cut.block(1), true)),
-    (Mistake::CutLeavesSegment, |cut| match cut.goes_on(&cut.block(1)) {
-        true => cut.with(cut.block(1), false),
-        false => cut.taken.clone(),
-    }),
+    (Mistake::CutLeavesSegment, |cut| cut.without_cut(cut.block(1))),
     (Mistake::CutTakesRun, |cut| cut.with(cut.run(), true)),
-    (Mistake::CutLeavesRun, |cut| match cut.goes_on(&cut.run()) {
-        true => cut.with(cut.run(), false),
-        false => cut.taken.clone(),
-    }),
+    (Mistake::CutLeavesRun, |cut| cut.without_cut(cut.run())),
     (Mistake::CutTakesBlock, |cut| cut.with(cut.block(BLOCK), true)),
+    (Mistake::CutLeavesBlock, |cut| cut.without_cut(cut.block(BLOCK))),
     (Mistake::CutAtEdgeOneMore, |cut| {
         let next = cut.ties.part(cut.last + 1..cut.ties.len()).nth(0).map_or(0, |behind| behind + 1);
         let more = if cut.at_edge() { next } else { 0 };
@@ -114,16 +121,31 @@ const CUTS: [(Mistake, Wrong); 11] = [
         let marker = cut.run().start + MOST_CLEAN * cut.format.width();
         cut.with(marker.min(cut.last + 1)..cut.last + 1, false)
     }),
+    (Mistake::CutBy32, |cut| match cut.format {
+        Format::Wah => cut.with(by_32(cut.last) + 1..cut.last + 1, false),
+        Format::Ewah => cut.taken.clone(),
+    }),
 ];
 
-/// The rows as a mistake takes them, where these should be taken.
-pub(crate) fn as_mistaken(taken: Spans<bool>, ranked: &Spans<Option<i64>>, format: Format) -> Spans<bool> {
-    if mistaken(Mistake::CutBy32) && format == Format::Wah {
-        let cut = Cut::of(&taken, ranked, format);
-        return cut.map_or(taken, |cut| cut.with(by_32(cut.last) + 1..cut.last + 1, false));
+/// The same where none is.
+const EXACT: [(Mistake, Wrong); 2] =
+    [(Mistake::ExactLosesLast, |cut| cut.with(cut.all(), false)), (Mistake::ExactLosesBetter, Cut::alone)];
+
+/// The rows as a mistake takes them, where these should be taken; `last` is the last number among them.
+pub(crate) fn as_mistaken(
+    taken: Spans<bool>,
+    ranked: &Spans<Option<i64>>,
+    last: Option<i64>,
+    format: Format,
+) -> Spans<bool> {
+    let made = |table: &[(Mistake, Wrong)]| table.iter().find(|(m, _)| mistaken(*m)).map(|(_, wrong)| *wrong);
+    let (cuts, exact) = (made(&CUTS), made(&EXACT));
+    if cuts.is_none() && exact.is_none() {
+        return taken;
     }
-    let Some((_, wrong)) = CUTS.iter().find(|(m, _)| mistaken(*m)) else { return taken };
-    Cut::of(&taken, ranked, format).map_or(taken, |cut| wrong(&cut))
+    let Some(cut) = Cut::of(&taken, ranked, last, format) else { return taken };
+    let wrong = if cut.is_exact() { exact } else { cuts };
+    wrong.map_or(taken, |wrong| wrong(&cut))
 }
 
 /// How many of these rows, which are side by side and equal, are counted as taken.

@@ -451,6 +451,12 @@ pub enum Mistake {
     StrayBeforeRank,
     /// The k largest or smallest rows are told of slices that hold rows which don't exist.
     RankingSkipsStrays,
+    /// They are told without refusal 11 where k is 0.
+    NoneSkipsStrays,
+    /// They are told without refusal 11 where k is all rows that exist.
+    AllSkipsStrays,
+    /// Where they are asked for, no slice but the top one is searched for strays.
+    OnlyTopSearched,
     /// Where such rows are asked for, refusal 9 comes before 11.
     RankingRoomBeforeStray,
     /// Their answer also asks for room for the existence bitmap.
@@ -513,6 +519,8 @@ pub enum Mistake {
     CutLeavesRun,
     /// In the block of 16 segments of the last row that is taken, all rows equal to it are taken.
     CutTakesBlock,
+    /// Where the equal rows of such a block are cut, none of them is taken.
+    CutLeavesBlock,
     /// Equal rows that are cut at a segment's end have one row more.
     CutAtEdgeOneMore,
     /// Equal rows that are cut at a segment's end lose that segment: the mask of all its rows is 0.
@@ -523,6 +531,10 @@ pub enum Mistake {
     LongRunCountsShort,
     /// In WAH, the last equal row that is taken is told as if segments had 32 rows.
     CutBy32,
+    /// Where all rows with the last number that is taken are taken, they are left out.
+    ExactLosesLast,
+    /// Where all rows with the last number that is taken are taken, those with better ones are left out.
+    ExactLosesBetter,
     /// The k largest or smallest rows of a WAH index are written in EWAH.
     RankingInEwah,
     /// In them a full last segment with pads is written as a dirty word or a literal.
@@ -765,6 +777,9 @@ impl Mistake {
         Mistake::RankingCountsPads,
         Mistake::StrayBeforeRank,
         Mistake::RankingSkipsStrays,
+        Mistake::NoneSkipsStrays,
+        Mistake::AllSkipsStrays,
+        Mistake::OnlyTopSearched,
         Mistake::RankingRoomBeforeStray,
         Mistake::RankingRoomByExistence,
         Mistake::OneRowLess,
@@ -796,11 +811,14 @@ impl Mistake {
         Mistake::CutTakesRun,
         Mistake::CutLeavesRun,
         Mistake::CutTakesBlock,
+        Mistake::CutLeavesBlock,
         Mistake::CutAtEdgeOneMore,
         Mistake::CutAtEdgeLosesSegment,
         Mistake::CutInFirstMarker,
         Mistake::LongRunCountsShort,
         Mistake::CutBy32,
+        Mistake::ExactLosesLast,
+        Mistake::ExactLosesBetter,
         Mistake::RankingInEwah,
         Mistake::RankingFullTailDirty,
         Mistake::RankingKeepsDirty,

@@ -3,7 +3,7 @@
 use std::ops::Range;
 
 use crate::body::{settle, settled};
-use crate::columns::{column, no_strays, Column};
+use crate::columns::{column, no_strays, no_strays_on_top, Column};
 use crate::cuts;
 use crate::format::Format;
 use crate::index::open;
@@ -67,15 +67,15 @@ fn ranking(order: Order, words: &[u32], list: &[u32], k: u32, room: usize) -> Re
     let k = how_many(&column, k as usize)?;
 
     let room_first = mistaken(Mistake::RankingRoomBeforeStray);
-    if !room_first && !mistaken(Mistake::RankingSkipsStrays) {
-        no_strays(&column)?;
+    if !room_first {
+        no_strays_for(&column, k)?;
     }
-    let body = match mistaken(Mistake::AllTakenCopied) && k == existing(&column).count() {
+    let body = match mistaken(Mistake::AllTakenCopied) && k == column.existing().count() {
         true => words[index.part(list[0])?].to_vec(),
         false => body(&column, taken(order, &column, k)),
     };
     if mistaken(Mistake::RankingRoomByExistence) {
-        must_fit(settled(&existing(&column), column.format).len(), room)?;
+        must_fit(settled(&column.existing(), column.format).len(), room)?;
     }
     must_fit(body.len(), room)?;
     if room_first {
@@ -84,16 +84,25 @@ fn ranking(order: Order, words: &[u32], list: &[u32], k: u32, room: usize) -> Re
     Ok(body)
 }
 
-// ---- how many ----
-
-/// Which rows exist.
-fn existing(column: &Column) -> Spans<bool> {
-    column.exists.part(column.rows_taking(false))
+/// Refusal 11, but where a mistake has none.
+fn no_strays_for(column: &Column, k: usize) -> Result<(), Refusal> {
+    let skipped = mistaken(Mistake::RankingSkipsStrays)
+        || mistaken(Mistake::NoneSkipsStrays) && k == 0
+        || mistaken(Mistake::AllSkipsStrays) && k == column.existing().count();
+    if skipped {
+        return Ok(());
+    }
+    if mistaken(Mistake::OnlyTopSearched) {
+        return no_strays_on_top(column);
+    }
+    no_strays(column)
 }
+
+// ---- how many ----
 
 /// k, or refusal 8 where fewer rows exist.
 fn how_many(column: &Column, k: usize) -> Result<usize, Refusal> {
-    let most = existing(column).count();
+    let most = column.existing().count();
     if k > told_most(column, most) || mistaken(Mistake::NoneRefused) && k == 0 {
         return Err(too_many(k));
     }
@@ -138,21 +147,24 @@ fn too_many(k: usize) -> Refusal {
 fn taken(order: Order, column: &Column, k: usize) -> Spans<bool> {
     let ranked = ranked(order, column);
     let highest_first = order.highest_first();
-    let mut all: Vec<(i64, Range<usize>)> =
-        ranked.iter().filter_map(|(rows, number)| Some((order.key(number?), rows))).collect();
-    all.sort_by_key(|(key, rows)| (*key, if highest_first { -(rows.start as i64) } else { rows.start as i64 }));
+    let mut all: Vec<(i64, Range<usize>)> = ranked.iter().filter_map(|(rows, number)| Some((number?, rows))).collect();
+    let row_key = |rows: &Range<usize>| if highest_first { -(rows.start as i64) } else { rows.start as i64 };
+    all.sort_by_key(|(number, rows)| (order.key(*number), row_key(rows)));
 
-    let (mut left, mut first) = (k, Vec::new());
-    for (_, rows) in all {
+    let (mut left, mut first, mut last) = (k, Vec::new(), None);
+    for (number, rows) in all {
         let count = left.min(rows.len());
+        if count == 0 {
+            break;
+        }
         left -= cuts::counted(count, column.format.width());
         first.push(if highest_first { rows.end - count..rows.end } else { rows.start..rows.start + count });
+        last = Some(number);
     }
-    first.retain(|rows| !rows.is_empty());
     first.sort_by_key(|rows| rows.start);
     let mut taken = Spans::over(first.into_iter());
     taken.push(ranked.len() - taken.len(), false);
-    cuts::as_mistaken(taken, &ranked, column.format)
+    cuts::as_mistaken(taken, &ranked, last, column.format)
 }
 
 /// The number of each row that is ranked: those that exist. Behind them the pads, which only mistakes rank.
@@ -210,7 +222,7 @@ fn body(column: &Column, mut rows: Spans<bool>) -> Vec<u32> {
         return with_mistake(old_form, || settled(&rows, format));
     }
     if mistaken(Mistake::RankingKeepsDirty) {
-        let own = segments_in(&existing(column), format);
+        let own = segments_in(&column.existing(), format);
         let kept = |segment: Segment, own: Segment| Segment {
             clean: segment.clean.filter(|_| own.clean.is_some()),
             ..segment

@@ -50,6 +50,10 @@ fn refusals() -> Vec<Case> {
         case(Mistake::RankingCountsPads, || of_40(largest, ZEROS, 41), BAD, "[5]"),
         case(Mistake::StrayBeforeRank, || of(largest, STRAY, 4), BAD, "refused 11 4 3"),
         case(Mistake::RankingSkipsStrays, || of(largest, STRAY, 1), "refused 11 4 3", "[20000, 1]"),
+        case(Mistake::NoneSkipsStrays, || of(smallest, STRAY, 0), "refused 11 4 3", "[2]"),
+        case(Mistake::AllSkipsStrays, || of(largest, STRAY, 3), "refused 11 4 3", "[20000, 7]"),
+        // The lowest slice has row 3; rows 0 and 2 are 2.
+        case(Mistake::OnlyTopSearched, || of(largest, &[0, 4, 1], 1), "refused 11 4 3", "[20000, 1]"),
         case(
             Mistake::RankingRoomBeforeStray,
             || hex(smallest(&columns(), STRAY, 1, 0)),
@@ -129,18 +133,21 @@ fn ties() -> Vec<Case> {
 }
 
 fn cuts() -> Vec<Case> {
-    /// The first of 17 segments' rows, all equal.
-    fn in_first_block() -> String {
-        hex(smallest(&index_of(544, &[&[0x23]]), &[0, 0], 1, ANY))
+    /// The first rows of 17 segments, all equal.
+    fn of_17(k: u32) -> String {
+        hex(smallest(&index_of(544, &[&[0x23]]), &[0, 0], k, ANY))
     }
     vec![
         case(Mistake::CutTakesSegment, || of_40(largest, ZEROS, 33), "[20003, 1]", "[5]"),
         case(Mistake::CutLeavesSegment, || of_40(largest, ZEROS, 33), "[20003, 1]", "[3, 2]"),
         case(Mistake::CutTakesRun, || of_40(smallest, ZEROS, 1), "[20000, 1, 2]", "[5]"),
         case(Mistake::CutLeavesRun, || of_40(smallest, ZEROS, 33), "[20003, 1]", "[4]"),
-        case(Mistake::CutTakesBlock, in_first_block, "[20000, 1, 20]", "[21, 2]"),
+        case(Mistake::CutTakesBlock, || of_17(1), "[20000, 1, 20]", "[21, 2]"),
+        case(Mistake::CutLeavesBlock, || of_17(513), "[20021, 1]", "[21, 2]"),
         case(Mistake::CutAtEdgeOneMore, || of_40(largest, ZEROS, 32), "[3, 2]", "[20003, 1]"),
         case(Mistake::CutAtEdgeLosesSegment, || of_40(largest, ZEROS, 32), "[3, 2]", "[4]"),
+        case(Mistake::ExactLosesLast, || of(largest, WIDE, 2), "[20000, 6]", "[20000, 4]"),
+        case(Mistake::ExactLosesBetter, || of(largest, WIDE, 2), "[20000, 6]", "[20000, 2]"),
         // Row 32 is told as row 31.
         case(Mistake::CutBy32, || of_wah(largest, ZEROS, 33), "[7fffffff, 3]", "[7fffffff, 1]"),
     ]
@@ -176,6 +183,10 @@ fn right_elsewhere() {
     for m in [Mistake::TiesLeftOut, Mistake::TiesAllTaken, Mistake::LowestOfEnough, Mistake::CutLeavesSegment] {
         same(m, "[20000, 5]", &|| of(largest, &[0, 1], 2));
         same(m, "[2]", &|| of(largest, &[0, 1], 0));
+    }
+    // Only some of a number's rows are.
+    for m in [Mistake::ExactLosesLast, Mistake::ExactLosesBetter] {
+        same(m, "[20000, 3]", &|| of(smallest, ALIKE, 2));
     }
     // Not at a segment's end; at a segment's end.
     for m in [Mistake::CutAtEdgeOneMore, Mistake::CutAtEdgeLosesSegment] {
