@@ -1,6 +1,6 @@
 //! The first rows of an input's columns, with good and bad numbers of them.
 
-use zvonurel::WORD_BITS;
+use zvonurel::{MOST_CLEAN, WORD_BITS};
 
 use crate::choose::Asker;
 use crate::generate::{Effort, Input};
@@ -84,7 +84,7 @@ impl Asker<'_> {
         for call in Call::RANKINGS {
             let question = Question::new(call).list(list);
             let cuts = self.cuts(&numbers, call);
-            for k in self.thin(cuts.clone()) {
+            for &k in &cuts {
                 self.ask_one_room(question.clone().number(k));
             }
             let any = self.random.pick(&cuts);
@@ -108,18 +108,20 @@ impl Asker<'_> {
         all
     }
 
-    /// Numbers of rows at which equal ones are cut: at the first of them, between, at the last, and about the ends of a
-    /// segment. At least one.
+    /// Numbers of rows at which equal ones are cut: at the first of them, between, at the last, about the ends of a
+    /// segment, and about as many segments as a marker counts. At least one.
     fn cuts(&mut self, numbers: &Numbers, call: Call) -> Vec<u32> {
-        let (rows, width) = (self.input.rows as usize, self.input.format.segment_rows());
-        let some = self.random.below(rows);
+        let width = self.input.format.segment_rows() as u32;
+        let some = self.random.below(self.input.rows as usize) as u32;
         let edge = some / width * width;
         let mut last = vec![some, edge, edge + 1, edge + width - 1, edge + width - 2];
-        if let Some((row, number)) = numbers.next(some as u32) {
-            last.push(row as usize);
-            last.extend(numbers.ends(number).into_iter().flatten().map(|row| row as usize));
+        if let Some((_, number)) = numbers.next(some) {
+            last.extend(numbers.ends(number).into_iter().flatten());
         }
-        let ranked = last.into_iter().filter_map(|row| numbers.next(row as u32));
+        let marker = MOST_CLEAN as u32 * width;
+        let long = numbers.0.iter().filter(|span| span.last - span.first >= marker);
+        last.extend(long.map(|span| span.first + marker));
+        let ranked = last.into_iter().filter_map(|row| numbers.next(row));
         let mut all: Vec<u32> = ranked.map(|(row, number)| numbers.rank(row, number, call)).collect();
         all.sort();
         all.dedup();
@@ -148,9 +150,10 @@ impl Asker<'_> {
             self.ask_one_room(question);
         }
         if self.input.effort == Effort::Full {
-            let cuts = self.cuts(&Numbers::of(self.input, list), Call::Largest);
+            let call = self.random.pick(&Call::RANKINGS);
+            let cuts = self.cuts(&Numbers::of(self.input, list), call);
             let k = self.random.pick(&cuts);
-            self.ask_one_room(Question::new(Call::Largest).list(list).number(k));
+            self.ask_one_room(Question::new(call).list(list).number(k));
         }
     }
 }
