@@ -64,7 +64,7 @@ fn candidates(difference: &Difference) -> Vec<Candidate> {
     }
     if question.call.of_ranks() && question.number > 0 {
         let less = [0, question.number / 2, question.number - 1].map(|k| question.clone().number(k));
-        all.extend(less.into_iter().filter(|less| less.number < question.number).map(|less| (words.clone(), less)));
+        all.extend(less.map(|less| (words.clone(), less)));
     }
     if words.len() > 2_000 {
         return all;
