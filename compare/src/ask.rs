@@ -10,6 +10,7 @@ use zvonurel::{Row, HISTOGRAM_COUNTS};
 use crate::changes::Change;
 use crate::library::library;
 use crate::question::Question;
+use crate::ranks::Ranks;
 use crate::second::second;
 use crate::walk::Walk;
 
@@ -28,6 +29,7 @@ pub enum Value {
     /// A signed column's.
     Signed(i64),
     Changes(Vec<Change>),
+    Ranks(Ranks),
     /// A part of the index: its place, unless it is empty, and its length.
     Part(Option<usize>, usize),
     /// Words written.

@@ -24,7 +24,7 @@ pub struct Change {
 }
 
 /// Which of so many rows that both columns have are asked about.
-fn some_of(count: u32, seed: u32) -> Vec<u32> {
+pub fn some_of(count: u32, seed: u32) -> Vec<u32> {
     let mut random = Random::for_case(seed.into(), 0);
     let mut some = vec![0, count.wrapping_sub(1)];
     some.extend((0..CHANCES).map(|_| random.below(count as usize) as u32));

@@ -24,6 +24,8 @@ pub fn ask_columns(session: &mut Session, columns: &Columns, random: &mut Random
         asker.values(first);
         asker.values(second);
         asker.pairs(first, second);
+        asker.ranks(first);
+        asker.ranks(second);
         asker.wrong_numbers(first, second);
         asker.lengths(first, second);
     });
@@ -44,6 +46,8 @@ impl Asker<'_> {
         let call = self.some_pairing();
         self.ask(Question::pair(call, &first, &first).room(room));
         self.changes(&first, &first);
+        self.loose_ranks(&first);
+        self.loose_ranks(&second);
     }
 
     fn some_pairing(&mut self) -> Call {
@@ -125,6 +129,9 @@ impl Asker<'_> {
         let rows = self.value_rows(first);
         let row = self.random.pick(&rows);
         self.value(&wrong, row);
+        self.loose_ranks(&wrong);
+        // two faults at once
+        self.loose_ranks(&wrong[at..at + 1]);
         for (a, b) in self.thin(vec![(&wrong[..], second), (first, &wrong), (&wrong, &wrong)]) {
             let (call, room) = (self.some_pairing(), self.any_room());
             self.ask(Question::pair(call, a, b).room(room));
@@ -165,6 +172,7 @@ impl Asker<'_> {
             for row in [rows[0], self.random.pick(&rows)] {
                 self.value(&a, row);
             }
+            self.drawn_ranks(&a);
             let two = self.random.pick(&[(&a[..], second), (first, &b[..]), (&a, &b), (&b, &a), (&a, &a)]);
             let call = self.some_pairing();
             self.ask_one_room(Question::pair(call, two.0, two.1));
@@ -173,7 +181,7 @@ impl Asker<'_> {
     }
 
     /// A buffer of just the words needed, or too small.
-    fn ask_one_room(&mut self, question: Question) {
+    pub fn ask_one_room(&mut self, question: Question) {
         let need = words_needed(&self.input.words, &question);
         let room = self.random.pick(&[need, need, need.saturating_sub(1), 0, need + 3]);
         self.ask(question.room(room));

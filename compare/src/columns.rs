@@ -15,6 +15,9 @@ pub struct Columns {
     pub second: Vec<u32>,
 }
 
+/// One index in so many has columns of few numbers.
+const FEW_IN: usize = 3;
+
 /// Segments of a column's bitmaps: existence first, then the slices. Bits past their width don't count, nor pad bits.
 type Column = Vec<Vec<u32>>;
 
@@ -53,14 +56,19 @@ impl Shape {
 
 pub fn generate(random: &mut Random, long: bool) -> Columns {
     let format = random.pick(&FORMATS);
+    let few = random.one_in(FEW_IN);
     let shape = match long {
         true => tall(format, random),
-        false if random.one_in(400) => at_a_limit(format, random),
+        false if random.one_in(if few { 40 } else { 400 }) => at_a_limit(format, random),
         false => ordinary(format, random),
     };
-    let mut first = some_column(&shape, 0, random);
-    let mut second = some_column(&shape, 1, random);
-    relate(&mut first, &mut second, &shape, random);
+    let [mut first, mut second] = [0, 1].map(|which| match few {
+        true => few_numbers(&shape, which, random),
+        false => some_column(&shape, which, random),
+    });
+    if !few {
+        relate(&mut first, &mut second, &shape, random);
+    }
     if random.below(5) < 2 {
         let whose = random.below(3);
         if whose != 1 {
@@ -82,7 +90,8 @@ fn some_width(random: &mut Random) -> usize {
     match random.below(10) {
         0..=2 => 1,
         3..=6 => random.between(2, 5),
-        7..=8 => random.between(6, 20),
+        7 => random.between(6, 20),
+        8 => 16,
         _ => random.pick(&[MOST_SLICES - 1, MOST_SLICES]),
     }
 }
@@ -206,6 +215,41 @@ fn some_column(shape: &Shape, which: usize, random: &mut Random) -> Column {
         column.push(slice);
     }
     column
+}
+
+/// A column of three numbers at most, so that many rows are equal: in whole stretches, or in turns with another number.
+/// Half have all rows, few have none.
+fn few_numbers(shape: &Shape, which: usize, random: &mut Random) -> Column {
+    let digits = shape.widths[which];
+    let numbers = [0; 3].map(|_| some_number(digits, random));
+    let missing_share = random.pick(&[0, 0, 0, 1, 2, 4]);
+    let mut column = vec![Vec::new(); 1 + digits];
+    for stretch in &shape.stretches {
+        let (number, other) = (random.pick(&numbers), random.pick(&numbers));
+        let whole = if random.below(4) < missing_share { 0 } else { u32::MAX };
+        for _ in 0..stretch.length {
+            let (exists, in_turns) = match stretch.kind {
+                Kind::Clean => (whole, u32::MAX),
+                Kind::Mixed if random.one_in(2) => (whole, some_word(random)),
+                Kind::Mixed => (whole & some_word(random), some_word(random)),
+                Kind::OneOut => (whole, !(1 << random.below(shape.segment_rows()))),
+            };
+            column[0].push(exists);
+            for (place, slice) in column[1..].iter_mut().enumerate() {
+                let digit = |number: u32| 0u32.wrapping_sub(number >> place & 1);
+                slice.push(exists & (digit(number) & in_turns | digit(other) & !in_turns));
+            }
+        }
+    }
+    column
+}
+
+/// Any number of so many digits, or the least or the greatest, or such that differ in their ends alone.
+fn some_number(digits: usize, random: &mut Random) -> u32 {
+    let greatest = u32::MAX >> (MOST_SLICES - digits);
+    let top = greatest ^ greatest >> 1;
+    let any = random.word() & greatest;
+    random.pick(&[0, 1, top, greatest, greatest - 1, greatest ^ top, any])
 }
 
 /// Sometimes the columns exist in no row together, or in the same; sometimes their sums carry far, or their differences

@@ -12,7 +12,7 @@ use crate::question::{Call, Question};
 use crate::random::Random;
 use crate::samples::{Samples, SAMPLES, SLICES};
 use crate::session::Session;
-use crate::{corners, counting, lists, pieces, tails, too_long};
+use crate::{corners, counting, lists, pieces, ranks, tails, too_long};
 
 fn index_input(format: Format, words: Vec<u32>, rows: u32, plain: Vec<Vec<u32>>) -> Input {
     let bitmaps = plain.len() as u32;
@@ -79,6 +79,7 @@ pub fn run(session: &mut Session) {
     counting::run(session);
     pieces::run(session);
     tails::run(session);
+    ranks::run(session);
     for format in FORMATS {
         edge_of_rows(session, format);
     }
@@ -163,6 +164,7 @@ fn column_corners(session: &mut Session, samples: &Samples) {
             pairs(session, &words, first, first);
             for list in [first, second] {
                 values(session, &words, list, &[0, 3, 7, 30, 31, 32, 35, 39, 40, u32::MAX]);
+                ranks::ask(session, &words, list, &[0, 1, 2, 8, 9, 30, 31, 32, 39, 40, 41, u32::MAX]);
             }
         }
     }
@@ -175,6 +177,7 @@ fn column_lengths(session: &mut Session, samples: &Samples) {
     for length in [0, 1, LEAST_COLUMN, 3, 17, MOST_SUMMED, MOST_VALUED, MOST_VALUED + 1] {
         let ones = vec![0; length];
         values(session, &words, &ones, &[0, 32, 33]);
+        ranks::ask(session, &words, &ones, &[0, 1, 32, 33, 34]);
         pairs(session, &words, &ones, &ones);
         for other in [&[0, 0][..], &[0, 1], &[0, 1, 1, 0], &[1, 0]] {
             pairs(session, &words, &ones, other);
@@ -195,6 +198,7 @@ fn late_strays(session: &mut Session, samples: &Samples) {
         };
         for length in [MOST_SUMMED, MOST_VALUED] {
             values(session, &words, &late(length), &[0, 7, 30, 31, 32, 40]);
+            ranks::ask(session, &words, &late(length), &[0, 7, 31, 32, 33]);
         }
         let longest = late(MOST_SUMMED);
         pairs(session, &words, &longest, &[1, 1]);
@@ -222,6 +226,15 @@ fn edge_of_rows(session: &mut Session, format: Format) {
     session.ask(&words, both(Call::Symmetric).table(&[1, 0, 1]));
     session.ask(&words, both(Call::Histogram));
     values(session, &words, &[1, 2], &[MOST_ROWS - 1, MOST_ROWS]);
+    for list in [&[1, 2][..], &[1, 1], &[0, 0], &[0, 2], &[2, 2, 0]] {
+        let half = MOST_ROWS / 2;
+        ranks::ask(
+            session,
+            &words,
+            list,
+            &[0, 1, 2, half - 1, half, half + 1, MOST_ROWS - 1, MOST_ROWS, MOST_ROWS + 1],
+        );
+    }
     for call in Call::PAIRINGS {
         for first in [[1, 2], [0, 2]] {
             session.ask(&words, Question::pair(call, &first, &[1, 1]).room(100));

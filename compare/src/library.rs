@@ -7,6 +7,7 @@ use crate::ask::Value;
 use crate::changes;
 use crate::encode::{format_of, other};
 use crate::question::{Call, Question};
+use crate::ranks;
 use crate::walk::{self, Asked};
 
 /// A call that writes into a buffer.
@@ -217,6 +218,9 @@ fn of_several(words: &[u32], q: &Question, out: &mut [u32]) -> Result<Value, Ref
         Call::Smaller => zvonurel::smaller(words, &q.list, &q.second, out).map(Value::Words),
         Call::DifferenceOrZero => zvonurel::difference_or_zero(words, &q.list, &q.second, out).map(Value::Words),
         Call::Changes => changes::by_asking(words, q).map(Value::Changes),
+        Call::Largest => zvonurel::largest(words, &q.list, q.number, out).map(Value::Words),
+        Call::Smallest => zvonurel::smallest(words, &q.list, q.number, out).map(Value::Words),
+        Call::Ranks => ranks::by_asking(words, q).map(Value::Ranks),
         _ => unreachable!("asked of a bitmap or two"),
     }
 }

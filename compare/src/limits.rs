@@ -1,7 +1,7 @@
 //! What is shown once at the limits, with the times of both: bodies of the most rows, lists of the most numbers over
 //! them, and answers that are indexes as long as an index may be, and longer.
 
-use zvonurel::{segments, Format, MOST_CLEAN, MOST_NAMED, MOST_ROWS, WORD_BITS};
+use zvonurel::{segments, Format, MOST_CLEAN, MOST_COLUMN, MOST_NAMED, MOST_ROWS, WORD_BITS};
 
 use crate::ask::{timed_library, timed_reference, Refused, Value};
 use crate::encode::{index_in, one_run, settled, FORMATS};
@@ -16,7 +16,7 @@ struct Limits {
 
 pub fn run() -> bool {
     let mut limits = Limits { asked: 0, alike: true };
-    println!("{:28} {:>12} {:>12}", "", "library", "reference");
+    println!("{:34} {:>12} {:>12}", "", "library", "reference");
     for format in FORMATS {
         let bodies = Bodies::of(format);
         bodies.alone(&mut limits);
@@ -49,7 +49,7 @@ impl Limits {
         let (library, own) = timed_library(words, &question);
         let (reference, other) = timed_reference(words, &question, None);
         self.asked += 1;
-        println!("{name:28} {own:>10.6} s {other:>10.3} s");
+        println!("{name:34} {own:>10.6} s {other:>10.3} s");
         if library != reference {
             self.alike = false;
             println!("DIFFERENCE  {}", question.text());
@@ -72,6 +72,20 @@ impl Limits {
         for room in long.rooms() {
             let told = self.ask(&format!("  buffer of {room}"), &long.index, long.question.clone().room(room));
             self.holds("what is due", told == long.due(room));
+        }
+    }
+
+    /// The first rows of columns of two slices and of the most, in an index of four bitmaps of which the second has all
+    /// rows.
+    fn ranks(&mut self, index: &[u32]) {
+        let longest: Vec<u32> = [1].into_iter().chain([0, 3, 2].into_iter().cycle()).take(MOST_COLUMN).collect();
+        for list in [&[1, 3, 2][..], &longest] {
+            for k in [0, 1, MOST_ROWS / 2, MOST_ROWS - 1, MOST_ROWS, MOST_ROWS + 1] {
+                for question in Question::ranks(list, k) {
+                    let name = format!("  {:?} {k}, {} slices", question.call, list.len() - 1);
+                    self.ask(&name, index, question.room(4 * index.len())).ok();
+                }
+            }
         }
     }
 }
@@ -166,6 +180,7 @@ impl Bodies {
             let columns = Question::pair(call, &[1, 3, 2], &[1, 1]).room(4 * index.len());
             limits.ask(&format!("  {call:?}"), &index, columns).ok();
         }
+        limits.ranks(&index);
         for (name, call) in [("  to EWAH", Call::IndexToEwah), ("  to WAH", Call::IndexToWah)] {
             limits.ask(name, &index, Question::new(call).room(4 * index.len() + 9_999)).ok();
         }

@@ -4,6 +4,7 @@ mod ask;
 mod changes;
 mod choose;
 mod choose_columns;
+mod choose_ranks;
 mod columns;
 mod corners;
 mod counting;
@@ -19,6 +20,7 @@ mod places;
 mod program;
 mod question;
 mod random;
+mod ranks;
 mod readings;
 mod samples;
 mod second;
@@ -50,9 +52,10 @@ compare --limits
 Makes CASES indexes and bodies, in EWAH or in WAH, and indexes of columns beside
 some of them, always the same for one SEED, asks every question of the library
 and of the reference, and compares the results and the whole buffers. Bodies are
-also walked from piece to piece, by the answers on their rows, and what was made
-of two columns is held against their values. Then come the readings (examples
-with known answers) and a few fixed cases, and a table of the refusals that were
+also walked from piece to piece, by the answers on their rows, what was made of
+two columns is held against their values, and a column's largest and smallest
+rows against the values of the others. Then come the readings (examples with
+known answers) and a few fixed cases, and a table of the refusals that were
 reached in each format. Exit code 1: a difference, or a refusal never reached.
 
 --mutate     builds one mistake after another into the reference; each has to

@@ -48,6 +48,7 @@ pub enum Place {
     SecondLong,
     SecondNumber,
     NoSuchRow,
+    HighRank,
     Several,
     BadAndStray,
     StrayFirst,
@@ -59,7 +60,7 @@ pub enum Place {
 
 use Place::*;
 
-const ALL: [(Place, &str); 44] = [
+const ALL: [(Place, &str); 45] = [
     (Answered, "- answered"),
     (ShortHead, "1 index below its head"),
     (ShortContents, "1 index below its contents"),
@@ -97,6 +98,7 @@ const ALL: [(Place, &str); 44] = [
     (SecondLong, "8 second column too long"),
     (SecondNumber, "8 number in a second column"),
     (NoSuchRow, "8 row that doesn't exist"),
+    (HighRank, "8 k above the rows that exist"),
     (Several, "8 several of these at once"),
     (BadAndStray, "8 where 11 holds too"),
     (StrayFirst, "11 stray row, first column"),
@@ -128,8 +130,9 @@ fn possible(place: Place, call: Call, format: Format) -> bool {
         TableShort | TableLong | TableEntry => call == Call::Symmetric,
         ColumnShort | ColumnLong | ColumnNumber | BadAndStray | StrayFirst => call.of_column(),
         SecondShort | SecondLong | SecondNumber | StraySecond => call.of_two_columns(),
-        StrayNoRoom => call.of_two_columns() && call.writes(),
+        StrayNoRoom => call.of_column() && call.writes(),
         NoSuchRow => call.of_value(),
+        HighRank => call.of_ranks(),
         Several => call.of_two() || call.of_column() || matches!(call, Call::Row | Call::Threshold | Call::Symmetric),
         NoRoom => call.writes(),
     }
@@ -261,7 +264,7 @@ fn bad_column(words: &[u32], question: &Question) -> Place {
     }
     let unknown = |list: &[u32]| list.iter().any(|&k| k >= words[2]);
     let two = call.of_two_columns();
-    let most = if two { MOST_SUMMED } else { MOST_VALUED };
+    let most = if call.of_value() { MOST_VALUED } else { MOST_SUMMED };
     let faults = holding([
         (list.len() < LEAST_COLUMN, ColumnShort),
         (list.len() > most, ColumnLong),
@@ -269,21 +272,23 @@ fn bad_column(words: &[u32], question: &Question) -> Place {
         (two && second.len() < LEAST_COLUMN, SecondShort),
         (two && second.len() > most, SecondLong),
         (unknown(second), SecondNumber),
-        (!two && question.number >= words[1], BadRow),
+        (call.of_value() && question.number >= words[1], BadRow),
     ]);
     match faults[..] {
+        [] if call.of_ranks() => HighRank,
         [] => NoSuchRow,
         [one] => one,
         _ => Several,
     }
 }
 
-/// Whose stray it is. Where the buffer can't even take the contents, 9 holds as well.
+/// Whose stray it is. Where the buffer can't even take the contents, or a word, 9 holds as well.
 fn stray(words: &[u32], question: &Question, bitmap: u32, row: usize) -> Place {
     let (list, second) = (&question.list, &question.second);
     let more = usize::from(matches!(question.call, Call::Sum | Call::SignedDifference));
     let bitmaps = list.len().max(second.len()) + more;
-    if question.call.writes() && question.room < entry_place(bitmaps) {
+    let least = if question.call.of_ranks() { 1 } else { entry_place(bitmaps) };
+    if question.call.writes() && question.room < least {
         return StrayNoRoom;
     }
     let first = list[1..].contains(&bitmap) && reference::row(words, list[0], row as u32).is_ok_and(|row| !row.set);

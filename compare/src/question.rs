@@ -47,10 +47,14 @@ pub enum Call {
     DifferenceOrZero,
     /// Many calls: the three above, and what they wrote at some rows. The reference goes by the two columns' numbers.
     Changes,
+    Largest,
+    Smallest,
+    /// Many calls: both of these, and what is told of their rows. The reference goes by what has to hold.
+    Ranks,
 }
 
 impl Call {
-    pub const ALL: [Call; 38] = [
+    pub const ALL: [Call; 41] = [
         Call::CheckBody,
         Call::BodyRow,
         Call::BodyCount,
@@ -89,6 +93,9 @@ impl Call {
         Call::Smaller,
         Call::DifferenceOrZero,
         Call::Changes,
+        Call::Largest,
+        Call::Smallest,
+        Call::Ranks,
     ];
 
     pub const REWRITE_BODY: [Call; 3] = [Call::BodyToEwah, Call::BodyToWah, Call::BodyAround];
@@ -98,6 +105,8 @@ impl Call {
     pub const VALUES: [Call; 2] = [Call::Value, Call::SignedValue];
     /// An index made of two columns.
     pub const PAIRINGS: [Call; 4] = [Call::Sum, Call::SignedDifference, Call::Smaller, Call::DifferenceOrZero];
+    /// The first rows of a column.
+    pub const RANKINGS: [Call; 2] = [Call::Largest, Call::Smallest];
 
     /// Is it asked of an index?
     pub fn of_index(self) -> bool {
@@ -130,8 +139,12 @@ impl Call {
         self == Call::Changes || Call::PAIRINGS.contains(&self)
     }
 
+    pub fn of_ranks(self) -> bool {
+        self == Call::Ranks || Call::RANKINGS.contains(&self)
+    }
+
     pub fn of_column(self) -> bool {
-        self.of_value() || self.of_two_columns()
+        self.of_value() || self.of_two_columns() || self.of_ranks()
     }
 
     fn rewrites(self) -> bool {
@@ -145,6 +158,7 @@ impl Call {
         self.of_two()
             || self.rewrites()
             || Call::PAIRINGS.contains(&self)
+            || Call::RANKINGS.contains(&self)
             || matches!(self, Call::Expand | Call::Compress | Call::ExpandBitmap)
             || matches!(self, Call::Not | Call::Threshold | Call::Symmetric)
     }
@@ -163,7 +177,7 @@ pub struct Question {
     pub list: Vec<u32>,
     /// The list of a second column.
     pub second: Vec<u32>,
-    /// Row, nth, T, or the seed of many calls.
+    /// Row, nth, T, k, or the seed of many calls.
     pub number: u32,
     pub table: Vec<u32>,
     /// Length of the buffer.
@@ -185,6 +199,11 @@ impl Question {
     /// The value at a row of a column, and the signed one.
     pub fn values(list: &[u32], row: u32) -> [Question; 2] {
         Call::VALUES.map(|call| Question::new(call).list(list).number(row))
+    }
+
+    /// The k largest rows of a column, the k smallest, and what holds of both.
+    pub fn ranks(list: &[u32], k: u32) -> [Question; 3] {
+        [Call::Largest, Call::Smallest, Call::Ranks].map(|call| Question::new(call).list(list).number(k))
     }
 
     /// A question on two columns.
@@ -233,6 +252,7 @@ impl Question {
             Call::BodyNth | Call::Nth => parts.push(format!("nth {}", self.number)),
             Call::BodyWalk | Call::Walk | Call::Changes => parts.push(format!("seed {}", self.number)),
             Call::Threshold => parts.push(format!("T {}", self.number)),
+            Call::Largest | Call::Smallest | Call::Ranks => parts.push(format!("k {}", self.number)),
             Call::Symmetric => parts.push(format!("table {:?}", self.table)),
             _ => {}
         }

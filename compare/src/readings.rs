@@ -29,6 +29,8 @@ pub fn run() -> bool {
     readings.columns();
     readings.changes();
     readings.ends();
+    readings.ranks();
+    readings.cut_ranks();
     readings.wah_bodies();
     readings.wah_refusals();
     readings.wah_answers();
@@ -213,6 +215,54 @@ impl Readings {
         let value = |list: &[u32]| Question::new(Call::SignedValue).list(list);
         self.reading(&index, &value(&[&[0], &[1; 32][..], &[0]].concat()), Ok(Value::Signed(-4_294_967_296)), &[]);
         self.reading(&index, &value(&[0; 35]), Err((8, 0, 0)), &[]);
+    }
+
+    /// 6 rows: 3, 1, 3, 2, none, 3, in either format. The rows, in order by hand: 0, 2, 5, 3, 1 and 1, 3, 0, 2, 5.
+    fn ranks(&mut self) {
+        let rows = [0x2F, 0x27, 0x2D];
+        let ewah = index_of(6, &rows.map(|rows| [0x0002_0000, rows]));
+        let wah = index_in(Wah, 6, &rows.map(|rows| [rows]));
+        let due = [(Call::Largest, [0x1, 0x5, 0x25, 0x2D, 0x2F]), (Call::Smallest, [0x2, 0xA, 0xB, 0xF, 0x2F])];
+        for (call, due) in due {
+            let of = |k: u32| Question::new(call).list(&[0, 1, 2]).number(k);
+            for (k, rows) in (1..).zip(due) {
+                self.reading(&ewah, &of(k).room(2), Ok(Value::Words(2)), &[0x0002_0000, rows]);
+                self.reading(&wah, &of(k).room(1), Ok(Value::Words(1)), &[rows]);
+                self.reading(&ewah, &of(k).room(1), Err((9, 0, 2)), &[]);
+            }
+            self.reading(&ewah, &of(0).room(1), Ok(Value::Words(1)), &[0x2]);
+            self.reading(&wah, &of(0).room(1), Ok(Value::Words(1)), &[0]);
+            for (list, k, refused) in [
+                (&[0, 1, 2][..], 6, (8, 0, 0)),
+                (&[0], 0, (8, 0, 0)),
+                (&[0; 34], 0, (8, 0, 0)),
+                (&[0, 3], 0, (8, 0, 0)),
+                // Row 1 doesn't exist among rows 0, 2, 3 and 5.
+                (&[2, 1], 5, (8, 0, 0)),
+                (&[2, 2, 1], 4, (11, 1, 1)),
+            ] {
+                self.reading(&ewah, &Question::new(call).list(list).number(k), Err(refused), &[]);
+            }
+        }
+    }
+
+    /// All of 40 rows, equal: the lowest are taken. Then as many as there can be.
+    fn cut_ranks(&mut self) {
+        let due: [(Format, u32, &[u32], &[(u32, &[u32])]); 4] = [
+            (Ewah, 40, &[0x5], &[(31, &[0x0002_0000, 0x7FFF_FFFF, 0x2]), (32, &[0x3, 0x2]), (33, &[0x0002_0003, 0x1])]),
+            (Ewah, 40, &[0x0002_0003, 0xFF], &[(0, &[0x4]), (39, &[0x0002_0003, 0x7F]), (40, &[0x5])]),
+            (Wah, 40, &[0xC000_0002], &[(30, &[0x3FFF_FFFF, 0]), (31, &[0x7FFF_FFFF, 0]), (40, &[0xC000_0002])]),
+            (Wah, 1_073_741_824, &[0xC210_8422], &[(536_870_912, &[0xC108_4210, 0xFFFF, 0x8108_4211])]),
+        ];
+        for (format, rows, all, due) in due {
+            let index = index_in(format, rows, &[all]);
+            for (call, &(k, body)) in Call::RANKINGS.into_iter().flat_map(|call| due.iter().map(move |due| (call, due)))
+            {
+                let question = Question::new(call).list(&[0, 0]).room(body.len());
+                self.reading(&index, &question.clone().number(k), Ok(Value::Words(body.len())), body);
+                self.reading(&index, &question.number(rows + 1), Err((8, 0, 0)), &[]);
+            }
+        }
     }
 
     // ---- WAH, worked out by hand ----

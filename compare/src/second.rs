@@ -6,12 +6,13 @@ use crate::ask::Value;
 use crate::changes;
 use crate::encode::{format_of, index_in};
 use crate::question::{Call, Question};
+use crate::ranks;
 use crate::walk;
 
 /// A value, and the words written.
 pub type Told = Result<(Value, Vec<u32>), Refusal>;
 
-fn in_reference(format: zvonurel::Format) -> Format {
+pub fn in_reference(format: zvonurel::Format) -> Format {
     match format {
         zvonurel::Format::Ewah => Format::Ewah,
         zvonurel::Format::Wah => Format::Wah,
@@ -132,6 +133,9 @@ fn of_several(words: &[u32], q: &Question) -> Told {
         Call::Smaller => reference::smaller(words, &q.list, &q.second, q.room).map(wrote),
         Call::DifferenceOrZero => reference::difference_or_zero(words, &q.list, &q.second, q.room).map(wrote),
         Call::Changes => changes::by_numbers(words, q).map(|changes| plain(Value::Changes(changes))),
+        Call::Largest => reference::largest(words, &q.list, q.number, q.room).map(wrote),
+        Call::Smallest => reference::smallest(words, &q.list, q.number, q.room).map(wrote),
+        Call::Ranks => ranks::by_rule(words, q).map(|ranks| plain(Value::Ranks(ranks))),
         _ => unreachable!("asked of a bitmap or two"),
     }
 }

@@ -62,6 +62,10 @@ fn candidates(difference: &Difference) -> Vec<Candidate> {
     if question.call.of_column() {
         all.extend(shorter_columns(question).map(|less| (words.clone(), less)));
     }
+    if question.call.of_ranks() && question.number > 0 {
+        let less = [0, question.number / 2, question.number - 1].map(|k| question.clone().number(k));
+        all.extend(less.map(|less| (words.clone(), less)));
+    }
     if words.len() > 2_000 {
         return all;
     }

@@ -8,6 +8,7 @@ use crate::ask::words_needed;
 use crate::encode::{fill, full, index_in, last_mask, marker, mask_last, one_run, plain_mask, settled, FORMATS};
 use crate::fixed::values;
 use crate::question::{Call, Question};
+use crate::ranks;
 use crate::session::Session;
 use crate::tail::Spelling::{Dirty, Run};
 use crate::tail::{index, tails, with_idle, Tail, FRONTS, SOME, SPELLINGS};
@@ -54,7 +55,7 @@ fn nths(tail: &Tail) -> Vec<u32> {
 }
 
 /// Asks with just the room that is needed, and with a word less.
-fn fitting(session: &mut Session, words: &[u32], question: Question) {
+pub fn fitting(session: &mut Session, words: &[u32], question: Question) {
     if session.difference.is_some() {
         return;
     }
@@ -147,6 +148,16 @@ fn two_by_two(session: &mut Session, format: Format, rows: u32) {
     }
 }
 
+/// All rows that exist as the largest and as the smallest; and in turns another number of rows, of one or the other.
+fn all_and_some(session: &mut Session, index: &[u32], list: &[u32], exists: Vec<u32>, turn: usize) {
+    let there: u32 = exists.iter().map(|word| word.count_ones()).sum();
+    let some = [1, there / 2, there.saturating_sub(1), there + 1][turn % 4];
+    let ([largest, smallest, _], others) = (Question::ranks(list, there), Question::ranks(list, some));
+    for question in [largest, smallest, others[turn % others.len()].clone()] {
+        session.ask(index, question.room(exists.len() + 2));
+    }
+}
+
 /// Any two as existence and slice, full ones among them, as run and as dirty word either way round. Many have strays.
 fn columns(session: &mut Session, format: Format, rows: u32) {
     let tails = tails(format, rows, &FRONTS);
@@ -157,6 +168,7 @@ fn columns(session: &mut Session, format: Format, rows: u32) {
     for (exists, slice) in (0..n).flat_map(|j| (0..n).map(move |k| (j, k))) {
         let list = [exists, slice];
         values(session, &index, &list, &[0, rows - 1, rows, last_rows(format, rows)[3]]);
+        all_and_some(session, &index, &list, tails[exists as usize].plain(), (rows + slice) as usize);
         // the others in turns
         let [sum, others @ ..] = Call::PAIRINGS;
         for (turn, second) in (rows as usize..).zip([[run, run], [run, dirty], [dirty, run], [run, mixed]]) {
@@ -174,6 +186,7 @@ fn columns(session: &mut Session, format: Format, rows: u32) {
         }
         session.ask(&index, Question::pair(Call::Changes, &wide, &other).number(rows));
         values(session, &index, &wide, &[0, rows - 1, rows]);
+        ranks::ask(session, &index, &wide, &[1, rows / 2, rows - 1, rows, rows + 1]);
     }
 }
 
@@ -291,6 +304,7 @@ fn all_and_none(session: &mut Session, format: Format, rows: u32) {
         session.ask(&index, of(call).second(&[0, 0]).room(3 * all.len() + 9));
     }
     values(session, &index, &[0, 1], &[rows - 1]);
+    ranks::ask(session, &index, &[0, 1], &[rows - 1, rows, rows + 1]);
 }
 
 /// A run over the last segment that just fills a marker, and one more.
@@ -333,6 +347,8 @@ fn many_dirty_words(session: &mut Session) {
             for call in Call::REWRITE_BITMAP {
                 fitting(session, &index, of(call).list(&[k]));
             }
+            let there: u32 = plain.iter().map(|word| word.count_ones()).sum();
+            ranks::ask(session, &index, &[k, 1 - k], &[there / 2, there - 1, there, there + 1]);
         }
     }
 }

@@ -42,6 +42,11 @@ impl Column {
         0..if pads_too { self.exists.len() } else { self.count }
     }
 
+    /// Which rows exist, without pads.
+    pub fn existing(&self) -> Spans<bool> {
+        self.exists.part(self.rows_taking(false))
+    }
+
     /// The number that the slices spell at a row.
     fn number(&self, row: usize) -> i64 {
         self.slices.iter().filter(|slice| slice.rows.get(row) == Some(true)).map(|slice| slice.worth).sum()
@@ -49,9 +54,20 @@ impl Column {
 
     /// The same for each row.
     pub fn numbers(&self) -> Spans<i64> {
+        self.weighed(|slice| slice.worth)
+    }
+
+    /// The same if a slice counted in its first place alone, for a mistake only.
+    pub fn numbers_by_first_place(&self) -> Spans<i64> {
+        self.weighed(|slice| 1 << slice.place)
+    }
+
+    /// For each row the worth of the slices that have it.
+    fn weighed(&self, worth: fn(&Slice) -> i64) -> Spans<i64> {
         let mut numbers = Spans::alike(self.exists.len(), 0);
         for slice in &self.slices {
-            numbers = numbers.with(&slice.rows, |number, set| if set { number + slice.worth } else { number });
+            let worth = worth(slice);
+            numbers = numbers.with(&slice.rows, |number, set| if set { number + worth } else { number });
         }
         numbers
     }
@@ -82,6 +98,12 @@ fn strays(slice: &Slice, exists: &Spans<bool>) -> Spans<bool> {
 /// Refusal 11: a stray row, told of the first slice in list order that has one.
 pub(crate) fn no_strays(column: &Column) -> Result<(), Refusal> {
     none_where(&column.exists.part(column.rows_taking(mistaken(Mistake::PadIsStray))), &column.slices)
+}
+
+/// The same of the top slice alone, for a mistake only.
+pub(crate) fn no_strays_on_top(column: &Column) -> Result<(), Refusal> {
+    let top = column.slices.iter().find(|slice| slice.worth >> (column.digits - 1) == 1);
+    none_where(&column.existing(), top.map_or(&[], std::slice::from_ref))
 }
 
 /// The same of these slices, where these rows exist.

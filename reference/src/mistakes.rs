@@ -431,6 +431,120 @@ pub enum Mistake {
     /// Where negatives are made 0, a row exists if the first column has it; a second number that is missing counts as
     /// 0.
     ZeroedExistsInFirst,
+    /// The k largest or smallest rows are told of lists of `MOST_SUMMED` numbers and one more.
+    RankingTakesOneMore,
+    /// They are told of lists of under `MOST_SUMMED` numbers only.
+    RankingTakesOneLess,
+    /// A k of all rows that exist is refused.
+    AllRowsRefused,
+    /// A k of 0 is refused.
+    NoneRefused,
+    /// A k above the rows that exist gives all of these.
+    HighRankGivesAll,
+    /// A k above the rows that exist gives all of these, if it isn't above R.
+    HighRankByRows,
+    /// A k above the rows that exist is refused with 9.
+    HighRankIsNoRoom,
+    /// The pads under a run of ones count as rows that exist where k is held against these.
+    RankingCountsPads,
+    /// Refusal 11 comes before 8 for k.
+    StrayBeforeRank,
+    /// The k largest or smallest rows are told of slices that hold rows which don't exist.
+    RankingSkipsStrays,
+    /// They are told without refusal 11 where k is 0.
+    NoneSkipsStrays,
+    /// They are told without refusal 11 where k is all rows that exist.
+    AllSkipsStrays,
+    /// Where they are asked for, no slice but the top one is searched for strays.
+    OnlyTopSearched,
+    /// Where such rows are asked for, refusal 9 comes before 11.
+    RankingRoomBeforeStray,
+    /// Their answer also asks for room for the existence bitmap.
+    RankingRoomByExistence,
+    /// k - 1 rows are given.
+    OneRowLess,
+    /// k + 1 rows are given.
+    OneRowMore,
+    /// A k of 0 gives one row.
+    NoneGivesOne,
+    /// k is kept in 16 bits.
+    RankInHalfWord,
+    /// Among the largest, a row that doesn't exist is ranked as 0.
+    LargestTakesMissing,
+    /// The same among the smallest: the slices' complements aren't masked.
+    SmallestTakesMissing,
+    /// Among the smallest, every pad of the last segment is ranked as 0.
+    SmallestFillsPads,
+    /// The pads under an existence bitmap's run of ones are ranked like rows.
+    RankingTakesPads,
+    /// `RankingTakesPads` in WAH alone.
+    WahRankingTakesPads,
+    /// No row of the first segment is taken.
+    FirstSegmentUnranked,
+    /// No row of a last segment with pads is taken.
+    LastSegmentUnranked,
+    /// Behind the last whole block of 16 segments all numbers are ranked as 0.
+    PastBlocksAreZero,
+    /// Numbers are compared without their lowest digit.
+    LowestSliceUnranked,
+    /// Numbers are compared without their top digit.
+    TopSliceUnranked,
+    /// Numbers are compared as those of a signed column.
+    RankedSigned,
+    /// Numbers are compared in a signed word: those with digit 31 are the smallest.
+    RankedInSignedWord,
+    /// A bitmap that is several slices counts in its first place alone.
+    RankedByFirstPlace,
+    /// Numbers are compared from their lowest digit up.
+    SlicesTurned,
+    /// The smallest rows are given for the largest, and the other way round.
+    LargestSmallestSwapped,
+    /// Of rows equal to the least of the largest, the highest are taken.
+    LargestTiesHighest,
+    /// Of rows equal to the greatest of the smallest, the highest are taken.
+    SmallestTiesHighest,
+    /// Equal rows of which only some should be taken are all left out.
+    TiesLeftOut,
+    /// Equal rows of which only some should be taken are all taken.
+    TiesAllTaken,
+    /// Of the rows that are equal to the last taken, or better, the k lowest are taken.
+    LowestOfEnough,
+    /// In the segment of the last row that is taken, all rows equal to it are taken.
+    CutTakesSegment,
+    /// Where a segment's equal rows are cut, none of them is taken.
+    CutLeavesSegment,
+    /// All equal rows side by side are taken, if some are.
+    CutTakesRun,
+    /// Where equal rows side by side are cut, none of them is taken.
+    CutLeavesRun,
+    /// In the block of 16 segments of the last row that is taken, all rows equal to it are taken.
+    CutTakesBlock,
+    /// Where the equal rows of such a block are cut, none of them is taken.
+    CutLeavesBlock,
+    /// Equal rows that are cut at a segment's end have one row more.
+    CutAtEdgeOneMore,
+    /// Equal rows that are cut at a segment's end lose that segment: the mask of all its rows is 0.
+    CutAtEdgeLosesSegment,
+    /// Of equal rows side by side that are cut, none is taken past a marker's `MOST_CLEAN` segments.
+    CutInFirstMarker,
+    /// Equal rows side by side that are taken count for no more than `MOST_CLEAN` segments.
+    LongRunCountsShort,
+    /// In WAH, the last equal row that is taken is told as if segments had 32 rows.
+    CutBy32,
+    /// Where all rows with the last number that is taken are taken, they are left out.
+    ExactLosesLast,
+    /// Where all rows with the last number that is taken are taken, those with better ones are left out.
+    ExactLosesBetter,
+    /// The k largest or smallest rows of a WAH index are written in EWAH.
+    RankingInEwah,
+    /// In them a full last segment with pads is written as a dirty word or a literal.
+    RankingFullTailDirty,
+    /// In them a segment that is mixed in the existence bitmap stays a dirty word or a literal, even if clean.
+    RankingKeepsDirty,
+    /// An answer of no rows has no words.
+    NoneIsNoWords,
+    /// A k of all rows that exist copies the existence bitmap's words as they are.
+    AllTakenCopied,
 }
 
 /// The most rows of a bitmap as they once were, for mistakes only.
@@ -653,6 +767,63 @@ impl Mistake {
         Mistake::ZeroedSliceTooMany,
         Mistake::ZeroedAsWideAsFirst,
         Mistake::ZeroedExistsInFirst,
+        Mistake::RankingTakesOneMore,
+        Mistake::RankingTakesOneLess,
+        Mistake::AllRowsRefused,
+        Mistake::NoneRefused,
+        Mistake::HighRankGivesAll,
+        Mistake::HighRankByRows,
+        Mistake::HighRankIsNoRoom,
+        Mistake::RankingCountsPads,
+        Mistake::StrayBeforeRank,
+        Mistake::RankingSkipsStrays,
+        Mistake::NoneSkipsStrays,
+        Mistake::AllSkipsStrays,
+        Mistake::OnlyTopSearched,
+        Mistake::RankingRoomBeforeStray,
+        Mistake::RankingRoomByExistence,
+        Mistake::OneRowLess,
+        Mistake::OneRowMore,
+        Mistake::NoneGivesOne,
+        Mistake::RankInHalfWord,
+        Mistake::LargestTakesMissing,
+        Mistake::SmallestTakesMissing,
+        Mistake::SmallestFillsPads,
+        Mistake::RankingTakesPads,
+        Mistake::WahRankingTakesPads,
+        Mistake::FirstSegmentUnranked,
+        Mistake::LastSegmentUnranked,
+        Mistake::PastBlocksAreZero,
+        Mistake::LowestSliceUnranked,
+        Mistake::TopSliceUnranked,
+        Mistake::RankedSigned,
+        Mistake::RankedInSignedWord,
+        Mistake::RankedByFirstPlace,
+        Mistake::SlicesTurned,
+        Mistake::LargestSmallestSwapped,
+        Mistake::LargestTiesHighest,
+        Mistake::SmallestTiesHighest,
+        Mistake::TiesLeftOut,
+        Mistake::TiesAllTaken,
+        Mistake::LowestOfEnough,
+        Mistake::CutTakesSegment,
+        Mistake::CutLeavesSegment,
+        Mistake::CutTakesRun,
+        Mistake::CutLeavesRun,
+        Mistake::CutTakesBlock,
+        Mistake::CutLeavesBlock,
+        Mistake::CutAtEdgeOneMore,
+        Mistake::CutAtEdgeLosesSegment,
+        Mistake::CutInFirstMarker,
+        Mistake::LongRunCountsShort,
+        Mistake::CutBy32,
+        Mistake::ExactLosesLast,
+        Mistake::ExactLosesBetter,
+        Mistake::RankingInEwah,
+        Mistake::RankingFullTailDirty,
+        Mistake::RankingKeepsDirty,
+        Mistake::NoneIsNoWords,
+        Mistake::AllTakenCopied,
     ];
 }
 

@@ -148,10 +148,15 @@ impl<T: Copy + PartialEq> FromIterator<T> for Spans<T> {
 impl Spans<bool> {
     /// Set at these places, which come in order, and nowhere else; it ends with the last.
     pub fn at(places: impl Iterator<Item = usize>) -> Spans<bool> {
+        Spans::over(places.map(|place| place..place + 1))
+    }
+
+    /// The same for places side by side.
+    pub fn over(spans: impl Iterator<Item = Range<usize>>) -> Spans<bool> {
         let mut all = Spans::none();
-        for place in places {
-            all.push(place - all.len(), false);
-            all.push(1, true);
+        for places in spans {
+            all.push(places.start - all.len(), false);
+            all.push(places.len(), true);
         }
         all
     }

@@ -269,3 +269,7 @@ pub(crate) fn value(index: &[u32], list: &[u32], row: u32) -> Option<BadArgument
 pub(crate) fn two_columns(index: &[u32], first: &[u32], second: &[u32]) -> Option<BadArgument> {
     column(index, first, MOST_COLUMN).map(Column).or_else(|| column(index, second, MOST_COLUMN).map(SecondColumn))
 }
+
+pub(crate) fn ranked(index: &[u32], list: &[u32]) -> Option<BadArgument> {
+    column(index, list, MOST_COLUMN).map(Column)
+}

@@ -192,3 +192,45 @@ pub fn smaller(index: &[u32], first: &[u32], second: &[u32], out: &mut [u32]) ->
 pub fn difference_or_zero(index: &[u32], first: &[u32], second: &[u32], out: &mut [u32]) -> Result<usize, Refusal> {
     of_two_columns(Pairing::DifferenceOrZero, index, first, second, out)
 }
+
+/// Which rows of a column come first.
+#[derive(Clone, Copy)]
+enum Ranking {
+    Largest,
+    Smallest,
+}
+
+fn ranked(ranking: Ranking, index: &[u32], column: &[u32], k: u32, out: &mut [u32]) -> Result<usize, Refusal> {
+    let call = match ranking {
+        Ranking::Largest => raw::zv_largest,
+        Ranking::Smallest => raw::zv_smallest,
+    };
+    // SAFETY: each pointer is a slice's, with its length.
+    let told =
+        unsafe { call(index.as_ptr(), index.len(), column.as_ptr(), column.len(), k, out.as_mut_ptr(), out.len()) };
+    settled(told.number, told.bitmap, told.word, words(told.words), || argument::ranked(index, column))
+}
+
+/// Writes the body of the k rows with the largest values of a column, and returns how many words. No existing row that
+/// is left out has a greater value than one that is taken; of rows equal to the least value taken, the lowest are. The
+/// body has the index's format, and the one form with the fewest words.
+///
+/// # Errors
+/// 1 to 7, or 10, for the index's first fault; 8 for a list of fewer than [`LEAST_COLUMN`] numbers, more than
+/// [`MOST_COLUMN`] or one that is no bitmap's, or where fewer than k rows exist; 11 where a slice has a row that does
+/// not exist; 9 for a short buffer.
+///
+/// [`LEAST_COLUMN`]: crate::LEAST_COLUMN
+/// [`MOST_COLUMN`]: crate::MOST_COLUMN
+pub fn largest(index: &[u32], column: &[u32], k: u32, out: &mut [u32]) -> Result<usize, Refusal> {
+    ranked(Ranking::Largest, index, column, k, out)
+}
+
+/// Writes the body of the k rows with the smallest values of a column, and returns how many words. It is as [`largest`]
+/// has it, but that no row left out has a smaller value; of rows equal to the greatest value taken, the lowest are.
+///
+/// # Errors
+/// Those of [`largest`].
+pub fn smallest(index: &[u32], column: &[u32], k: u32, out: &mut [u32]) -> Result<usize, Refusal> {
+    ranked(Ranking::Smallest, index, column, k, out)
+}

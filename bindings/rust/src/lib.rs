@@ -117,7 +117,7 @@ mod pages {
 
 pub use argument::{BadArgument, BadColumn};
 pub use builder::{index_of, IndexBuilder};
-pub use columns::{difference_or_zero, signed_difference, signed_value, smaller, sum, value};
+pub use columns::{difference_or_zero, largest, signed_difference, signed_value, smaller, smallest, sum, value};
 pub use format::Format;
 pub use import::{import, import_java, NotImported};
 pub use limits::*;

@@ -161,3 +161,22 @@ macro_rules! of_two_columns {
 }
 
 of_two_columns!(zv_sum, zv_signed_difference, zv_smaller, zv_difference_or_zero);
+
+/// The calls that take the first rows of a column take the same.
+macro_rules! of_ranks {
+    ($($name:ident),*) => {
+        extern "C" {
+            $(pub fn $name(
+                index: In,
+                index_words: usize,
+                column: In,
+                column_numbers: usize,
+                k: u32,
+                out: Out,
+                out_words: usize,
+            ) -> Written;)*
+        }
+    };
+}
+
+of_ranks!(zv_largest, zv_smallest);

@@ -5,6 +5,7 @@ mod common;
 mod limits;
 mod pairs;
 mod pieces;
+mod ranks;
 mod wah;
 use common::*;
 use reference::limits::{DIRTY_SHIFT, ENTRY_WORDS, HEAD_WORDS, WORD_BITS};
@@ -139,7 +140,7 @@ fn tail_case(m: Mistake) -> String {
 
 /// The mistakes that have tables of their own.
 fn tables() -> Vec<wah::Case> {
-    [wah::all(), pieces::all(), limits::all(), pairs::all()].into_iter().flatten().collect()
+    [wah::all(), pieces::all(), limits::all(), pairs::all(), ranks::all()].into_iter().flatten().collect()
 }
 
 fn find(m: Mistake) -> Option<wah::Case> {
