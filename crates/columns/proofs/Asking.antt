@@ -3,21 +3,24 @@
 use Prim.Native.Nat.{ℕ, suc, _-_, _≤_, _<_}
 use mathlib.Core.Bool.{Bool, true, false, not, _||_}
 use mathlib.Core.Path.{_≡_, refl, sym, ap, ap₂, _∙_, subst}
-use mathlib.Core.List.{List, _++_}
+use mathlib.Core.List.{List, [], _∷_, _++_}
 use native.Mathlib.Omega.{arith}
-use borrow.Author.Tests.{lt-ltb, le-ltb, le-leb, lt-leb, leb-false}
-use lib.Dec.{leb}
+use borrow.Author.Tests.{lt-ltb, le-ltb, ltb-false, le-leb, lt-leb, leb-false}
+use lib.Dec.{leb, ltb}
 use lib.ListN.{length, getD, drop}
 use Rattle.meaning.specs.Limits.{leastColumn, mostColumn, mostValueColumn}
 use Rattle.meaning.specs.Refusal.{Outcome, answer, Verdict, sound, refuseIf, _then_}
-use Rattle.meaning.specs.Index.{rowCount, bitmapCount}
+use Rattle.meaning.specs.Rows.{countBelow}
+use Rattle.meaning.specs.Index.{formatOf, rowCount, bitmapCount, rowsAt}
 use Rattle.laws.specs.Laws.{IndexFacts}
 use Rattle.laws.specs.ColumnLaws.{pairIndex}
+use Rattle.laws.specs.RankLaws.{rankedBody}
 use Rattle.meaning.specs.NewIndex.{indexRoom, writeIndex}
 use Rattle.meaning.specs.Column.{pairSlices}
 use Rattle.meaning.specs.declared.Pairing.{Pairing}
-use Rattle.meaning.specs.Answer.{anyBad}
-use Rattle.meaning.specs.Columns.{sliceCount, wider, pairWidth, existing, badColumn, badRow, strays, askAt, writePair, askPair}
+use Rattle.meaning.specs.declared.Ranking.{Ranking}
+use Rattle.meaning.specs.Answer.{write, anyBad}
+use Rattle.meaning.specs.Columns.{sliceCount, wider, pairWidth, existing, badColumn, badRow, strays, askAt, writePair, askPair, rankedRows, badRank, askRanked}
 use Rattle.laws.proofs.Tests.{or-false}
 use Rattle.laws.proofs.Demanded.{good-each}
 use Rattle.laws.proofs.NamedBitmaps.{column-length, column-named}
@@ -29,6 +32,8 @@ use Rattle.answers.specs.Told.{refusedBy, refusal, Wrote}
 use Rattle.answers.proofs.Tells.{wrote-refused, wrote-none, wrote-words}
 use Rattle.pairs.specs.Passes.{Columns}
 use Rattle.column_pair.specs.Written.{PairWritten}
+use Rattle.ranks.specs.Frames.{Column}
+use Rattle.ranks.specs.Passes.{RankWritten}
 
 -- a test, and what comes behind it
 refuse-then : {A : Type 0} (t : Bool) (n b w : ℕ) (v : Verdict) (o : Outcome A) → (refuseIf t n b w v then o) ≡ refuseIf t n b w (v then o)
@@ -188,3 +193,70 @@ module _ (op : Pairing) (index first second : List ℕ) where
         → (strays index first then strays index second then writePair index op first second (length out)) ≡ askPair index op first second (length out)
     unfolding askPair refuseIf
     pair-rest h g = rw (h, g)
+
+-- ---- the k largest or smallest
+
+module _ (index list : List ℕ) (k : ℕ) where
+  -- what is refused
+  abbrev pub rankVerdict : Verdict
+  rankVerdict = refuseIf (badRank index list k) 8 0 0 (strays index list)
+
+  pub rank-bad-list : badColumn index mostColumn list ≡ true → refusedBy (refusal 8 0) ≡ rankVerdict
+  unfolding badRank refuseIf
+  rank-bad-list h = rw h
+
+  module _ (good : badColumn index mostColumn list ≡ false) (n : ℕ)
+      (is : n ≡ countBelow (rowCount index) (existing index list)) where
+    pub rank-too-many : n < k → refusedBy (refusal 8 0) ≡ rankVerdict
+    unfolding badRank refuseIf
+    rank-too-many h = rw (good, lt-ltb (countBelow (rowCount index) (existing index list)) k (omega arith))
+
+    pub rank-rest : k ≤ n → strays index list ≡ rankVerdict
+    unfolding badRank refuseIf
+    rank-rest h = rw (good, le-ltb (countBelow (rowCount index) (existing index list)) k (omega arith))
+
+  -- where nothing is refused the list names a column, and as many rows exist
+  pub rank-passed : {v : Verdict} → v ≡ rankVerdict → v ≡ sound → badRank index list k ≡ false
+  rank-passed e h = refuse-answer (badRank index list k) 8 0 0 (strays index list) tt (sym e ∙ h) .0
+
+  module _ (f : IndexFacts index) (good : badRank index list k ≡ false) where
+    parts : (badColumn index mostColumn list ≡ false) × (ltb (countBelow (rowCount index) (existing index list)) k ≡ false)
+    unfolding badRank
+    parts = or-false (badColumn index mostColumn list) (ltb (countBelow (rowCount index) (existing index list)) k) good
+
+    pub ranked-column : Column index list
+    ranked-column =
+        let p = good-column index mostColumn list (parts .0) in
+        record { facts = f; listed = record { most = omega (arith, p .1); its = p .2 }; some = p .0; few = p .1 }
+
+    pub so-many : k ≤ countBelow (rowCount index) (existing index list)
+    so-many = ltb-false (countBelow (rowCount index) (existing index list)) k (parts .1)
+
+  module _ (op : Ranking) (old : List ℕ) where
+    abbrev pub writes : Outcome (List ℕ)
+    writes = write (formatOf index) (rowCount index) (rankedRows index op list k) (length old)
+
+    pub ranked-then :
+        (rankVerdict then write (formatOf index) (rowCount index) (rankedRows index op list k) (length old))
+        ≡ askRanked index op list k (length old)
+    unfolding askRanked
+    ranked-then = refuse-then (badRank index list k) 8 0 0 (strays index list) writes
+
+    module _ (out : List ℕ) (need : ℕ) (w : RankWritten op index list k old out need) where
+      pub rank-no-room : length old < need → (r : Refusal) → r ≡ refusal 9 need
+          → Wrote (write (formatOf index) (rowCount index) (rankedRows index op list k) (length old)) (written.Refused r) old out
+      unfolding write
+      rank-no-room h r e = rw (e, w .lacks h) (wrote-none old (rankedBody op index list k) need (w .need-is) h)
+
+      pub rank-words : need ≤ length old
+          → Wrote (write (formatOf index) (rowCount index) (rankedRows index op list k) (length old)) (written.Words need) old out
+      unfolding write
+      rank-words h =
+          wrote-words old (rankedBody op index list k) need (w .need-is) out h
+          (w .fits h ∙ ap (λ (m : ℕ). rankedBody op index list k ++ drop m old) (w .need-is))
+
+-- the rows that exist are those of the first bitmap that is named
+pub existing-first : (index list : List ℕ) → 1 ≤ length list → existing index list ≡ rowsAt index (getD list 0 0)
+unfolding existing
+existing-first index [] h = absurd (omega arith)
+existing-first index (k ∷ ks) h = refl

@@ -2,3 +2,4 @@
 // Calls here have a `requires`; the public ones of `zvonurel` test their input first.
 pub mod ask;
 pub mod pair;
+pub mod rank;
