@@ -3,12 +3,15 @@
 ghost use mathlib.Core.Path.{_≡_};
 ghost use lib.ListN.{length};
 ghost use Rattle.meaning.specs.Columns as columns;
-ghost use Rattle.answers.specs.Told.{valueTold, signedTold, Wrote};
+ghost use Rattle.meaning.specs.declared.Ranking.the-variants.{Largest, Smallest};
+ghost use Rattle.laws.specs.RankLaws.{RankAsked, RankDemand};
+ghost use Rattle.answers.specs.Told.{valueTold, signedTold, writtenOf, Wrote};
 use answers::answer::SignedValue;
 use answers::answer::Value;
 use answers::answer::Written;
 use answers::refusal::Checked;
 use meaning::Pairing;
+use meaning::Ranking;
 use on_bitmaps::check;
 
 // The value at a row of the column that a list of `LEAST_COLUMN` to `MOST_VALUE_COLUMN` numbers names.
@@ -78,4 +81,44 @@ pub fn difference_or_zero(index: &[u32], first: &[u32], second: &[u32], out: &mu
         (length (now (out .entry)))) r (now (out .entry)) (now (out .exit)) ⌝ }
 {
     pair(Pairing::DifferenceOrZero, index, first, second, out)
+}
+
+// ---- a column of up to `MOST_COLUMN` numbers: its k best rows, as a body in canonical form, of the index's format; of equal values the
+// lowest rows come first
+
+// The rows whose values come first.
+fn ranked(op: Ranking, index: &[u32], column: &[u32], k: u32, out: &mut [u32]) -> Written
+    ensures { λ r. ⌜ Wrote (columns.ranked (now (index .entry)) op (now (column .entry)) k (length (now (out .entry))))
+        r (now (out .entry)) (now (out .exit)) ⌝ }
+    ensures { λ r. ⌜ (RankAsked (now (index .entry)) (now (column .entry)) k
+        → RankDemand op (now (index .entry)) (now (column .entry)) k (now (out .entry))
+        (writtenOf r (now (out .exit))) (now (out .exit))) ⌝ }
+{
+    let checked = check(index);
+    match checked {
+        Checked::Refused(refusal) => Written::Refused(refusal),
+        Checked::Sound => columns::rank::ranked(op, index, column, k, out),
+    }
+}
+
+// The k rows with the largest values.
+pub fn largest(index: &[u32], column: &[u32], k: u32, out: &mut [u32]) -> Written
+    ensures { λ r. ⌜ Wrote (columns.largest (now (index .entry)) (now (column .entry)) k (length (now (out .entry))))
+        r (now (out .entry)) (now (out .exit)) ⌝ }
+    ensures { λ r. ⌜ (RankAsked (now (index .entry)) (now (column .entry)) k
+        → RankDemand Largest (now (index .entry)) (now (column .entry)) k (now (out .entry))
+        (writtenOf r (now (out .exit))) (now (out .exit))) ⌝ }
+{
+    ranked(Ranking::Largest, index, column, k, out)
+}
+
+// The k rows with the smallest values.
+pub fn smallest(index: &[u32], column: &[u32], k: u32, out: &mut [u32]) -> Written
+    ensures { λ r. ⌜ Wrote (columns.smallest (now (index .entry)) (now (column .entry)) k (length (now (out .entry))))
+        r (now (out .entry)) (now (out .exit)) ⌝ }
+    ensures { λ r. ⌜ (RankAsked (now (index .entry)) (now (column .entry)) k
+        → RankDemand Smallest (now (index .entry)) (now (column .entry)) k (now (out .entry))
+        (writtenOf r (now (out .exit))) (now (out .exit))) ⌝ }
+{
+    ranked(Ranking::Smallest, index, column, k, out)
 }

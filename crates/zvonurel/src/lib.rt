@@ -119,3 +119,12 @@ pub use on_columns::smaller;
 
 // The differences, and 0 where they are negative, with as many slices as the wider column has.
 pub use on_columns::difference_or_zero;
+
+// ---- a column of up to `MOST_COLUMN` numbers: its k best rows, as a body in canonical form, of the index's format; of equal values the
+// lowest rows come first
+
+// The k rows with the largest values.
+pub use on_columns::largest;
+
+// The k rows with the smallest values.
+pub use on_columns::smallest;
