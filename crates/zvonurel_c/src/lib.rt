@@ -269,3 +269,19 @@ pub extern "C" fn zv_difference_or_zero(
 {
     reply::written(zvonurel::difference_or_zero(index, first, second, out))
 }
+
+#[no_mangle]
+pub extern "C" fn zv_largest(index: &[u32], column: &[u32], k: u32, out: &mut [u32]) -> ZvWritten
+    ensures { λ r. ⌜ Writes (columns.largest (now (index .entry)) (now (column .entry)) k (length (now (out .entry))))
+        r (now (out .entry)) (now (out .exit)) ⌝ }
+{
+    reply::written(zvonurel::largest(index, column, k, out))
+}
+
+#[no_mangle]
+pub extern "C" fn zv_smallest(index: &[u32], column: &[u32], k: u32, out: &mut [u32]) -> ZvWritten
+    ensures { λ r. ⌜ Writes (columns.smallest (now (index .entry)) (now (column .entry)) k (length (now (out .entry))))
+        r (now (out .entry)) (now (out .exit)) ⌝ }
+{
+    reply::written(zvonurel::smallest(index, column, k, out))
+}

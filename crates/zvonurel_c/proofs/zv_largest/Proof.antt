@@ -1,0 +1,28 @@
+-- `zvonurel_c::zv_largest` meets its contract: `writes` of what `zvonurel::largest` told; no refusal of it has number 0. Assumes nothing.
+use denote.Ref.{now}
+use lib.ListN.{length}
+use Rattle.meaning.specs.Columns as columns
+use Rattle.meaning.specs.declared.Ranking.the-variants.{Largest}
+use Rattle.laws.proofs.Numbered as numbered
+use Rattle.replies.proofs.Codes.{writes}
+use borrow.Author.Needs.{needs}
+use Rattle.zvonurel_c.proofs.zv_largest.Statement.{statement}
+use Rattle.zvonurel_c.proofs.zv_largest.Tie as tie
+
+largest-requires : tie.Need-largest-requires
+largest-requires c κs = search needs
+
+written-requires : tie.Need-written-requires
+written-requires c κs = search needs
+
+same-length : tie.Need-same-length
+same-length c = search needs
+
+returns : tie.Need-returns
+returns c =
+    let w = c .before .before .before in
+    let a = w .before .before .before .before .before .args in
+    writes (columns.largest (now (a .index)) (now (a .column)) (a .k) (length (now (a .out)))) (w .largest .result) (c .written .result) (now (a .out)) (w .largest .last .1 .1 .1 .0) (numbered.ranked (now (a .index)) Largest (now (a .column)) (a .k) (length (now (a .out)))) (c .written .ensures) (w .largest .ensures .0)
+
+pub zv-largest-spec : {M : Type 1} → statement M
+zv-largest-spec = tie.close (tie.spec largest-requires written-requires same-length returns)
