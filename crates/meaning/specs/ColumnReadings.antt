@@ -1,8 +1,8 @@
--- Readings of columns and of new indexes, worked out by hand from paper 01's format and requests 1 and 7, as one table over the
+-- Readings of columns and of new indexes, worked out by hand from paper 01's format and requests 1, 7 and 8, as one table over the
 -- definitions; `proofs/AllColumns` has the one claim.
 -- Assumes nothing.
 use Prim.Native.Nat.{ℕ, suc, _-_}
-use mathlib.Core.Bool.{Bool, true, false, _&&_}
+use mathlib.Core.Bool.{Bool, true, false, _&&_, _||_}
 use mathlib.Core.List.{List, [], _∷_, _++_}
 use lib.Dec.{eqb}
 use lib.IntN.{ℤ, pos, negsuc}
@@ -11,17 +11,19 @@ use Rattle.meaning.specs.Question.{isIn}
 use Rattle.meaning.specs.Answer.{bufferAfter, wordsReported, partOf, check}
 use Rattle.meaning.specs.NewIndex.{indexOf}
 use Rattle.meaning.specs.declared.Format.the-variants.{Ewah}
-use Rattle.meaning.specs.Columns.{value, signedValue, pair}
+use Rattle.meaning.specs.Columns.{value, signedValue, pair, ranked}
 use Rattle.meaning.specs.Refusal.{Outcome, refused, answer}
 use Rattle.meaning.specs.declared.Pairing.{Pairing}
 use Rattle.meaning.specs.declared.Pairing.the-variants.{Sum, Difference, Smaller, DifferenceOrZero}
+use Rattle.meaning.specs.declared.Ranking.{Ranking}
+use Rattle.meaning.specs.declared.Ranking.the-variants.{Largest, Smallest}
 use Rattle.meaning.specs.Column.{whole}
 use Rattle.meaning.specs.Rows.{none}
 use Rattle.meaning.specs.Readings.{same, isSound, isRefused, isAnswer, isNumber}
 
 -- ---- what a reading can say
 
--- of a new index, of a value, of two columns
+-- of a new index, of a value, of two columns, of the k largest or smallest rows
 pub data ColumnReading : Type 0 where
   -- the new index of these sets
   makes : (R : ℕ) (sets : List (ℕ → Bool)) (words : List ℕ) → ColumnReading
@@ -39,6 +41,13 @@ pub data ColumnReading : Type 0 where
   -- an answer's value at a row, asked by this list; and a signed difference's
   leadsTo : (op : Pairing) (index first second : List ℕ) (room : ℕ) (list : List ℕ) (r v : ℕ) → ColumnReading
   leadsSigned : (index first second : List ℕ) (room : ℕ) (list : List ℕ) (r : ℕ) (z : ℤ) → ColumnReading
+  -- the k largest or smallest rows: a body of exactly these words, with as much room or more, where what lies behind them stays;
+  -- and 9 with one word less, if there is one
+  picks : (op : Ranking) (index list : List ℕ) (k : ℕ) (words : List ℕ) → ColumnReading
+  -- the same with just as much room, which is quicker to compute where there are many rows
+  ranks : (op : Ranking) (index list : List ℕ) (k : ℕ) (words : List ℕ) → ColumnReading
+  -- the question for them, refused
+  declinesRank : (op : Ranking) (index list : List ℕ) (k room number bitmap word : ℕ) → ColumnReading
 
 unfoldable pub sameInteger : ℤ → ℤ → Bool
 sameInteger (pos n) (pos m) = eqb n m
@@ -53,7 +62,7 @@ isInteger (answer y) z = sameInteger y z
 
 -- the reading holds of the definitions
 unfoldable pub columnPasses : ColumnReading → Bool
-unfolding same isSound isRefused isAnswer isNumber isInteger partOf check indexOf value signedValue pair bufferAfter wordsReported
+unfolding same isSound isRefused isAnswer isNumber isInteger partOf check indexOf value signedValue pair ranked bufferAfter wordsReported
 columnPasses (makes R sets words) = same (indexOf Ewah R sets) words && isSound (check words)
 columnPasses (gives index list r v) = isNumber (value index list r) v
 columnPasses (denies index list r number bitmap word) = isRefused (value index list r) number bitmap word
@@ -74,6 +83,17 @@ columnPasses (leadsTo op index first second room list r v) =
     isNumber (value (partOf (pair index op first second room)) list r) v
 columnPasses (leadsSigned index first second room list r z) =
     isInteger (signedValue (partOf (pair index Difference first second room)) list r) z
+columnPasses (picks op index list k words) =
+    let n = length words in
+    let o = ranked index op list k (suc n) in
+    isAnswer (ranked index op list k n) words
+    && same (bufferAfter o (replicate (suc n) 7)) (words ++ 7 ∷ [])
+    && eqb (wordsReported o) n
+    && (eqb n 0 || isRefused (ranked index op list k (n - 1)) 9 0 n)
+columnPasses (ranks op index list k words) = isAnswer (ranked index op list k (length words)) words
+columnPasses (declinesRank op index list k room number bitmap word) =
+    let o = ranked index op list k room in
+    isRefused o number bitmap word && same (bufferAfter o (replicate room 7)) (replicate room 7) && eqb (wordsReported o) 0
 
 -- of a sum
 abbrev pub adds : (index first second words : List ℕ) → ColumnReading
@@ -125,6 +145,35 @@ idleRows = 1 ∷ 3 ∷ 2 ∷ 7 ∷ 3 ∷ 10 ∷ 2 ∷ 0 ∷ 0x00020000 ∷ 0x7 �
 -- no rows, two bitmaps with no words
 abbrev pub noRows : List ℕ
 noRows = 1 ∷ 0 ∷ 2 ∷ 7 ∷ 0 ∷ 7 ∷ 0 ∷ []
+
+-- 8 rows. Bitmap 0 has all but rows 2 and 5, 1 rows 1 and 3, 2 rows 0, 3, 4 and 6, 3 none. As columns: 0, 1, 2 has the values
+-- 2, 1, -, 3, 2, -, 2, 0; 0, 1 has 0, 1, -, 1, 0, -, 0, 0; of 0, 3 each value is 0. Rows 2 and 5 exist in none of them
+abbrev pub eightRows : List ℕ
+eightRows =
+    1 ∷ 8 ∷ 4 ∷ 11 ∷ 2 ∷ 13 ∷ 2 ∷ 15 ∷ 2 ∷ 17 ∷ 1
+    ∷ 0x00020000 ∷ 0xDB ∷ 0x00020000 ∷ 0x0A ∷ 0x00020000 ∷ 0x59 ∷ 0x00000002 ∷ []
+
+-- the same with WAH bodies
+abbrev pub eightWah : List ℕ
+eightWah = 2 ∷ 8 ∷ 4 ∷ 11 ∷ 1 ∷ 12 ∷ 1 ∷ 13 ∷ 1 ∷ 14 ∷ 1 ∷ 0xDB ∷ 0x0A ∷ 0x59 ∷ 0 ∷ []
+
+-- the body of one mixed segment
+abbrev pub lone : ℕ → List ℕ
+lone x = 0x00020000 ∷ x ∷ []
+
+-- 40 rows in WAH, two segments, 9 rows in the last. Bitmap 0 has all of them, 1 rows 0 and 39, 2 rows 0 to 30, 3 none
+abbrev pub fortyWah : List ℕ
+fortyWah =
+    2 ∷ 40 ∷ 4 ∷ 11 ∷ 1 ∷ 12 ∷ 2 ∷ 14 ∷ 2 ∷ 16 ∷ 1
+    ∷ 0xC0000002 ∷ 0x00000001 ∷ 0x00000100 ∷ 0x7FFFFFFF ∷ 0 ∷ 0x80000002 ∷ []
+
+-- 70 rows, three segments, 6 rows in the last. Bitmap 0 has all of them, 1 rows 32 to 63
+abbrev pub seventyRows : List ℕ
+seventyRows = 1 ∷ 70 ∷ 2 ∷ 7 ∷ 1 ∷ 8 ∷ 3 ∷ 0x00000007 ∷ 0x00000002 ∷ 0x00000003 ∷ 0x00000002 ∷ []
+
+-- 70 rows in WAH, three segments, 8 rows in the last. Bitmap 0 has all of them
+abbrev pub seventyWah : List ℕ
+seventyWah = 2 ∷ 70 ∷ 1 ∷ 5 ∷ 1 ∷ 0xC0000003 ∷ []
 
 -- lists of two and three numbers
 abbrev pub two : (a b : ℕ) → List ℕ
@@ -417,8 +466,167 @@ smallerReadings =
     ∷ declines DifferenceOrZero (3 ∷ 3 ∷ 0 ∷ []) [] [] 0 2 0 0
     ∷ []
 
+-- the k largest
+unfoldable pub largestReadings : List ColumnReading
+largestReadings =
+    -- from none to all that exist: row 3 has 3; of rows 0, 4 and 6, which have 2, the lowest come first; row 1 has 1, and row 7
+    -- has 0, as the rows have that do not exist
+    picks Largest eightRows (triple 0 1 2) 0 (0x00000002 ∷ [])
+    ∷ picks Largest eightRows (triple 0 1 2) 1 (lone 0x08)
+    ∷ picks Largest eightRows (triple 0 1 2) 2 (lone 0x09)
+    ∷ picks Largest eightRows (triple 0 1 2) 3 (lone 0x19)
+    ∷ picks Largest eightRows (triple 0 1 2) 4 (lone 0x59)
+    ∷ picks Largest eightRows (triple 0 1 2) 5 (lone 0x5B)
+    ∷ picks Largest eightRows (triple 0 1 2) 6 (lone 0xDB)
+    -- the slices the other way round: row 1 has 2, rows 0, 4 and 6 have 1
+    ∷ picks Largest eightRows (triple 0 2 1) 2 (lone 0x0A)
+    -- one slice: rows 1 and 3 have 1, the others 0; and then all have 0
+    ∷ picks Largest eightRows (two 0 1) 1 (lone 0x02)
+    ∷ picks Largest eightRows (two 0 1) 3 (lone 0x0B)
+    ∷ picks Largest eightRows (two 0 3) 2 (lone 0x03)
+    -- slices that share a bitmap, with each other and with existence
+    ∷ picks Largest eightRows (triple 0 1 1) 4 (lone 0x1B)
+    ∷ picks Largest eightRows (triple 0 0 0) 3 (lone 0x0B)
+    -- 32 slices: all of one value; rows 1 and 3 one above the others; rows 0, 3, 4 and 6 with the top digit alone; and these with
+    -- the top digit, rows 1 and 3 with all digits below it
+    ∷ picks Largest eightRows (replicate 33 0) 3 (lone 0x0B)
+    ∷ picks Largest eightRows (0 ∷ 1 ∷ replicate 31 0) 1 (lone 0x02)
+    ∷ picks Largest eightRows ((0 ∷ replicate 31 3) ++ 2 ∷ []) 3 (lone 0x19)
+    ∷ picks Largest eightRows ((0 ∷ replicate 31 1) ++ 2 ∷ []) 2 (lone 0x09)
+    -- no row exists, and no rows at all: none of them
+    ∷ picks Largest eightRows (two 3 3) 0 (0x00000002 ∷ [])
+    ∷ picks Largest noRows (two 0 1) 0 []
+    -- behind an idle marker: row 1 has 1
+    ∷ picks Largest idleRows (two 0 1) 1 (lone 0x2)
+    -- 40 rows of one value, cut at row 32 and on both sides of it, before the last row, and not at all: the last segment is full
+    ∷ ranks Largest fortyRows (two 0 3) 31 (0x00020000 ∷ 0x7FFFFFFF ∷ 0x00000002 ∷ [])
+    ∷ ranks Largest fortyRows (two 0 3) 32 (0x00000003 ∷ 0x00000002 ∷ [])
+    ∷ ranks Largest fortyRows (two 0 3) 33 (0x00020003 ∷ 0x00000001 ∷ [])
+    ∷ ranks Largest fortyRows (two 0 3) 39 (0x00020003 ∷ 0x0000007F ∷ [])
+    ∷ ranks Largest fortyRows (two 0 3) 40 (0x00000005 ∷ [])
+    -- rows 0 and 39 have 1, and row 1 is the lowest of the others
+    ∷ ranks Largest fortyRows (two 0 1) 3 (0x00040000 ∷ 0x00000003 ∷ 0x00000080 ∷ [])
+    -- rows 0 and 39 exist alone
+    ∷ ranks Largest fortyRows (two 1 3) 1 (0x00020000 ∷ 0x00000001 ∷ 0x00000002 ∷ [])
+    ∷ picks Largest fortyRows (two 1 3) 2 (0x00040000 ∷ 0x00000001 ∷ 0x00000080 ∷ [])
+    -- all but row 39 exist; and all as a run over the pad bits
+    ∷ ranks Largest tailRows (two 2 2) 39 (0x00020003 ∷ 0x0000007F ∷ [])
+    ∷ ranks Largest tailRows (two 1 0) 40 (0x00000005 ∷ [])
+    -- 70 rows of one value: a run of three segments, cut beside row 64 and at it
+    ∷ ranks Largest seventyRows (two 0 0) 63 (0x00020003 ∷ 0x7FFFFFFF ∷ 0x00000002 ∷ [])
+    ∷ ranks Largest seventyRows (two 0 0) 64 (0x00000005 ∷ 0x00000002 ∷ [])
+    -- in WAH: none, ties, all that exist
+    ∷ picks Largest eightWah (triple 0 1 2) 0 (0 ∷ [])
+    ∷ picks Largest eightWah (triple 0 1 2) 2 (0x09 ∷ [])
+    ∷ picks Largest eightWah (triple 0 1 2) 6 (0xDB ∷ [])
+    -- 40 rows of one value: none; cut at row 31, where a single clean segment is a literal, and on both sides of it, before the
+    -- last row, and not at all
+    ∷ ranks Largest fortyWah (two 0 3) 0 (0x80000002 ∷ [])
+    ∷ ranks Largest fortyWah (two 0 3) 30 (0x3FFFFFFF ∷ 0 ∷ [])
+    ∷ ranks Largest fortyWah (two 0 3) 31 (0x7FFFFFFF ∷ 0 ∷ [])
+    ∷ ranks Largest fortyWah (two 0 3) 32 (0x7FFFFFFF ∷ 0x00000001 ∷ [])
+    ∷ ranks Largest fortyWah (two 0 3) 39 (0x7FFFFFFF ∷ 0x000000FF ∷ [])
+    ∷ ranks Largest fortyWah (two 0 3) 40 (0xC0000002 ∷ [])
+    -- 70 rows of one value: two full segments are one fill
+    ∷ ranks Largest seventyWah (two 0 0) 62 (0xC0000002 ∷ 0 ∷ [])
+    ∷ []
+
+-- the k smallest
+unfoldable pub smallestReadings : List ColumnReading
+smallestReadings =
+    -- from none to all that exist: row 7 has 0, row 1 has 1; of rows 0, 4 and 6, which have 2, the lowest come first; row 3 has 3.
+    -- Rows 2 and 5 do not exist, and have no value that is the smallest
+    picks Smallest eightRows (triple 0 1 2) 0 (0x00000002 ∷ [])
+    ∷ picks Smallest eightRows (triple 0 1 2) 1 (lone 0x80)
+    ∷ picks Smallest eightRows (triple 0 1 2) 2 (lone 0x82)
+    ∷ picks Smallest eightRows (triple 0 1 2) 3 (lone 0x83)
+    ∷ picks Smallest eightRows (triple 0 1 2) 4 (lone 0x93)
+    ∷ picks Smallest eightRows (triple 0 1 2) 5 (lone 0xD3)
+    ∷ picks Smallest eightRows (triple 0 1 2) 6 (lone 0xDB)
+    -- the slices the other way round: row 7 has 0, rows 0, 4 and 6 have 1
+    ∷ picks Smallest eightRows (triple 0 2 1) 2 (lone 0x81)
+    -- one slice: rows 1 and 3 have 1, the others 0; and then all have 0
+    ∷ picks Smallest eightRows (two 0 1) 3 (lone 0x51)
+    ∷ picks Smallest eightRows (two 0 1) 5 (lone 0xD3)
+    ∷ picks Smallest eightRows (two 0 3) 5 (lone 0x5B)
+    -- slices that share a bitmap, with each other and with existence
+    ∷ picks Smallest eightRows (triple 0 1 1) 4 (lone 0xD1)
+    ∷ picks Smallest eightRows (triple 0 0 0) 3 (lone 0x0B)
+    -- 32 slices: all of one value; rows 1 and 3 one above the others; rows 0, 3, 4 and 6 with the top digit alone; and these with
+    -- the top digit, rows 1 and 3 with all digits below it
+    ∷ picks Smallest eightRows (replicate 33 0) 3 (lone 0x0B)
+    ∷ picks Smallest eightRows (0 ∷ 1 ∷ replicate 31 0) 5 (lone 0xD3)
+    ∷ picks Smallest eightRows ((0 ∷ replicate 31 3) ++ 2 ∷ []) 3 (lone 0x83)
+    ∷ picks Smallest eightRows ((0 ∷ replicate 31 1) ++ 2 ∷ []) 2 (lone 0x82)
+    -- no row exists, and no rows at all: none of them
+    ∷ picks Smallest eightRows (two 3 3) 0 (0x00000002 ∷ [])
+    ∷ picks Smallest noRows (two 0 1) 0 []
+    -- behind an idle marker: rows 0 and 2 have 0
+    ∷ picks Smallest idleRows (two 0 1) 2 (lone 0x5)
+    -- 40 rows: 0 to 31 have 1, and the last segment's rows 0; these, and row 0 with them
+    ∷ ranks Smallest fortyRows (two 0 2) 8 (0x00000002 ∷ 0x00000003 ∷ [])
+    ∷ ranks Smallest fortyRows (two 0 2) 9 (0x00020000 ∷ 0x00000001 ∷ 0x00000003 ∷ [])
+    -- rows 0 and 39 have 1: all others
+    ∷ ranks Smallest fortyRows (two 0 1) 38 (0x00040000 ∷ 0xFFFFFFFE ∷ 0x0000007F ∷ [])
+    -- row 39 alone has 0, beside the pad bits
+    ∷ ranks Smallest tailRows (two 1 2) 1 (0x00020002 ∷ 0x00000080 ∷ [])
+    -- 70 rows: 32 to 63 have 1, and the others, before and behind that run, have 0: all these and row 32
+    ∷ ranks Smallest seventyRows (two 0 1) 39 (0x00020003 ∷ 0x00000001 ∷ 0x00000003 ∷ [])
+    -- in WAH: ties, and all that exist; of 40 rows the last segment's have 0; these, and row 0 with them;
+    -- and where rows 0 and 39 have 1 all others
+    ∷ picks Smallest eightWah (triple 0 1 2) 3 (0x83 ∷ [])
+    ∷ picks Smallest eightWah (triple 0 1 2) 6 (0xDB ∷ [])
+    ∷ ranks Smallest fortyWah (two 0 2) 9 (0 ∷ 0x000001FF ∷ [])
+    ∷ ranks Smallest fortyWah (two 0 2) 10 (0x00000001 ∷ 0x000001FF ∷ [])
+    ∷ ranks Smallest fortyWah (two 0 1) 38 (0x7FFFFFFE ∷ 0x000000FF ∷ [])
+    ∷ []
+
+-- both, refused
+unfoldable pub rankRefusals : List ColumnReading
+rankRefusals =
+    -- 8: the list is too short, too long, or names a bitmap that is not there
+    declinesRank Largest eightRows [] 0 9 8 0 0
+    ∷ declinesRank Largest eightRows (0 ∷ []) 0 9 8 0 0
+    ∷ declinesRank Smallest eightRows (0 ∷ []) 1 9 8 0 0
+    ∷ declinesRank Largest eightRows (replicate 34 0) 1 9 8 0 0
+    ∷ declinesRank Smallest eightRows (replicate 34 0) 0 9 8 0 0
+    ∷ declinesRank Largest eightRows (two 0 4) 1 9 8 0 0
+    ∷ declinesRank Smallest eightRows (two 4 0) 0 9 8 0 0
+    -- 8: one row more than exist, also where rows or pad bits are more; where no row exists; and where there is none
+    ∷ declinesRank Largest eightRows (triple 0 1 2) 7 9 8 0 0
+    ∷ declinesRank Smallest eightRows (triple 0 1 2) 7 9 8 0 0
+    ∷ declinesRank Largest fortyRows (two 2 3) 33 9 8 0 0
+    ∷ declinesRank Smallest tailRows (two 1 1) 41 9 8 0 0
+    ∷ declinesRank Largest eightRows (two 3 3) 1 9 8 0 0
+    ∷ declinesRank Smallest eightRows (two 3 3) 1 9 8 0 0
+    ∷ declinesRank Largest noRows (two 0 1) 1 9 8 0 0
+    ∷ declinesRank Smallest fortyWah (two 0 3) 41 9 8 0 0
+    -- 11: the bitmap's number and the lowest such row, of the first slice that has one; for no rows too
+    ∷ declinesRank Largest eightRows (two 1 2) 2 9 11 2 0
+    ∷ declinesRank Smallest eightRows (triple 2 2 1) 1 9 11 1 1
+    ∷ declinesRank Largest eightRows (triple 2 0 1) 1 9 11 0 1
+    ∷ declinesRank Largest eightRows (two 1 2) 0 9 11 2 0
+    ∷ declinesRank Smallest eightRows (two 3 1) 0 9 11 1 1
+    ∷ declinesRank Smallest eightWah (two 1 2) 1 9 11 2 0
+    -- 8 before it: one row more than exist, a bad list
+    ∷ declinesRank Largest eightRows (two 1 2) 3 9 8 0 0
+    ∷ declinesRank Smallest eightRows (two 3 1) 1 9 8 0 0
+    ∷ declinesRank Smallest eightRows (triple 1 2 4) 1 9 8 0 0
+    -- 9 behind it, with the words needed, and behind 8
+    ∷ declinesRank Largest eightRows (two 1 2) 2 0 11 2 0
+    ∷ declinesRank Smallest eightRows (two 1 2) 0 0 11 2 0
+    ∷ declinesRank Largest eightRows (triple 0 1 2) 7 0 8 0 0
+    ∷ declinesRank Largest eightRows (triple 0 1 2) 2 0 9 0 2
+    ∷ declinesRank Smallest fortyRows (two 1 3) 2 2 9 0 3
+    -- the index's own faults before 8: its kind, and a pad bit of a bitmap that is not named
+    ∷ declinesRank Largest (3 ∷ 3 ∷ 0 ∷ []) [] 9 9 2 0 0
+    ∷ declinesRank Smallest (3 ∷ 3 ∷ 0 ∷ []) [] 0 0 2 0 0
+    ∷ declinesRank Largest (1 ∷ 8 ∷ 2 ∷ 7 ∷ 2 ∷ 9 ∷ 2 ∷ 0x00020000 ∷ 0x01 ∷ 0x00020000 ∷ 0x100 ∷ []) (two 0 0) 2 9 7 1 10
+    ∷ []
+
 -- all of them
 unfoldable pub columnReadings : List ColumnReading
-unfolding newReadings valueReadings sumReadings signedReadings differenceReadings smallerReadings
+unfolding newReadings valueReadings sumReadings signedReadings differenceReadings smallerReadings largestReadings smallestReadings rankRefusals
 columnReadings =
     newReadings ++ valueReadings ++ sumReadings ++ signedReadings ++ differenceReadings ++ smallerReadings
+    ++ largestReadings ++ smallestReadings ++ rankRefusals
