@@ -468,6 +468,15 @@ static void last_rows(void)
     }
 }
 
+/* a bitmap weighs in each place that it is named in: rows 0 to 3 have 5, 2, 7 and 0 */
+static void named_twice(void)
+{
+    static const uint32_t list[] = {0, 1, 2, 1}, large[] = {0x00020000, 0x5}, small[] = {0x00020000, 0xA};
+
+    TAKES(zv_largest, columns, list, 2, large);
+    TAKES(zv_smallest, columns, list, 2, small);
+}
+
 /* of 32 slices: row 1 has 2^31 and row 2 all digits, before row 0 with 2^31 - 1; the top slice is no sign */
 static void widest_first_rows(void)
 {
@@ -544,6 +553,7 @@ int main(void)
         cut_rows(first_rows_calls[i]);
         bad_first_rows(first_rows_calls[i]);
     }
+    named_twice();
     widest_first_rows();
     printf("ok\n");
     return 0;

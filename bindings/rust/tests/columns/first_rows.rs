@@ -132,6 +132,13 @@ fn long_runs() {
             writes(want, |out| call(&index, &[0, 1], k, out));
         }
     }
+    // all rows of a run that one marker is too short for, and then one row more
+    let index = index_of(2_097_216, &[&[0x1FFFF, 0x7][..], &[0x1FFFF, 0x3, 0x4]]);
+    writes(&[0x1FFFF, 0x3, 0x4], |out| largest(&index, &[0, 1], 2_097_152, out));
+    writes(&[0x1FFFF, 0x20003, 0x1, 0x2], |out| largest(&index, &[0, 1], 2_097_153, out));
+    writes(&[0x1FFFE, 0x2, 0x5], |out| smallest(&index, &[0, 1], 64, out));
+    writes(&[0x20000, 0x1, 0x1FFFE, 0x5], |out| smallest(&index, &[0, 1], 65, out));
+
     let all = [&[0x1FFFF; 512][..], &[0x401]].concat();
     let third = [&[0x1FFFF; 170][..], &[0x356A9, 0x1F_FFFF], &[0x1FFFE; 341], &[0xAD54]];
     let index = index_of(MOST_ROWS, &[&all]);
