@@ -83,6 +83,7 @@
  * bitmap, ask zv_bitmap once where its body lies, and then the calls on a body of that format, with the index's word 1
  * as the rows: they check that body alone. zv_value and zv_signed_value look through all slices for rows that do not
  * exist, each time. For many values of one column, expand its bitmaps once and put the values together from the bits.
+ * zv_largest and zv_smallest go through their column once for each slice, whatever k is, and a few times more.
  *
  * LISTING. zv_nth, zv_body_nth and zv_wah_body_nth check and walk from the front each time, and so do zv_row,
  * zv_body_row and zv_wah_body_row. To list all set rows, expand the body once and scan the bits, as example/listing.c
@@ -93,8 +94,9 @@
  *
  * STACK. A call needs less than ZV_MOST_STACK bytes of stack, whatever it is given: none recurses, and none has an
  * array whose length depends on the input. tests/c/stack.c measures some 14 KiB for zv_sum and the other calls on two
- * columns, 8 KiB for zv_histogram, 5 KiB for the calls that answer with a body over bitmaps of an index, and less than
- * 1 KiB for any other. A program's first memcpy or memset may add some 3 KiB, while the system looks for it.
+ * columns, 8 KiB for zv_histogram, 5 KiB for the calls that answer with a body over bitmaps of an index, zv_largest and
+ * zv_smallest among them, and less than 1 KiB for any other. A program's first memcpy or memset may add some 3 KiB,
+ * while the system looks for it.
  */
 #ifndef ZVONUREL_H
 #define ZVONUREL_H
@@ -215,7 +217,7 @@ extern "C" {
  * ZV_MOST_NAMED; a threshold of 0 or above the list's length; a table that is not exactly one entry longer than the
  * list, or has an entry other than 0 and 1; not just ZV_SEGMENTS(rows) plain words; a column of fewer than
  * ZV_LEAST_COLUMN numbers, or of more than ZV_MOST_COLUMN, ZV_MOST_VALUE_COLUMN where only a value is asked; a value
- * of a row that the existence bitmap has not. bitmap 0, word 0. */
+ * of a row that the existence bitmap has not; more rows of a column than its existence bitmap has. bitmap 0, word 0. */
 #define ZV_BAD_ARGUMENT 8u
 /* The answer does not fit into the buffer; or it is an index of more than ZV_MOST_INDEX_WORDS words, which no buffer
  * helps. bitmap 0; word: the words needed. */
@@ -247,8 +249,8 @@ static inline const char *zv_refusal_text(uint32_t number)
     case ZV_PAD_BIT:
         return "a bit behind the last row is set";
     case ZV_BAD_ARGUMENT:
-        return "a bad argument: there is no such bitmap, row or set row, or the list, the threshold, the table or the "
-               "number of plain words is not one that can be";
+        return "a bad argument: there is no such bitmap, row or set row, fewer rows exist than were asked for, or the "
+               "list, the threshold, the table or the number of plain words is not one that can be";
     case ZV_NO_ROOM:
         return "the answer has more words than the buffer, or, if it is an index, than an index may have (word is how "
                "many)";
@@ -479,6 +481,21 @@ zv_column_value zv_value(const uint32_t *index, size_t index_words, const uint32
  * zv_value. */
 zv_signed_column_value zv_signed_value(const uint32_t *index, size_t index_words, const uint32_t *column,
                                        size_t column_numbers, uint32_t row);
+
+/* ---- the k rows of a column that come first by their values, as a body in the index's format, in the form with the
+ * fewest words: exactly k, and all of them exist. k of 0 gives a body of no set rows. The list may have up to
+ * ZV_MOST_COLUMN numbers, and the column is unsigned. A buffer of twice the words of the named bodies, each counted as
+ * often as it is named, is long enough. 8: fewer than k rows exist; 11; 9. */
+
+/* Those with the largest values: no row that exists and is left out has a larger one than a row that is taken. Of the
+ * rows that share the least value taken, the lowest are taken. */
+zv_written zv_largest(const uint32_t *index, size_t index_words, const uint32_t *column, size_t column_numbers,
+                      uint32_t k, uint32_t *out, size_t out_words);
+
+/* Those with the smallest values: no row that exists and is left out has a smaller one than a row that is taken. Of the
+ * rows that share the greatest value taken, the lowest are taken. */
+zv_written zv_smallest(const uint32_t *index, size_t index_words, const uint32_t *column, size_t column_numbers,
+                       uint32_t k, uint32_t *out, size_t out_words);
 
 /* ---- what is made of two columns, row by row, as a new index in the same format, which holds nothing else: the
  * existence bitmap as bitmap 0, then the slices, empty ones included, each body in the form with the fewest words. A

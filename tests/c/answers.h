@@ -147,6 +147,7 @@ static inline void every_piece(source at, row_call *call, const uint32_t *words,
 #define PIECES(call, words, rows_or_k, pieces) every_piece(HERE, call, WORDS(words), rows_or_k, WORDS(pieces))
 
 static columns_call *const columns_calls[] = {zv_sum, zv_signed_difference, zv_smaller, zv_difference_or_zero};
+static first_rows_call *const first_rows_calls[] = {zv_largest, zv_smallest};
 
 /* every question on an index is refused for the index's own fault */
 static inline void every_index_call(const uint32_t *index, size_t words, uint32_t n, uint32_t b, uint64_t w)
@@ -177,7 +178,29 @@ static inline void every_index_call(const uint32_t *index, size_t words, uint32_
     for (size_t i = 0; i < sizeof(columns_calls) / sizeof(columns_calls[0]); i++) {
         NOT_WRITTEN(columns_calls[i](index, words, WORDS(three), WORDS(three), WORDS(out)), n, b, w);
     }
+    for (size_t i = 0; i < sizeof(first_rows_calls) / sizeof(first_rows_calls[0]); i++) {
+        NOT_WRITTEN(first_rows_calls[i](index, words, WORDS(three), 1, WORDS(out)), n, b, w);
+    }
 }
+
+/* the first rows of a column: with much room, with just enough, with a word less and with none */
+static inline void takes(source at, first_rows_call *call, const uint32_t *index, size_t index_words,
+                         const uint32_t *column, size_t numbers, uint32_t k, const uint32_t *want, size_t words)
+{
+    const size_t rooms[] = {sizeof(out) / sizeof(out[0]), words, words > 0 ? words - 1 : 0, 0};
+
+    for (size_t i = 0; i < sizeof(rooms) / sizeof(rooms[0]); i++) {
+        const zv_written told = call(index, index_words, column, numbers, k, out, rooms[i]);
+
+        if (rooms[i] < words) {
+            not_written(at, told, ZV_NO_ROOM, 0, words);
+        } else {
+            wrote(at, told, want, words);
+        }
+    }
+}
+
+#define TAKES(call, index, column, k, want) takes(HERE, call, WORDS(index), WORDS(column), k, WORDS(want))
 
 /* the questions on a bitmap of LOOPED, which has the same rows in either format: bitmap 1 begins at `start` */
 static inline void one_bitmap(const uint32_t *index, size_t words, uint64_t start, uint64_t length)

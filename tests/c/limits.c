@@ -15,15 +15,18 @@
 #define LAST_ROW (ZV_MOST_ROWS - 1u)
 
 static const uint32_t none_in_wah[] = {0x82108422}, all_in_wah[] = {0xC2108422};
-/* none but the last row: in WAH a fill and a literal */
-static const uint32_t last_in_wah[] = {0x82108421, 0x00000001};
-static uint32_t none_set[MARKERS], all_set[MARKERS], last_set[MARKERS + 1u];
+/* none but the last row, and all but it: in WAH a fill and a literal */
+static const uint32_t last_in_wah[] = {0x82108421, 0x00000001}, but_last_in_wah[] = {0xC2108421, 0x00000000};
+/* the lower half of the rows: in EWAH 16,777,216 segments of either value, 256 full markers and one of 256 segments
+ * each; in WAH 17,318,416 segments, 16 rows of the next, and 17,318,417 segments */
+static const uint32_t half_in_wah[] = {0xC1084210, 0x0000FFFF, 0x81084211};
+static uint32_t none_set[MARKERS], all_set[MARKERS], last_set[MARKERS + 1u], but_last[MARKERS + 1u], half[MARKERS + 1u];
 
 /* What differs between the formats here. */
 typedef struct {
     uint32_t kind;
-    const uint32_t *none, *all, *last;
-    size_t run_words, last_words;
+    const uint32_t *none, *all, *last, *but_last, *half;
+    size_t run_words, last_words, half_words;
     zv_checked (*check)(const uint32_t *body, size_t words, uint32_t rows);
     zv_number (*count)(const uint32_t *body, size_t words, uint32_t rows);
     zv_number (*nth)(const uint32_t *body, size_t words, uint32_t rows, uint32_t n);
@@ -33,10 +36,12 @@ typedef struct {
     uint32_t last_piece;
 } format;
 
-static const format ewah = {ZV_INDEX_KIND, none_set, all_set, last_set, MARKERS, MARKERS + 1u, zv_check_body,
-                            zv_body_count, zv_body_nth, zv_body_row, zv_compress, 512u * ROWS_OF_MARKER};
-static const format wah = {ZV_WAH_INDEX_KIND, none_in_wah, all_in_wah, last_in_wah, 1, 2, zv_wah_check_body,
-                           zv_wah_body_count, zv_wah_body_nth, zv_wah_body_row, zv_wah_compress, 0};
+static const format ewah = {ZV_INDEX_KIND, none_set, all_set, last_set, but_last, half, MARKERS, MARKERS + 1u,
+                            MARKERS + 1u, zv_check_body, zv_body_count, zv_body_nth, zv_body_row, zv_compress,
+                            512u * ROWS_OF_MARKER};
+static const format wah = {ZV_WAH_INDEX_KIND, none_in_wah, all_in_wah, last_in_wah, but_last_in_wah, half_in_wah, 1, 2,
+                           3, zv_wah_check_body, zv_wah_body_count, zv_wah_body_nth, zv_wah_body_row, zv_wah_compress,
+                           0};
 
 static void fill_bodies(void)
 {
@@ -44,10 +49,17 @@ static void fill_bodies(void)
         none_set[i] = i < 512u ? 0x0001FFFE : 0x00000400;
         all_set[i] = none_set[i] | 1u;
         last_set[i] = none_set[i];
+        but_last[i] = all_set[i];
     }
     /* a segment fewer in the last run, and a dirty word */
     last_set[MARKERS - 1u] = 0x000203FE;
     last_set[MARKERS] = 0x80000000;
+    but_last[MARKERS - 1u] = 0x000203FF;
+    but_last[MARKERS] = 0x7FFFFFFF;
+    for (uint32_t i = 0; i < 257u; i++) {
+        half[i] = i < 256u ? 0x0001FFFF : 0x00000201;
+        half[257u + i] = half[i] - 1u;
+    }
 }
 
 /* ---- the most rows */
@@ -188,6 +200,56 @@ static void quiet_columns(format f, const uint32_t *index, size_t words)
     REFUSED(zv_difference_or_zero(index, words, WORDS(last), WORDS(ones), out, 0), ZV_NO_ROOM, 0, head + run + run);
 }
 
+/* the first k rows of a column are this body, with just the room that it needs; with a word less nothing is written */
+static void quiet_rows(source at, first_rows_call *call, const uint32_t *index, size_t words, const uint32_t *column,
+                       size_t numbers, uint32_t k, const uint32_t *want, size_t need)
+{
+    static uint32_t answer[2u * MARKERS];
+    zv_written told;
+
+    for (size_t i = 0; i < sizeof(answer) / sizeof(answer[0]); i++) {
+        answer[i] = UNTOUCHED;
+    }
+    told = call(index, words, column, numbers, k, answer, need - 1);
+    refusal(at, told.number, told.bitmap, told.word, ZV_NO_ROOM, 0, need);
+    same(at, "a refused call's first word", answer[0], UNTOUCHED);
+    told = call(index, words, column, numbers, k, answer, need);
+    refusal(at, told.number, told.bitmap, told.word, 0, 0, 0);
+    same(at, "words", told.words, need);
+    for (size_t i = 0; i < sizeof(answer) / sizeof(answer[0]); i++) {
+        same(at, "a word", answer[i], i < need ? want[i] : UNTOUCHED);
+    }
+}
+
+/* none, half, all but the last and all of the most rows, where all have 0, or 2^32 - 1; then where the last alone has
+ * that, and where it alone exists */
+static void quiet_first_rows(format f, const uint32_t *index, size_t words)
+{
+    static const uint32_t zero[] = {1, 0}, last_alone[] = {2, 2};
+    uint32_t most[ZV_MOST_COLUMN], last[ZV_MOST_COLUMN];
+
+    for (uint32_t i = 0; i < ZV_MOST_COLUMN; i++) {
+        most[i] = 1;
+        last[i] = i == 0 ? 1 : 2;
+    }
+    for (size_t i = 0; i < sizeof(first_rows_calls) / sizeof(first_rows_calls[0]); i++) {
+        first_rows_call *const call = first_rows_calls[i];
+
+        quiet_rows(HERE, call, index, words, WORDS(zero), 0, f.none, f.run_words);
+        quiet_rows(HERE, call, index, words, WORDS(zero), ZV_MOST_ROWS / 2u, f.half, f.half_words);
+        quiet_rows(HERE, call, index, words, WORDS(most), ZV_MOST_ROWS / 2u, f.half, f.half_words);
+        quiet_rows(HERE, call, index, words, WORDS(most), LAST_ROW, f.but_last, f.last_words);
+        quiet_rows(HERE, call, index, words, WORDS(most), ZV_MOST_ROWS, f.all, f.run_words);
+        quiet_rows(HERE, call, index, words, WORDS(last), ZV_MOST_ROWS, f.all, f.run_words);
+        quiet_rows(HERE, call, index, words, WORDS(last_alone), 1, f.last, f.last_words);
+        NOT_WRITTEN(call(index, words, WORDS(most), ZV_MOST_ROWS + 1u, WORDS(out)), ZV_BAD_ARGUMENT, 0, 0);
+        NOT_WRITTEN(call(index, words, WORDS(most), UINT32_MAX, WORDS(out)), ZV_BAD_ARGUMENT, 0, 0);
+        NOT_WRITTEN(call(index, words, WORDS(last_alone), 2, WORDS(out)), ZV_BAD_ARGUMENT, 0, 0);
+    }
+    quiet_rows(HERE, zv_largest, index, words, WORDS(last), 1, f.last, f.last_words);
+    quiet_rows(HERE, zv_smallest, index, words, WORDS(last), LAST_ROW, f.but_last, f.last_words);
+}
+
 /* three bitmaps of the most rows; the longest list names the first 86 times, and the others 85 times each */
 static void quiet_lists(format f)
 {
@@ -202,6 +264,7 @@ static void quiet_lists(format f)
     quiet_list(f, index, words, WORDS(list), 85, 170);
     SAME("the last row", zv_nth(index, words, 1, LAST_ROW).value, LAST_ROW);
     quiet_columns(f, index, words);
+    quiet_first_rows(f, index, words);
 
     index[1]++;
     every_index_call(index, words, ZV_TOO_LARGE, 0, 1);

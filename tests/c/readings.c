@@ -1,6 +1,6 @@
 /*
- * Every call, on an index of four rows and two of eight, and a refusal of each number, through include/zvonurel.h.
- * Writes `ok`, or the first difference, with exit status 1.
+ * Every call, on an index of four rows, two of eight and one of forty, and a refusal of each number, through
+ * include/zvonurel.h. Writes `ok`, or the first difference, with exit status 1.
  *
  *   gcc -std=c99 -Wall -Wextra -Werror -pedantic -Iinclude tests/c/readings.c \
  *       target/staticlib/libzvonurel_c.a -o target/readings && target/readings
@@ -388,6 +388,145 @@ static void widest_columns(void)
     clear();
 }
 
+/* none to all of the rows that exist: in `low` they have 1, 2, 3 and 0, and in `high` the rows 1 to 4 have 1, 1, 0 and
+ * 1, of which equal ones come the lowest first */
+static void first_rows(void)
+{
+    static const struct {
+        first_rows_call *call;
+        const uint32_t *column;
+        size_t numbers;
+        uint32_t rows[5];
+    } known[] = {
+        {zv_largest, WORDS(low), {0, 0x04, 0x06, 0x07, 0x0F}},
+        {zv_smallest, WORDS(low), {0, 0x08, 0x09, 0x0B, 0x0F}},
+        {zv_largest, WORDS(high), {0, 0x02, 0x06, 0x16, 0x1E}},
+        {zv_smallest, WORDS(high), {0, 0x08, 0x0A, 0x0E, 0x1E}},
+    };
+    static const uint32_t none[] = {0x00000002};
+
+    for (size_t i = 0; i < sizeof(known) / sizeof(known[0]); i++) {
+        takes(HERE, known[i].call, WORDS(columns), known[i].column, known[i].numbers, 0, WORDS(none));
+        for (uint32_t k = 1; k < 5; k++) {
+            const uint32_t body[] = {0x00020000, known[i].rows[k]};
+
+            takes(HERE, known[i].call, WORDS(columns), known[i].column, known[i].numbers, k, WORDS(body));
+        }
+    }
+}
+
+/* Forty rows. Bitmap 0 has all of them, bitmap 1 none, bitmap 2 rows 32 to 39, and bitmap 3 all with a dirty word. */
+static const uint32_t tail[] = {1, 40, 4, 11, 1, 12, 1, 13, 2, 15, 2,
+                                0x00000005, 0x00000004, 0x00020002, 0x000000FF, 0x00020003, 0x000000FF};
+
+/* equal values, cut at a segment's end and beside it */
+static void cut_rows(first_rows_call *call)
+{
+    static const uint32_t lists[][2] = {{0, 0}, {0, 1}, {3, 0}, {3, 1}, {3, 3}};
+    static const uint32_t none[] = {0x00000004}, one[] = {0x00020000, 0x1, 0x00000002},
+                          less[] = {0x00020000, 0x7FFFFFFF, 0x00000002}, segment[] = {0x00000003, 0x00000002},
+                          more[] = {0x00020003, 0x1}, but_one[] = {0x00020003, 0x7F}, all[] = {0x00000005};
+
+    for (size_t i = 0; i < sizeof(lists) / sizeof(lists[0]); i++) {
+        TAKES(call, tail, lists[i], 0, none);
+        TAKES(call, tail, lists[i], 1, one);
+        TAKES(call, tail, lists[i], 31, less);
+        TAKES(call, tail, lists[i], 32, segment);
+        TAKES(call, tail, lists[i], 33, more);
+        TAKES(call, tail, lists[i], 39, but_one);
+        /* a run of ones over the last segment, however existence has it */
+        TAKES(call, tail, lists[i], 40, all);
+        /* pad bits are no rows */
+        NOT_WRITTEN(call(WORDS(tail), WORDS(lists[i]), 41, WORDS(out)), ZV_BAD_ARGUMENT, 0, 0);
+        NOT_WRITTEN(call(WORDS(tail), WORDS(lists[i]), 64, WORDS(out)), ZV_BAD_ARGUMENT, 0, 0);
+    }
+}
+
+/* rows 32 to 39 have 1, and the others 0 */
+static void last_rows(void)
+{
+    static const uint32_t column[] = {0, 2}, ones[] = {2, 2};
+    static const uint32_t seven[] = {0x00020002, 0x7F}, eight_rows[] = {0x00000002, 0x00000003},
+                          nine[] = {0x00020000, 0x1, 0x00000003}, but_one[] = {0x00020000, 0x7FFFFFFF, 0x00000003},
+                          all[] = {0x00000005}, low_rows[] = {0x00020000, 0xFF, 0x00000002},
+                          others[] = {0x00000003, 0x00000002}, one_more[] = {0x00020003, 0x1};
+
+    TAKES(zv_largest, tail, column, 7, seven);
+    TAKES(zv_largest, tail, column, 8, eight_rows);
+    TAKES(zv_largest, tail, column, 9, nine);
+    TAKES(zv_largest, tail, column, 39, but_one);
+    TAKES(zv_largest, tail, column, 40, all);
+    TAKES(zv_smallest, tail, column, 8, low_rows);
+    TAKES(zv_smallest, tail, column, 32, others);
+    TAKES(zv_smallest, tail, column, 33, one_more);
+    TAKES(zv_smallest, tail, column, 40, all);
+    /* where no other row exists */
+    for (size_t i = 0; i < sizeof(first_rows_calls) / sizeof(first_rows_calls[0]); i++) {
+        TAKES(first_rows_calls[i], tail, ones, 7, seven);
+        TAKES(first_rows_calls[i], tail, ones, 8, eight_rows);
+        NOT_WRITTEN(first_rows_calls[i](WORDS(tail), WORDS(ones), 9, WORDS(out)), ZV_BAD_ARGUMENT, 0, 0);
+    }
+}
+
+/* a bitmap weighs in each place that it is named in: rows 0 to 3 have 5, 2, 7 and 0 */
+static void named_twice(void)
+{
+    static const uint32_t list[] = {0, 1, 2, 1}, large[] = {0x00020000, 0x5}, small[] = {0x00020000, 0xA};
+
+    TAKES(zv_largest, columns, list, 2, large);
+    TAKES(zv_smallest, columns, list, 2, small);
+}
+
+/* of 32 slices: row 1 has 2^31 and row 2 all digits, before row 0 with 2^31 - 1; the top slice is no sign */
+static void widest_first_rows(void)
+{
+    static const uint32_t most[ZV_MOST_COLUMN], two[] = {0x00020000, 0x3};
+    static const uint32_t one_large[] = {0x00020000, 0x4}, two_large[] = {0x00020000, 0x6},
+                          one_small[] = {0x00020000, 0x8}, two_small[] = {0x00020000, 0x9};
+    uint32_t list[ZV_MOST_COLUMN];
+
+    for (uint32_t k = 0; k < ZV_MOST_COLUMN; k++) {
+        list[k] = k == 0 ? 0u : k < ZV_MOST_COLUMN - 1u ? 1u : 2u;
+    }
+    TAKES(zv_largest, columns, list, 1, one_large);
+    TAKES(zv_largest, columns, list, 2, two_large);
+    TAKES(zv_smallest, columns, list, 1, one_small);
+    TAKES(zv_smallest, columns, list, 2, two_small);
+    TAKES(zv_largest, columns, most, 2, two);
+    TAKES(zv_smallest, columns, most, 2, two);
+}
+
+static void bad_first_rows(first_rows_call *call)
+{
+    static const uint32_t one[] = {0}, no_bitmap[] = {0, 6}, no_existence[] = {6, 0}, later[] = {0, 1, 5, 4},
+                          sooner[] = {0, 4, 5}, no_row[] = {1, 1};
+    static const uint32_t one_more[ZV_MOST_COLUMN + 1u], no_rows[] = {1, 0, 1, 5, 0}, only[] = {0, 0};
+    static const uint32_t none[] = {0x00000004};
+
+    NOT_WRITTEN(call(WORDS(columns), low, 0, 0, WORDS(out)), ZV_BAD_ARGUMENT, 0, 0);
+    NOT_WRITTEN(call(WORDS(columns), WORDS(one), 0, WORDS(out)), ZV_BAD_ARGUMENT, 0, 0);
+    NOT_WRITTEN(call(WORDS(columns), WORDS(one_more), 0, WORDS(out)), ZV_BAD_ARGUMENT, 0, 0);
+    NOT_WRITTEN(call(WORDS(columns), WORDS(no_bitmap), 0, WORDS(out)), ZV_BAD_ARGUMENT, 0, 0);
+    NOT_WRITTEN(call(WORDS(columns), WORDS(no_existence), 0, WORDS(out)), ZV_BAD_ARGUMENT, 0, 0);
+    NOT_WRITTEN(call(WORDS(columns), WORDS(low), 5, WORDS(out)), ZV_BAD_ARGUMENT, 0, 0);
+    NOT_WRITTEN(call(WORDS(columns), WORDS(low), 8, WORDS(out)), ZV_BAD_ARGUMENT, 0, 0);
+    NOT_WRITTEN(call(WORDS(columns), WORDS(low), UINT32_MAX, WORDS(out)), ZV_BAD_ARGUMENT, 0, 0);
+    /* 8 comes before 11, and 11 before 9, however few rows are asked for */
+    NOT_WRITTEN(call(WORDS(columns), WORDS(stray), 5, out, 0), ZV_BAD_ARGUMENT, 0, 0);
+    NOT_WRITTEN(call(WORDS(columns), WORDS(stray), 4, out, 0), ZV_STRAY_ROW, 5, 5);
+    NOT_WRITTEN(call(WORDS(columns), WORDS(stray), 0, WORDS(out)), ZV_STRAY_ROW, 5, 5);
+    NOT_WRITTEN(call(WORDS(columns), WORDS(high_stray), 1, WORDS(out)), ZV_STRAY_ROW, 5, 0);
+    NOT_WRITTEN(call(WORDS(columns), WORDS(later), 1, WORDS(out)), ZV_STRAY_ROW, 5, 5);
+    NOT_WRITTEN(call(WORDS(columns), WORDS(sooner), 1, WORDS(out)), ZV_STRAY_ROW, 4, 4);
+    NOT_WRITTEN(call(WORDS(columns), WORDS(low), 4, out, 0), ZV_NO_ROOM, 0, 2);
+
+    /* no row exists, and then there is none */
+    TAKES(call, tail, no_row, 0, none);
+    NOT_WRITTEN(call(WORDS(tail), WORDS(no_row), 1, WORDS(out)), ZV_BAD_ARGUMENT, 0, 0);
+    takes(HERE, call, WORDS(no_rows), WORDS(only), 0, none, 0);
+    NOT_WRITTEN(call(WORDS(no_rows), WORDS(only), 1, WORDS(out)), ZV_BAD_ARGUMENT, 0, 0);
+}
+
 int main(void)
 {
     clear();
@@ -408,6 +547,14 @@ int main(void)
         bad_columns(columns_calls[i]);
     }
     widest_columns();
+    first_rows();
+    last_rows();
+    for (size_t i = 0; i < sizeof(first_rows_calls) / sizeof(first_rows_calls[0]); i++) {
+        cut_rows(first_rows_calls[i]);
+        bad_first_rows(first_rows_calls[i]);
+    }
+    named_twice();
+    widest_first_rows();
     printf("ok\n");
     return 0;
 }

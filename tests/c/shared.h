@@ -25,6 +25,10 @@ typedef struct source {
 typedef zv_written columns_call(const uint32_t *index, size_t index_words, const uint32_t *first, size_t first_numbers,
                                 const uint32_t *second, size_t second_numbers, uint32_t *out, size_t out_words);
 
+/* zv_largest or zv_smallest */
+typedef zv_written first_rows_call(const uint32_t *index, size_t index_words, const uint32_t *column,
+                                   size_t column_numbers, uint32_t k, uint32_t *out, size_t out_words);
+
 static inline void same(source at, const char *what, uint64_t got, uint64_t want)
 {
     if (got != want) {

@@ -235,6 +235,27 @@ static void longest_columns(format f, uint32_t rows, uint64_t need, uint64_t few
     }
 }
 
+/* The longest body that the first rows of a column can have: all that exist, which are three of each four. It is
+ * measured, and written with just that room. */
+static void longest_first_rows(format f, uint32_t rows, uint64_t need, uint64_t most)
+{
+    static const uint32_t column[] = {0, 1};
+    first_rows_call *const calls[] = {zv_largest, zv_smallest};
+    const size_t words = two_bitmaps(f, rows);
+    const uint32_t k = zv_count(columns, words, 0).value;
+
+    for (size_t i = 0; i < sizeof(calls) / sizeof(calls[0]); i++) {
+        zv_written told = calls[i](columns, words, WORDS(column), k, body, 0);
+
+        SAME("the number of measured rows", told.number, ZV_NO_ROOM);
+        SAME("the words needed", told.word, need);
+        SAME("whether a size is enough", need <= most, 1);
+        told = calls[i](columns, words, WORDS(column), k, body, (size_t)need);
+        SAME("the number of fitting rows", told.number, ZV_FINE);
+        SAME("the words written", told.words, need);
+    }
+}
+
 #define MEASURES(call, need) measures(HERE, (call).number, (call).word, need)
 
 static void measures(source at, uint32_t number, uint64_t word, uint64_t need)
@@ -262,6 +283,19 @@ static void measuring_columns(void)
     MEASURES(zv_difference_or_zero(WORDS(archive), WORDS(column), WORDS(column), body, 0), 10);
 }
 
+/* Of that column both rows, the first and none, in either order. */
+static void measuring_first_rows(first_rows_call *call)
+{
+    static const uint32_t column[] = {0, 0};
+
+    MEASURES(call(WORDS(index), WORDS(column), 2, body, 0), 3);
+    MEASURES(call(WORDS(index), WORDS(column), 1, body, 0), 3);
+    MEASURES(call(WORDS(index), WORDS(column), 0, body, 0), 1);
+    MEASURES(call(WORDS(archive), WORDS(column), 2, body, 0), 2);
+    MEASURES(call(WORDS(archive), WORDS(column), 1, body, 0), 2);
+    MEASURES(call(WORDS(archive), WORDS(column), 0, body, 0), 1);
+}
+
 /* Every call that writes measures where its buffer has length 0, and writes nothing. */
 static void measuring(void)
 {
@@ -269,6 +303,8 @@ static void measuring(void)
 
     body[0] = 77;
     measuring_columns();
+    measuring_first_rows(zv_largest);
+    measuring_first_rows(zv_smallest);
     MEASURES(zv_expand(index + 7, 3, 40, body, 0), 2);
     MEASURES(zv_compress(40, index + 8, 2, body, 0), 3);
     MEASURES(zv_body_to_ewah(index + 7, 3, 40, body, 0), 3);
@@ -313,6 +349,11 @@ int main(void)
     longest_columns(ewah, PAST_FULL_ROWS, 98319, 65547, ZV_MOST_SUM_WORDS(PAST_FULL_ROWS, 1));
     longest_columns(wah, 64, 18, 13, ZV_WAH_MOST_SUM_WORDS(64, 1));
     longest_columns(wah, PAST_FULL_ROWS, 101487, 67659, ZV_WAH_MOST_SUM_WORDS(PAST_FULL_ROWS, 1));
+    longest_first_rows(ewah, 64, 3, ZV_MOST_BODY_WORDS(64));
+    longest_first_rows(ewah, FULL_ROWS, 32768, ZV_MOST_BODY_WORDS(FULL_ROWS));
+    longest_first_rows(ewah, PAST_FULL_ROWS, 32770, ZV_MOST_BODY_WORDS(PAST_FULL_ROWS));
+    longest_first_rows(wah, 64, 3, ZV_WAH_MOST_BODY_WORDS(64));
+    longest_first_rows(wah, PAST_FULL_ROWS, 33826, ZV_WAH_MOST_BODY_WORDS(PAST_FULL_ROWS));
     measuring();
     printf("ok\n");
     return 0;

@@ -106,6 +106,8 @@ static union {
     X(histogram, zv_histogram, INDEX, WORDS(list)) \
     X(value, zv_value, INDEX, WORDS(longest), 0u) \
     X(signed_value, zv_signed_value, INDEX, WORDS(longest), 0u) \
+    X(written, zv_largest, INDEX, WORDS(first), 20u, out, room) \
+    X(written, zv_smallest, INDEX, WORDS(first), 20u, out, room) \
     X(written, zv_sum, INDEX, WORDS(first), WORDS(second), out, room) \
     X(written, zv_signed_difference, INDEX, WORDS(first), WORDS(second), out, room) \
     X(written, zv_smaller, INDEX, WORDS(first), WORDS(second), out, room) \

@@ -1,7 +1,7 @@
 /*
  * Every call in WAH, and rewriting from either format to either, through include/zvonurel.h: bodies alone, indexes of
- * four and eight rows, and a refusal of each number that there is in WAH. The words were worked out by hand. Writes
- * `ok`, or the first difference, with exit status 1.
+ * four, eight and forty rows, and a refusal of each number that there is in WAH. The words were worked out by hand.
+ * Writes `ok`, or the first difference, with exit status 1.
  *
  *   gcc -std=c99 -Wall -Wextra -Werror -pedantic -Iinclude tests/c/wah.c \
  *       target/staticlib/libzvonurel_c.a -o target/wah && target/wah
@@ -382,6 +382,89 @@ static void differences(void)
     NOT_WRITTEN(zv_difference_or_zero(WORDS(columns), WORDS(stray), WORDS(high), out, 0), ZV_STRAY_ROW, 5, 5);
 }
 
+/* the first rows of a column are a body in WAH */
+static void first_rows(void)
+{
+    static const struct {
+        first_rows_call *call;
+        const uint32_t *column;
+        size_t numbers;
+        uint32_t rows[5];
+    } known[] = {
+        {zv_largest, WORDS(low), {0, 0x04, 0x06, 0x07, 0x0F}},
+        {zv_smallest, WORDS(low), {0, 0x08, 0x09, 0x0B, 0x0F}},
+        {zv_largest, WORDS(high), {0, 0x02, 0x06, 0x16, 0x1E}},
+        {zv_smallest, WORDS(high), {0, 0x08, 0x0A, 0x0E, 0x1E}},
+    };
+
+    for (size_t i = 0; i < sizeof(known) / sizeof(known[0]); i++) {
+        for (uint32_t k = 0; k < 5; k++) {
+            takes(HERE, known[i].call, WORDS(columns), known[i].column, known[i].numbers, k, &known[i].rows[k], 1);
+        }
+    }
+}
+
+/* Forty rows. Bitmap 0 has all of them, bitmap 1 none, bitmap 2 rows 31 to 39, and bitmap 3 all in two literals. */
+static const uint32_t tail[] = {2, 40, 4, 11, 1, 12, 1, 13, 2, 15, 2,
+                                0xC0000002, 0x80000002, 0x00000000, 0x000001FF, 0x7FFFFFFF, 0x000001FF};
+
+/* equal values, cut at a segment's end and beside it */
+static void cut_rows(first_rows_call *call)
+{
+    static const uint32_t lists[][2] = {{0, 0}, {0, 1}, {3, 0}, {3, 1}, {3, 3}};
+    static const uint32_t no_row[] = {0x80000002}, one[] = {0x1, 0x0}, less[] = {0x3FFFFFFF, 0x0},
+                          segment[] = {0x7FFFFFFF, 0x0}, more[] = {0x7FFFFFFF, 0x1}, but_one[] = {0x7FFFFFFF, 0xFF},
+                          all[] = {0xC0000002};
+
+    for (size_t i = 0; i < sizeof(lists) / sizeof(lists[0]); i++) {
+        TAKES(call, tail, lists[i], 0, no_row);
+        TAKES(call, tail, lists[i], 1, one);
+        TAKES(call, tail, lists[i], 30, less);
+        TAKES(call, tail, lists[i], 31, segment);
+        TAKES(call, tail, lists[i], 32, more);
+        TAKES(call, tail, lists[i], 39, but_one);
+        TAKES(call, tail, lists[i], 40, all);
+        NOT_WRITTEN(call(WORDS(tail), WORDS(lists[i]), 41, WORDS(out)), ZV_BAD_ARGUMENT, 0, 0);
+        NOT_WRITTEN(call(WORDS(tail), WORDS(lists[i]), 62, WORDS(out)), ZV_BAD_ARGUMENT, 0, 0);
+    }
+}
+
+/* rows 31 to 39 have 1, and the others 0: a clean segment alone is a literal */
+static void last_rows(void)
+{
+    static const uint32_t column[] = {0, 2};
+    static const uint32_t eight_rows[] = {0x0, 0xFF}, nine[] = {0x0, 0x1FF}, ten[] = {0x1, 0x1FF},
+                          but_one[] = {0x3FFFFFFF, 0x1FF}, all[] = {0xC0000002}, low_rows[] = {0xFF, 0x0},
+                          others[] = {0x7FFFFFFF, 0x0}, one_more[] = {0x7FFFFFFF, 0x1};
+
+    TAKES(zv_largest, tail, column, 8, eight_rows);
+    TAKES(zv_largest, tail, column, 9, nine);
+    TAKES(zv_largest, tail, column, 10, ten);
+    TAKES(zv_largest, tail, column, 39, but_one);
+    TAKES(zv_largest, tail, column, 40, all);
+    TAKES(zv_smallest, tail, column, 8, low_rows);
+    TAKES(zv_smallest, tail, column, 31, others);
+    TAKES(zv_smallest, tail, column, 32, one_more);
+    TAKES(zv_smallest, tail, column, 40, all);
+}
+
+static void bad_first_rows(first_rows_call *call)
+{
+    static const uint32_t one[] = {0}, no_bitmap[] = {0, 6}, no_rows[] = {2, 0, 1, 5, 0}, only[] = {0, 0};
+    static const uint32_t one_more[ZV_MOST_COLUMN + 1u];
+
+    NOT_WRITTEN(call(WORDS(columns), WORDS(one), 0, WORDS(out)), ZV_BAD_ARGUMENT, 0, 0);
+    NOT_WRITTEN(call(WORDS(columns), WORDS(one_more), 0, WORDS(out)), ZV_BAD_ARGUMENT, 0, 0);
+    NOT_WRITTEN(call(WORDS(columns), WORDS(no_bitmap), 0, WORDS(out)), ZV_BAD_ARGUMENT, 0, 0);
+    NOT_WRITTEN(call(WORDS(columns), WORDS(low), 5, WORDS(out)), ZV_BAD_ARGUMENT, 0, 0);
+    NOT_WRITTEN(call(WORDS(columns), WORDS(stray), 5, out, 0), ZV_BAD_ARGUMENT, 0, 0);
+    NOT_WRITTEN(call(WORDS(columns), WORDS(stray), 4, out, 0), ZV_STRAY_ROW, 5, 5);
+    NOT_WRITTEN(call(WORDS(columns), WORDS(stray), 0, WORDS(out)), ZV_STRAY_ROW, 5, 5);
+    NOT_WRITTEN(call(WORDS(columns), WORDS(low), 4, out, 0), ZV_NO_ROOM, 0, 1);
+    takes(HERE, call, WORDS(no_rows), WORDS(only), 0, none, 0);
+    NOT_WRITTEN(call(WORDS(no_rows), WORDS(only), 1, WORDS(out)), ZV_BAD_ARGUMENT, 0, 0);
+}
+
 int main(void)
 {
     clear();
@@ -399,6 +482,12 @@ int main(void)
     lists();
     sums();
     differences();
+    first_rows();
+    last_rows();
+    for (size_t i = 0; i < sizeof(first_rows_calls) / sizeof(first_rows_calls[0]); i++) {
+        cut_rows(first_rows_calls[i]);
+        bad_first_rows(first_rows_calls[i]);
+    }
     printf("ok\n");
     return 0;
 }

@@ -5,7 +5,7 @@
 
 use std::fmt;
 
-use crate::{segments, LEAST_COLUMN, MOST_COLUMN, MOST_NAMED, MOST_VALUE_COLUMN};
+use crate::{count, segments, LEAST_COLUMN, MOST_COLUMN, MOST_NAMED, MOST_VALUE_COLUMN};
 
 /// What is wrong with an argument, and what would not be.
 #[derive(Clone, Copy, Debug, PartialEq, Eq, Hash)]
@@ -90,6 +90,13 @@ pub enum BadArgument {
         /// The row asked for.
         row: u32,
     },
+    /// Fewer rows exist in the column than were asked for.
+    FewRows {
+        /// How many were asked for.
+        k: u32,
+        /// How many exist.
+        existing: u32,
+    },
     /// There is not one value, or `None`, for each row.
     Values {
         /// How many there are.
@@ -141,7 +148,7 @@ pub enum BadColumn {
 }
 
 use BadArgument::{Bitmap, EmptyList, LongList, Name, PlainWords, Row, SecondBitmap, SetRow};
-use BadArgument::{Column, NoValue, SecondColumn, Slices, Values, WideValue};
+use BadArgument::{Column, FewRows, NoValue, SecondColumn, Slices, Values, WideValue};
 use BadArgument::{TableEntry, TableLength, Threshold};
 
 impl fmt::Display for BadArgument {
@@ -169,6 +176,7 @@ impl fmt::Display for BadArgument {
             Column(fault) => fault.tell(f, "the column"),
             SecondColumn(fault) => fault.tell(f, "the second column"),
             NoValue { row } => write!(f, "row {row} does not exist in the column"),
+            FewRows { k, existing } => write!(f, "{k} rows were asked for, and {existing} exist in the column"),
             Values { values, rows } => write!(f, "there are {values} values, and {rows} rows need as many"),
             Slices { slices } => {
                 write!(f, "a column of {slices} slices was asked for, and it can have 1 to {}", MOST_COLUMN - 1)
@@ -270,6 +278,8 @@ pub(crate) fn two_columns(index: &[u32], first: &[u32], second: &[u32]) -> Optio
     column(index, first, MOST_COLUMN).map(Column).or_else(|| column(index, second, MOST_COLUMN).map(SecondColumn))
 }
 
-pub(crate) fn ranked(index: &[u32], list: &[u32]) -> Option<BadArgument> {
-    column(index, list, MOST_COLUMN).map(Column)
+/// The library is asked again, for how many rows exist.
+pub(crate) fn first_rows(index: &[u32], list: &[u32], k: u32) -> Option<BadArgument> {
+    let few_rows = || Some(FewRows { k, existing: count(index, list[0]).ok()? });
+    column(index, list, MOST_COLUMN).map(Column).or_else(few_rows)
 }

@@ -200,7 +200,7 @@ enum Ranking {
     Smallest,
 }
 
-fn ranked(ranking: Ranking, index: &[u32], column: &[u32], k: u32, out: &mut [u32]) -> Result<usize, Refusal> {
+fn first_rows(ranking: Ranking, index: &[u32], column: &[u32], k: u32, out: &mut [u32]) -> Result<usize, Refusal> {
     let call = match ranking {
         Ranking::Largest => raw::zv_largest,
         Ranking::Smallest => raw::zv_smallest,
@@ -208,29 +208,65 @@ fn ranked(ranking: Ranking, index: &[u32], column: &[u32], k: u32, out: &mut [u3
     // SAFETY: each pointer is a slice's, with its length.
     let told =
         unsafe { call(index.as_ptr(), index.len(), column.as_ptr(), column.len(), k, out.as_mut_ptr(), out.len()) };
-    settled(told.number, told.bitmap, told.word, words(told.words), || argument::ranked(index, column))
+    settled(told.number, told.bitmap, told.word, words(told.words), || argument::first_rows(index, column, k))
 }
 
-/// Writes the body of the k rows with the largest values of a column, and returns how many words. No existing row that
-/// is left out has a greater value than one that is taken; of rows equal to the least value taken, the lowest are. The
-/// body has the index's format, and the one form with the fewest words.
+/// Writes the k rows of a column that have the largest values, as a body in the index's format, in the one form with
+/// the fewest words, and returns how many words. The body has exactly k rows, which all exist: no other row that exists
+/// has a larger value than one of them. Of the rows that share the least value taken, the lowest are taken. A k of 0
+/// gives no rows. The column is taken as unsigned.
+///
+/// Twice the words of the named bodies, each counted as often as it is named, is always room enough. [`set_rows`], or
+/// in WAH [`wah::set_rows`], lists the rows, from the lowest on and not by their values.
 ///
 /// # Errors
 /// 1 to 7, or 10, for the index's first fault; 8 for a list of fewer than [`LEAST_COLUMN`] numbers, more than
 /// [`MOST_COLUMN`] or one that is no bitmap's, or where fewer than k rows exist; 11 where a slice has a row that does
 /// not exist; 9 for a short buffer.
 ///
+/// [`set_rows`]: crate::set_rows
+/// [`wah::set_rows`]: crate::wah::set_rows
 /// [`LEAST_COLUMN`]: crate::LEAST_COLUMN
 /// [`MOST_COLUMN`]: crate::MOST_COLUMN
+///
+/// ```
+/// // what a tank had in six half hours, of which one was not read
+/// let mut builder = zvonurel::IndexBuilder::new(6);
+/// let ammonia = builder.add_column(&[Some(21), Some(40), None, Some(33), Some(40), Some(33)], 6)?;
+/// let index = builder.build()?;
+///
+/// // the three worst: those with 40, and the first of the two with 33
+/// let mut out = [0; zvonurel::most_body_words(6)];
+/// let words = zvonurel::largest(&index, &ammonia, 3, &mut out)?;
+/// let worst: Vec<u32> = zvonurel::set_rows(&out[..words], 6)?.collect();
+/// assert_eq!(worst, [1, 3, 4]);
+///
+/// let refusal = zvonurel::largest(&index, &ammonia, 6, &mut out).unwrap_err();
+/// assert_eq!(refusal.to_string(), "a bad argument: 6 rows were asked for, and 5 exist in the column (refusal 8)");
+/// # Ok::<(), zvonurel::Refusal>(())
+/// ```
 pub fn largest(index: &[u32], column: &[u32], k: u32, out: &mut [u32]) -> Result<usize, Refusal> {
-    ranked(Ranking::Largest, index, column, k, out)
+    first_rows(Ranking::Largest, index, column, k, out)
 }
 
-/// Writes the body of the k rows with the smallest values of a column, and returns how many words. It is as [`largest`]
-/// has it, but that no row left out has a smaller value; of rows equal to the greatest value taken, the lowest are.
+/// Writes the k rows of a column that have the smallest values, as a body, and returns how many words. It is as
+/// [`largest`] has it, but that no other row that exists has a smaller value than one of them; of the rows that share
+/// the greatest value taken, the lowest are taken.
 ///
 /// # Errors
 /// Those of [`largest`].
+///
+/// ```
+/// let mut builder = zvonurel::IndexBuilder::new(6);
+/// let ammonia = builder.add_column(&[Some(21), Some(40), None, Some(33), Some(40), Some(33)], 6)?;
+/// let index = builder.build()?;
+///
+/// let mut out = [0; zvonurel::most_body_words(6)];
+/// let words = zvonurel::smallest(&index, &ammonia, 2, &mut out)?;
+/// let best: Vec<u32> = zvonurel::set_rows(&out[..words], 6)?.collect();
+/// assert_eq!(best, [0, 3]);
+/// # Ok::<(), zvonurel::Refusal>(())
+/// ```
 pub fn smallest(index: &[u32], column: &[u32], k: u32, out: &mut [u32]) -> Result<usize, Refusal> {
-    ranked(Ranking::Smallest, index, column, k, out)
+    first_rows(Ranking::Smallest, index, column, k, out)
 }

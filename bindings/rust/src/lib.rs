@@ -81,7 +81,8 @@
 //! A call on an index checks the whole of it first, so it costs at least that: the contents and every marker, though
 //! no dirty word but a last one; in WAH every word. For many questions on one bitmap, take its body with [`bitmap`]
 //! once and ask the calls on a body of its format. [`value`] and [`signed_value`] also look through all slices of
-//! their column, each time: for many values of one column, expand its bitmaps once. The library was built for Linux on
+//! their column, each time: for many values of one column, expand its bitmaps once. [`largest`] and [`smallest`] go
+//! through their column once for each slice, whatever k is, and a few times more. The library was built for Linux on
 //! x86-64; a call needs less than 32 KiB of stack.
 #![deny(missing_docs)]
 #![deny(unsafe_op_in_unsafe_fn)]

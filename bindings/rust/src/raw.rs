@@ -162,8 +162,8 @@ macro_rules! of_two_columns {
 
 of_two_columns!(zv_sum, zv_signed_difference, zv_smaller, zv_difference_or_zero);
 
-/// The calls that take the first rows of a column take the same.
-macro_rules! of_ranks {
+/// The calls that give the first rows of a column take the same.
+macro_rules! first_rows {
     ($($name:ident),*) => {
         extern "C" {
             $(pub fn $name(
@@ -179,4 +179,4 @@ macro_rules! of_ranks {
     };
 }
 
-of_ranks!(zv_largest, zv_smallest);
+first_rows!(zv_largest, zv_smallest);

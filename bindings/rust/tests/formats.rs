@@ -194,6 +194,12 @@ fn indexes_by_chance() {
             let made = [&ewah, &wah].map(|index| written(|out| call(index, &first, &second, out)));
             assert_eq!(written(|out| index_to_wah(&made[0], out)), made[1]);
         }
+        let existing = count(&ewah, first[0]).unwrap();
+        for call in [largest, smallest] {
+            for k in [0, existing / 3, existing] {
+                answer_agrees(both, |index, out| call(index, &first, k, out));
+            }
+        }
         for row in (0..rows).step_by(1 + rows as usize / 19) {
             assert_eq!(value(&wah, &first, row), value(&ewah, &first, row));
             assert_eq!(signed_value(&wah, &first, row), signed_value(&ewah, &first, row));

@@ -234,6 +234,36 @@ fn columns() {
     writes(&want, |out| difference_or_zero(&index, &[0, 1, 2], &[3, 4], out));
 }
 
+/// The first rows of a column are a body in WAH.
+#[test]
+fn first_rows() {
+    let index = wah::index_of(8, &[[0x0F], [0x05], [0x06], [0x1E], [0x16], [0x21]]);
+    for (k, (most, least)) in (0..).zip([(0, 0), (0x4, 0x8), (0x6, 0x9), (0x7, 0xB), (0xF, 0xF)]) {
+        writes(&[most], |out| largest(&index, &[0, 1, 2], k, out));
+        writes(&[least], |out| smallest(&index, &[0, 1, 2], k, out));
+    }
+    // rows 31 to 39 of 40 have 1, and the others 0
+    let tail = wah::index_of(40, &[&[0xC000_0002][..], &[0, 0x1FF]]);
+    for (k, most, least) in [
+        (0, &[0x8000_0002][..], &[0x8000_0002][..]),
+        (8, &[0, 0xFF], &[0xFF, 0]),
+        (9, &[0, 0x1FF], &[0x1FF, 0]),
+        (31, &[0x3F_FFFF, 0x1FF], &[0x7FFF_FFFF, 0]),
+        (32, &[0x7F_FFFF, 0x1FF], &[0x7FFF_FFFF, 1]),
+        (40, &[0xC000_0002], &[0xC000_0002]),
+    ] {
+        writes(most, |out| largest(&tail, &[0, 1], k, out));
+        writes(least, |out| smallest(&tail, &[0, 1], k, out));
+    }
+    for call in [largest, smallest] {
+        assert_eq!(said(call(&tail, &[0, 1], 41, &mut [])), "41 rows were asked for, and 40 exist in the column");
+        assert_eq!(told(call(&index, &[0, 5], 5, &mut [])), Err(BAD));
+        assert_eq!(told(call(&index, &[0, 5], 4, &mut [])), Err((11, 5, 5)));
+        assert_eq!(told(call(&index, &[0, 1], 4, &mut [])), no_room(1));
+        writes(&[], |out| call(&[2, 0, 1, 5, 0], &[0, 0], 0, out));
+    }
+}
+
 #[test]
 fn indexes_rewritten() {
     for index in [&LOOPED[..], &ARCHIVE] {

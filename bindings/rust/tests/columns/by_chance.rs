@@ -3,7 +3,8 @@
 #[path = "../shared/random.rs"]
 mod random;
 
-use crate::shared::{told, writes, BAD};
+use crate::first_rows::FirstRows;
+use crate::shared::{told, writes, Numbers, BAD};
 use crate::two_columns::{whole, Made, MADE};
 use random::Random;
 use zvonurel::*;
@@ -33,6 +34,11 @@ fn index_of_values(format: Format, values: &[Option<i64>], slices: usize) -> Vec
     }
     builder.build().unwrap()
 }
+
+/// A call that gives the first rows of a column, and what they are sorted by, the lowest first.
+type Order = (FirstRows, fn(u32) -> u32);
+
+const ORDERS: [Order; 2] = [(largest, |value| u32::MAX - value), (smallest, |value| value)];
 
 /// Two columns of one index, with their values and slices.
 struct Two {
@@ -86,17 +92,59 @@ impl Two {
         }
     }
 
-    /// The second column's slices are refused with the first one's existence, if they have a row that it has not.
-    fn mix(&self, Made { call, .. }: Made) {
+    /// A column of the first one's existence and the second one's slices, and its refusal, if these have a row that
+    /// the other has not.
+    fn mixed(&self) -> (Vec<u32>, Option<Numbers>) {
         let ([a, b], [first, second]) = (&self.values, &self.lists);
-        let mixed: Vec<u32> = first[..1].iter().chain(&second[1..]).copied().collect();
+        let mixed = first[..1].iter().chain(&second[1..]).copied().collect();
         let has = |r: u32, k: usize| a[r as usize].is_none() && b[r as usize].is_some_and(|y| y >> k & 1 == 1);
         let lowest = |k: usize| (0..self.rows()).find(|r| has(*r, k));
         let slices = second.len() - 1;
-        let fault = (0..slices).find_map(|k| Some((Refusal::STRAY_ROW, second[1 + k], u64::from(lowest(k)?))));
-        let mut out = vec![0; self.format.most_sum_words(self.rows(), slices)];
+        let fault = (0..slices).find_map(|k| Some((Refusal::STRAY_ROW, second[1 + k], lowest(k)?.into())));
+        (mixed, fault)
+    }
+
+    /// Of such a column nothing is made.
+    fn mix(&self, Made { call, .. }: Made) {
+        let ((mixed, fault), second) = (self.mixed(), &self.lists[1]);
+        let mut out = vec![0; self.format.most_sum_words(self.rows(), second.len() - 1)];
         let refused = call(&self.index, &mixed, second, &mut out).err();
         assert_eq!(refused.map(|refusal| refusal.numbers()), fault);
+    }
+
+    /// The rows of each column that exist, sorted, and then as many of them as are asked for. Twice the words of the
+    /// bodies is room enough.
+    fn rank(&self, random: &mut Random, (call, key): Order) {
+        for (list, values) in self.lists.iter().zip(&self.values) {
+            let mut sorted: Vec<_> = (0..).zip(values).filter_map(|(row, value)| Some((key((*value)?), row))).collect();
+            sorted.sort();
+            let existing = sorted.len() as u32;
+            let body_words = |k: &u32| bitmap(&self.index, *k).unwrap().len();
+            let room = 2 * list.iter().map(body_words).sum::<usize>();
+            for k in [0, 1, random.below(1 + u64::from(existing)) as u32, existing] {
+                let Some(taken) = sorted.get(..k as usize) else { continue };
+                let mut builder = IndexBuilder::with_format(self.rows(), self.format);
+                builder.add_rows(taken.iter().map(|(_, row)| *row)).unwrap();
+                let index = builder.build().unwrap();
+                let want = bitmap(&index, 0).unwrap();
+                writes(want, |out| call(&self.index, list, k, out));
+                assert!(want.len() <= room, "{} words, and there is room for {room}", want.len());
+            }
+            let refusal = call(&self.index, list, existing + 1, &mut []).unwrap_err();
+            assert_eq!(refusal.numbers(), BAD);
+            assert_eq!(refusal.argument, Some(BadArgument::FewRows { k: existing + 1, existing }));
+        }
+    }
+
+    /// Nor has a mixed column first rows, however many of them are asked for.
+    fn mix_ranks(&self, (call, _): Order) {
+        let ((mixed, fault), existing) = (self.mixed(), count(&self.index, self.lists[0][0]).unwrap());
+        let mut out = vec![0; self.format.most_body_words(self.rows())];
+        for k in [0, existing / 2, existing] {
+            let refused = call(&self.index, &mixed, k, &mut out).err();
+            assert_eq!(refused.map(|refusal| refusal.numbers()), fault);
+        }
+        assert_eq!(told(call(&self.index, &mixed, existing + 1, &mut out)), Err(BAD));
     }
 }
 
@@ -110,6 +158,10 @@ fn columns_by_chance() {
             for made in MADE {
                 two.make(made);
                 two.mix(made);
+            }
+            for order in ORDERS {
+                two.rank(&mut random, order);
+                two.mix_ranks(order);
             }
         }
     }

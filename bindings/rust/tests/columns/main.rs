@@ -1,12 +1,14 @@
-//! Columns: readings of values and sums, and of all calls each refusal and its place, and the limits. `differences` has
-//! the readings of the other calls, and `by_chance` columns by chance.
+//! Columns: readings of values and sums, and of all calls each refusal and its place, and the limits. `differences` and
+//! `first_rows` have the readings of the other calls, and `by_chance` columns by chance.
 
 mod by_chance;
 mod differences;
+mod first_rows;
 #[path = "../shared/mod.rs"]
 mod shared;
 mod two_columns;
 
+use first_rows::FIRST_ROWS;
 use shared::{no_room, said, told, writes, Numbers, BAD, LOOPED, UNTOUCHED};
 use two_columns::{whole, Made, EIGHT, HIGH, LOW, MADE};
 use zvonurel::*;
@@ -69,6 +71,14 @@ fn limits() {
         assert_eq!((words, out[2] as usize), (need, MOST_COLUMN + more));
         assert_eq!(read(&out[..words], &whole(&out), 3), Ok(of(u32::MAX.into(), u32::MAX.into())));
     }
+    for call in FIRST_ROWS {
+        for list in [&[0; MOST_COLUMN + 1][..], &[0; LEAST_COLUMN - 1]] {
+            assert_eq!(told(call(&EIGHT, list, 0, &mut [UNTOUCHED; 2])), Err(BAD));
+        }
+        for list in [&most[..], &[0; LEAST_COLUMN]] {
+            writes(&[0x20000, 0x7], |out| call(&EIGHT, list, 3, out));
+        }
+    }
 }
 
 /// Columns that need all the room that there can be: of each segment rows 0 and 1 exist. Row 0 has 1 in one column and 0
@@ -116,6 +126,23 @@ fn strays() {
         assert_eq!(told(call(&EIGHT, &LOW, &HIGH_STRAY, &mut out)), stray(5, 0));
         assert_eq!(out, [UNTOUCHED; 20]);
     }
+    for call in FIRST_ROWS {
+        for (list, existing, want) in [
+            (&STRAY[..], 4, stray(5, 5)),
+            (&HIGH_STRAY, 4, stray(5, 0)),
+            (&[0, 1, 5, 4], 4, stray(5, 5)),
+            (&[0, 4, 5], 4, stray(4, 4)),
+            (&[5, 1, 4], 2, stray(1, 2)),
+        ] {
+            // however many of the rows are asked for
+            for k in 0..=existing {
+                let mut out = [UNTOUCHED; 4];
+                assert_eq!((told(call(&EIGHT, list, k, &mut [])), told(call(&EIGHT, list, k, &mut out))), (want, want));
+                assert_eq!(out, [UNTOUCHED; 4]);
+            }
+            assert_eq!(told(call(&EIGHT, list, existing + 1, &mut [])), Err(BAD));
+        }
+    }
     let refusal = value(&EIGHT, &STRAY, 0).unwrap_err();
     assert_eq!(
         refusal.to_string(),
@@ -149,6 +176,19 @@ fn bad_arguments() {
         let argument = call(&EIGHT, &LOW, &[0], out).unwrap_err().argument;
         assert_eq!(argument, Some(BadArgument::SecondColumn(BadColumn::Short { numbers: 1 })));
     }
+    for call in FIRST_ROWS {
+        for (list, k, want) in [
+            (&[][..], 9, "the column's list has length 0, and 2 is the least"),
+            (&[9; 34], 9, "the column's list has length 34, and 33 is the most"),
+            (&[0, 6, 7], 9, place),
+            (&LOW, 5, "5 rows were asked for, and 4 exist in the column"),
+            (&STRAY, u32::MAX, "4294967295 rows were asked for, and 4 exist in the column"),
+        ] {
+            assert_eq!(said(call(&EIGHT, list, k, out)), want);
+        }
+        let argument = call(&EIGHT, &LOW, 8, out).unwrap_err().argument;
+        assert_eq!(argument, Some(BadArgument::FewRows { k: 8, existing: 4 }));
+    }
 }
 
 /// All are refused for the index's own fault, whatever the lists are.
@@ -165,6 +205,11 @@ fn bad_indexes() {
             for Made { call, .. } in MADE {
                 let mut out = [UNTOUCHED; 30];
                 assert_eq!(call(&index, list, list, &mut out), Err(fault));
+                assert_eq!(out, [UNTOUCHED; 30]);
+            }
+            for (call, k) in FIRST_ROWS.into_iter().flat_map(|call| [0, 1, u32::MAX].map(|k| (call, k))) {
+                let mut out = [UNTOUCHED; 30];
+                assert_eq!((call(&index, list, k, &mut []), call(&index, list, k, &mut out)), (Err(fault), Err(fault)));
                 assert_eq!(out, [UNTOUCHED; 30]);
             }
         }

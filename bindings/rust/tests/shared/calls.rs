@@ -4,7 +4,7 @@ use crate::shared::UNTOUCHED;
 use zvonurel::*;
 
 /// What each question on the index is refused with. None of them changes its buffer.
-pub fn refused_by_all(index: &[u32]) -> [Option<Refusal>; 24] {
+pub fn refused_by_all(index: &[u32]) -> [Option<Refusal>; 26] {
     let (all, mut out) = ([0, 1, 2], [UNTOUCHED; HISTOGRAM_COUNTS]);
     let refused = [
         bitmap_refusal(index, 0),
@@ -31,6 +31,8 @@ pub fn refused_by_all(index: &[u32]) -> [Option<Refusal>; 24] {
         signed_difference(index, &all, &all, &mut out).err(),
         smaller(index, &all, &all, &mut out).err(),
         difference_or_zero(index, &all, &all, &mut out).err(),
+        largest(index, &all, 1, &mut out).err(),
+        smallest(index, &all, 1, &mut out).err(),
     ];
     assert_eq!(out, [UNTOUCHED; HISTOGRAM_COUNTS]);
     refused
