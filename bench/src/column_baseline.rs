@@ -1,5 +1,7 @@
 //! The plain programs beside the questions on columns.
 
+use std::cmp::Ordering;
+
 use zvonurel::WORD_BITS;
 
 use crate::column_inputs::Columns;
@@ -192,4 +194,39 @@ fn bit_sliced(data: &Columns, out: &mut [u32]) {
         }
         out[SLICES * segments..][block.clone()].copy_from_slice(&carries[..block.len()]);
     }
+}
+
+/// Which rows of a column come first: those of the largest values, or of the smallest; of equal ones the lowest.
+#[derive(Debug, Clone, Copy, PartialEq, Eq)]
+pub enum Ranking {
+    Largest,
+    Smallest,
+}
+
+/// A value and its row.
+type Valued = (u32, u32);
+
+impl Ranking {
+    /// The plain program: the first k of the rows that exist in the first column, with their values, in no order.
+    pub fn select(self, data: &Columns, k: usize, rows: &mut Vec<Valued>) {
+        match self {
+            Ranking::Largest => select(data, k, rows, |x, y| y.0.cmp(&x.0).then(x.1.cmp(&y.1))),
+            Ranking::Smallest => select(data, k, rows, Valued::cmp),
+        }
+    }
+}
+
+/// Each existing row's value is put together bit by bit, of plain words, and then k are selected. The list is lent, so
+/// that no time goes into its memory, and the order is a parameter of its own type, so that it is compiled in.
+fn select(data: &Columns, k: usize, rows: &mut Vec<Valued>, order: impl FnMut(&Valued, &Valued) -> Ordering) {
+    let existence = data.plain(0, 0);
+    let slices: [&[u32]; SLICES] = std::array::from_fn(|i| data.plain(0, i + 1));
+    let bit = |words: &[u32], row: u32| words[row as usize / WORD_BITS] >> (row as usize % WORD_BITS) & 1;
+    let value = |row: u32| slices.iter().enumerate().fold(0, |value, (i, slice)| value | bit(slice, row) << i);
+    rows.clear();
+    rows.extend((0..data.rows).filter(|row| bit(existence, *row) == 1).map(|row| (value(row), row)));
+    if k < rows.len() {
+        rows.select_nth_unstable_by(k, order);
+    }
+    rows.truncate(k);
 }

@@ -48,6 +48,8 @@ pub struct Columns {
     plain: [Vec<u32>; 2],
     /// Rows that exist in the first column, in no order.
     pub asked: Vec<u32>,
+    /// How many rows exist in the first column.
+    pub existing: u32,
 }
 
 impl Columns {
@@ -62,6 +64,7 @@ impl Columns {
             slices,
             plain: [plain_words(&index, &lists[0], rows), plain_words(&index, &lists[1], rows)],
             asked: existing(&made[0]),
+            existing: made[0].iter().flatten().count() as u32,
             values: made.map(|values| values.into_iter().map(Option::unwrap_or_default).collect()),
             index,
             lists,

@@ -4,7 +4,7 @@ use std::hint::black_box;
 
 use zvonurel::{most_sum_words, Refusal, MOST_COLUMN, MOST_ROWS};
 
-use crate::column_baseline::{Pairing, SLICES};
+use crate::column_baseline::{Pairing, Ranking, SLICES};
 use crate::column_inputs::{plain_words, Columns, Shape};
 use crate::timing::best_seconds;
 
@@ -16,22 +16,56 @@ enum Call {
     Pairing(Pairing),
     Value,
     SignedValue,
+    Ranking(Ranking, Many),
+}
+
+/// How many rows are ranked.
+#[derive(Debug, Clone, Copy, PartialEq, Eq)]
+enum Many {
+    Ten,
+    /// Of all rows.
+    Tenth,
 }
 
 /// In the order in which they are measured.
-const CALLS: [(Call, &str); 6] = [
+const CALLS: [(Call, &str); 10] = [
     (Call::Pairing(Pairing::Sum), "sum"),
     (Call::Value, "value"),
     (Call::Pairing(Pairing::SignedDifference), "signed_difference"),
     (Call::Pairing(Pairing::Smaller), "smaller"),
     (Call::Pairing(Pairing::DifferenceOrZero), "difference_or_zero"),
     (Call::SignedValue, "signed_value"),
+    (Call::Ranking(Ranking::Largest, Many::Ten), "largest_10"),
+    (Call::Ranking(Ranking::Largest, Many::Tenth), "largest_tenth"),
+    (Call::Ranking(Ranking::Smallest, Many::Ten), "smallest_10"),
+    (Call::Ranking(Ranking::Smallest, Many::Tenth), "smallest_tenth"),
 ];
 
-/// The library's call, once: of a value, at that row, a signed one as its 64 bits. Its own function, so that a profiler
-/// can find it.
+impl Many {
+    /// As many as exist where those are fewer, since more are refused.
+    fn of(self, data: &Columns) -> u32 {
+        let many = match self {
+            Many::Ten => 10,
+            Many::Tenth => data.rows / 10,
+        };
+        many.min(data.existing)
+    }
+}
+
+impl Call {
+    /// The number that it takes: how many rows, or a row, another one each time.
+    fn number(self, data: &Columns, time: usize) -> u32 {
+        match self {
+            Call::Ranking(_, many) => many.of(data),
+            _ => data.asked[time % data.asked.len()],
+        }
+    }
+}
+
+/// The library's call, once: of a value, at row n, a signed one as its 64 bits; of a ranking, of n rows. Its own
+/// function, so that a profiler can find it.
 #[inline(never)]
-fn measured_call(call: Call, data: &Columns, row: u32, out: &mut [u32]) -> Result<u64, Refusal> {
+fn measured_call(call: Call, data: &Columns, n: u32, out: &mut [u32]) -> Result<u64, Refusal> {
     let index = black_box(&data.index[..]);
     let [first, second] = &data.lists;
     match call {
@@ -43,12 +77,14 @@ fn measured_call(call: Call, data: &Columns, row: u32, out: &mut [u32]) -> Resul
         Call::Pairing(Pairing::DifferenceOrZero) => {
             zvonurel::difference_or_zero(index, first, second, out).map(|words| words as u64)
         }
-        Call::Value => zvonurel::value(index, first, row),
-        Call::SignedValue => zvonurel::signed_value(index, first, row).map(|value| value as u64),
+        Call::Value => zvonurel::value(index, first, n),
+        Call::SignedValue => zvonurel::signed_value(index, first, n).map(|value| value as u64),
+        Call::Ranking(Ranking::Largest, _) => zvonurel::largest(index, first, n, out).map(|words| words as u64),
+        Call::Ranking(Ranking::Smallest, _) => zvonurel::smallest(index, first, n, out).map(|words| words as u64),
     }
 }
 
-/// Room for all that is made of the two columns.
+/// Room for all that is made of the two columns: a sum has the most words.
 fn buffer(data: &Columns) -> Vec<u32> {
     vec![0; most_sum_words(data.rows, data.slices)]
 }
@@ -63,8 +99,7 @@ pub fn one(call: &str, shape: &str, rows: &str, slices: &str, repeats: &str) -> 
     let data = Columns::new(shape, rows, slices);
     let mut out = buffer(&data);
     for time in 0..repeats as usize {
-        let row = data.asked[time % data.asked.len()];
-        let result = measured_call(named, &data, row, black_box(&mut out));
+        let result = measured_call(named, &data, named.number(&data, time), black_box(&mut out));
         black_box(result).expect("a sound question");
     }
     println!("{call} {} rows {rows} slices {slices} words {}: {repeats} times", shape.name(), data.index.len());
@@ -82,8 +117,11 @@ pub fn table() {
         );
         for (call, name) in CALLS {
             match call {
-                Call::Pairing(pairing) => pairing_lines(name, pairing, &data),
+                Call::Pairing(pairing) => lines(name, call, &data, |made| pairing_programs(name, pairing, &data, made)),
                 Call::Value | Call::SignedValue => value_line(name, call, &data),
+                Call::Ranking(ranking, many) => {
+                    lines(name, call, &data, |body| ranking_program(name, ranking, many.of(&data), &data, body))
+                }
             }
         }
     }
@@ -94,30 +132,57 @@ fn timed(name: &str, seconds: f64) -> String {
     format!("  {name:18}{:12.2} us", seconds * 1e6)
 }
 
-/// Times a call that makes a column of two: into a buffer that is long enough for any, into one of just its words, and
-/// with none, where it is only measured; and its plain programs.
-fn pairing_lines(name: &str, pairing: Pairing, data: &Columns) {
+/// A plain program's name, and its time.
+type Program = (&'static str, f64);
+
+/// Times a call that writes, and prints it beside its plain programs, which are held to what it wrote and timed by
+/// `programs`.
+fn lines(name: &str, call: Call, data: &Columns, programs: impl FnOnce(&[u32]) -> Vec<Program>) {
     let mut out = buffer(data);
-    let words = measured_call(Call::Pairing(pairing), data, 0, &mut out).expect("a sound question") as usize;
-    let expected = plain_words(&out[..words], &numbers(1 + pairing.slices()), data.rows);
-    let mut seconds = |room: usize| {
-        best_seconds(|| {
-            let result = measured_call(Call::Pairing(pairing), data, 0, black_box(&mut out[..room]));
-            let written = result.unwrap_or_else(|refusal| refusal.word);
-            assert!(black_box(written) == words as u64, "the words needed");
-        })
-    };
-    let (long, just, none) = (seconds(most_sum_words(data.rows, SLICES)), seconds(words), seconds(0));
+    let words = measured_call(call, data, call.number(data, 0), &mut out).expect("a sound question") as usize;
+    let [long, just, none] = in_rooms(call, data, &mut out, words);
     let mut text = format!("{} {:10.5} ns", timed(name, long), long * 1e9 / f64::from(data.rows));
-    for (program, plain) in pairing.programs() {
-        let mut slices = vec![0; pairing.slices() * data.segments()];
-        let plain_seconds = best_seconds(|| plain(black_box(data), black_box(&mut slices)));
-        assert!(agrees(data, &expected, &slices), "{program} disagrees with {name}");
-        text += &format!(" | {program} {:.2} us, x {:.2}", plain_seconds * 1e6, plain_seconds / long);
+    for (program, seconds) in programs(&out[..words]) {
+        text += &format!(" | {program} {:.2} us, x {:.2}", seconds * 1e6, seconds / long);
     }
     println!("{text}");
     println!("{} | {words} words", timed("  just room", just));
     println!("{}", timed("  no room", none));
+}
+
+/// The times of a call that writes so many words: into a buffer that is long enough for any, into one of just its
+/// words, and with none, where it is only measured.
+fn in_rooms(call: Call, data: &Columns, out: &mut [u32], words: usize) -> [f64; 3] {
+    let n = call.number(data, 0);
+    [out.len(), words, 0].map(|room| {
+        best_seconds(|| {
+            let result = measured_call(call, data, n, black_box(&mut out[..room]));
+            let written = result.unwrap_or_else(|refusal| refusal.word);
+            assert!(black_box(written) == words as u64, "the words needed");
+        })
+    })
+}
+
+/// The programs beside a column that was made of two.
+fn pairing_programs(name: &str, pairing: Pairing, data: &Columns, made: &[u32]) -> Vec<Program> {
+    let expected = plain_words(made, &numbers(1 + pairing.slices()), data.rows);
+    let timed = pairing.programs().into_iter().map(|(program, plain)| {
+        let mut slices = vec![0; pairing.slices() * data.segments()];
+        let seconds = best_seconds(|| plain(black_box(data), black_box(&mut slices)));
+        assert!(agrees(data, &expected, &slices), "{program} disagrees with {name}");
+        (program, seconds)
+    });
+    timed.collect()
+}
+
+/// The program beside the body of the k rows that come first.
+fn ranking_program(name: &str, ranking: Ranking, k: u32, data: &Columns, body: &[u32]) -> Vec<Program> {
+    let mut selected = Vec::new();
+    let seconds = best_seconds(|| ranking.select(black_box(data), k as usize, black_box(&mut selected)));
+    let mut rows: Vec<u32> = selected.into_iter().map(|(_, row)| row).collect();
+    rows.sort_unstable();
+    assert!(zvonurel::set_rows(body, data.rows).expect("a sound body").eq(rows), "select disagrees with {name}");
+    vec![("select", seconds)]
 }
 
 /// The first numbers.

@@ -63,6 +63,8 @@ KIND   quiet (runs of 1,000 to 8,000 segments), calm (runs of 10 to 100
 
 COLUMN-CALL  sum signed_difference smaller difference_or_zero (of two columns)
              value signed_value (of the first; signed, its top slice the sign)
+             largest_10 largest_tenth smallest_10 smallest_tenth (of the first;
+             ten of its rows, or a tenth of all)
 COLUMN-KIND  quiet, calm (values that stay as long as such runs, segments in
              which each row differs between them; some gaps in which no row
              exists), apart (each slice quiet by itself), dense (each row
@@ -74,7 +76,10 @@ program's time divided by the library's, so above 1 the library is faster. The
 library checks the whole index in every call that takes one; plain programs
 check nothing. Those beside `sum` and the other calls on two columns begin with
 arrays of values (bit by bit, row by row, transposed) or plain words of slices
-(bit-sliced), and leave existence out.
+(bit-sliced), and leave existence out. The one beside `largest` and `smallest`
+(select) begins with the plain words of a column, puts the value of each row
+that exists together bit by bit, and selects by value and row; it writes no
+body.
 `bitwise` beside `body_count` is body_count_bitwise. --counting has Rust's
 `count_ones` as the program is built, and built for popcnt, for avx2 and for
 avx512 (vpopcntdq), each where the machine has it.

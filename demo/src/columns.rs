@@ -8,6 +8,9 @@ use crate::reading::{Reading, SLICES};
 /// A question to the library that makes a new index, with one column, of two columns of an index.
 type Pairing = fn(&[u32], &[u32], &[u32], &mut [u32]) -> Result<usize, Refusal>;
 
+/// A question to the library for the body of the rows of a column that come first in an order, so many of them.
+pub type Ranking = fn(&[u32], &[u32], u32, &mut [u32]) -> Result<usize, Refusal>;
+
 /// An index, and the lists that name its columns.
 pub struct Columns {
     rows: u32,
@@ -57,6 +60,14 @@ impl Columns {
     pub fn signed_values(&self, column: usize) -> Result<Vec<Option<i64>>, Refusal> {
         let list = &self.lists[column];
         (0..self.rows).map(|row| existing(zvonurel::signed_value(&self.index, list, row))).collect()
+    }
+
+    /// The k rows of a column that come first in an order, the lowest row first.
+    pub fn ranked(&self, ranking: Ranking, column: usize, k: usize) -> Result<Vec<usize>, Refusal> {
+        let mut out = vec![0; zvonurel::most_body_words(self.rows)];
+        // no more than a log may have rows
+        let words = ranking(&self.index, &self.lists[column], k as u32, &mut out)?;
+        Ok(zvonurel::set_rows(&out[..words], self.rows)?.map(|row| row as usize).collect())
     }
 
     /// How many rows exist in a column.
@@ -162,6 +173,27 @@ mod tests {
         assert_eq!(lower.values(0), Ok(lowers));
         assert_eq!([&change, &rise, &lower].map(|made| made.count(0)), [Ok(6); 3]);
         assert_eq!((change.count_negative(0), rise.count_nonzero(0), lower.count_nonzero(0)), (Ok(3), Ok(2), Ok(2)));
+    }
+
+    /// Of equal ones the lowest rows are taken, and the rows are in order, whatever their values.
+    #[test]
+    fn the_first_rows_of_an_order() {
+        let columns = columns(&["0.20 - 655.35 0.21 0.21 0.00 0.21", "- - - - - - -"]);
+        let ranked = |ranking: Ranking, k: usize| columns.ranked(ranking, 0, k).map_err(|refusal| refusal.number);
+        for (k, largest, smallest) in [
+            (0, &[][..], &[][..]),
+            (1, &[2], &[5]),
+            (2, &[2, 3], &[0, 5]),
+            (3, &[2, 3, 4], &[0, 3, 5]),
+            (5, &[0, 2, 3, 4, 6], &[0, 3, 4, 5, 6]),
+            (6, &[0, 2, 3, 4, 5, 6], &[0, 2, 3, 4, 5, 6]),
+        ] {
+            assert_eq!(ranked(zvonurel::largest, k), Ok(largest.to_vec()));
+            assert_eq!(ranked(zvonurel::smallest, k), Ok(smallest.to_vec()));
+        }
+        assert_eq!(ranked(zvonurel::largest, 7), Err(Refusal::BAD_ARGUMENT));
+        assert_eq!(ranked(zvonurel::smallest, 7), Err(Refusal::BAD_ARGUMENT));
+        assert_eq!(columns.ranked(zvonurel::largest, 1, 0), Ok(Vec::new()));
     }
 
     #[test]

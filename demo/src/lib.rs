@@ -20,6 +20,7 @@ mod reading;
 pub mod report;
 pub mod rise;
 mod text;
+pub mod worst;
 
 use std::env;
 use std::ffi::OsString;

@@ -1,5 +1,5 @@
-//! The scripts `example/run`, `example/ammonia`, `example/archive`, `example/moment` and `example/rise`: what they
-//! refuse before anything is built, and what they print where all was built.
+//! The scripts `example/run`, `example/ammonia`, `example/archive`, `example/moment`, `example/rise` and
+//! `example/worst`: what they refuse before anything is built, and what they print where all was built.
 
 mod common;
 #[path = "common/mock.rs"]
@@ -10,7 +10,7 @@ use std::os::unix::fs::symlink;
 use std::path::Path;
 use std::process::Command;
 
-use common::{log_text, readings_text, repository, run, Folder, Told, AMMONIA, ARCHIVE, MOMENT, RISE, TANKS};
+use common::{log_text, readings_text, repository, run, Folder, Told, AMMONIA, ARCHIVE, MOMENT, RISE, TANKS, WORST};
 use mock::Mock;
 
 fn unbuilt(folder: &Folder, arguments: &[&str]) -> Told {
@@ -162,6 +162,25 @@ fn a_wrong_question_on_the_day_before_is_refused_in_the_words_of_the_demo() {
 }
 
 #[test]
+fn a_wrong_question_on_the_worst_half_hours_is_refused_in_the_words_of_the_demo() {
+    let folder = Folder::new();
+    folder.write("log.txt", readings_text("2026-03-09 00:00", &[vec![None; 48]], 12));
+    for log in ["none.txt", "none/log.txt", "log.txt/log", ".", ""] {
+        for arguments in [&[log][..], &[log, "pond"], &[log, "pond", "17568"], &["--calmest", log, "pond", "1"]] {
+            refused_alike(&folder, "example/worst", WORST, arguments);
+        }
+    }
+    for k in ",0,00,010,-1,+5, 5,5 ,5.0,ten,x[$(date)],17569,99999,100000,99999999999999999999,*,\u{662}".split(',') {
+        refused_alike(&folder, "example/worst", WORST, &["log.txt", "tank 1", k]);
+        refused_alike(&folder, "example/worst", WORST, &["--calmest", "none.txt", "pond", k]);
+    }
+    let usage = "Usage: example/worst [--calmest] [LOG [TANK [K]]].";
+    for arguments in [&["1"; 4][..], &["--calmest", "log.txt", "tank 1", "10", "more"]] {
+        unbuilt_script(&folder, "example/worst", arguments).refused(usage);
+    }
+}
+
+#[test]
 fn wrong_arguments_beside_those_of_the_week() {
     let folder = Folder::new();
     let week = repository("example/week.txt");
@@ -199,6 +218,8 @@ fn help_builds_nothing() {
         assert!(out.starts_with("Usage: example/moment [LOG TANK DATE TIME [COLOURS [ARCHIVE]]].\n"), "{out}");
         let out = unbuilt_script(&folder, "example/rise", arguments).answered();
         assert!(out.starts_with("Usage: example/rise [LOG [TANK]].\n"), "{out}");
+        let out = unbuilt_script(&folder, "example/worst", arguments).answered();
+        assert!(out.starts_with("Usage: example/worst [--calmest] [LOG [TANK [K]]].\n"), "{out}");
     }
 }
 
@@ -224,6 +245,10 @@ fn what_is_right_is_built() {
         ("example/rise", &[]),
         ("example/rise", &["log.txt"]),
         ("example/rise", &["log.txt", "pond"]),
+        ("example/worst", &[]),
+        ("example/worst", &["--calmest"]),
+        ("example/worst", &["log.txt", "pond"]),
+        ("example/worst", &["--calmest", "log.txt", "pond", "17568"]),
         // what can't be seen is shown by the demo
         ("example/ammonia", &["log.txt", "2026-03-09\u{200b}", "00:00"]),
     ] {
@@ -350,6 +375,29 @@ fn a_change_stands_alone_on_standard_output() {
         assert_eq!((told.status, told.out), (Some(0), demo.out), "{}", told.err);
     }
     let told = run(mock.command(&script).arg(&log).arg("tank 13"));
+    assert!(told.status == Some(1) && told.out.is_empty() && told.err.ends_with("Nothing was answered.\n"), "{told:?}");
+}
+
+/// Where nothing is named ten half hours of tank 10 of the week are asked for, and of another log's first tank.
+#[test]
+fn the_worst_half_hours_stand_alone_on_standard_output() {
+    let mock = Mock::new();
+    let whole = fs::read_to_string(repository("example/worst-tank-10.txt")).expect("the expected answer");
+    let script = mock.path("example/worst");
+    let told = run(mock.command(&script).env("ZVONUREL_LIB", "elsewhere"));
+    assert_eq!((told.status, told.out.as_str()), (Some(0), whole.as_str()), "{}", told.err);
+    let week = fs::read(mock.path("example/ammonia.txt")).expect("the week");
+    let log = mock.folder.write("else where/my week.txt", week);
+    let told = run(mock.command(&script).arg("--calmest"));
+    let demo = run(Command::new(WORST).arg("--calmest").arg(&log).arg("tank 10"));
+    assert_eq!((told.status, told.out), (Some(0), demo.out), "{}", told.err);
+    for words in [&["my week.txt"][..], &["my week.txt", "tank 12", "3"], &["--calmest", "my week.txt", "tank 8"]] {
+        let folder = log.parent().expect("a folder");
+        let told = run(mock.command(&script).args(words).current_dir(folder));
+        let demo = run(Command::new(WORST).args(words).current_dir(folder));
+        assert_eq!((told.status, told.out), (Some(0), demo.out), "{}", told.err);
+    }
+    let told = run(mock.command(&script).arg(&log).args(["tank 8", "210"]));
     assert!(told.status == Some(1) && told.out.is_empty() && told.err.ends_with("Nothing was answered.\n"), "{told:?}");
 }
 

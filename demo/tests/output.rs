@@ -7,7 +7,7 @@ use std::os::fd::OwnedFd;
 use std::os::unix::net::UnixStream;
 use std::process::{Command, Stdio};
 
-use common::{ammonia, archive, moment, repository, rise, run, tanks, TANKS};
+use common::{ammonia, archive, moment, repository, rise, run, tanks, worst, TANKS};
 
 fn week() -> Command {
     let mut command = Command::new(TANKS);
@@ -46,6 +46,12 @@ fn help_is_no_fault() {
         let out = rise(arguments).answered();
         assert!(out.starts_with("Usage: rise LOG [TANK].\n"), "{out}");
         assert!(["LOG", "TANK"].iter().all(|word| out.contains(&format!("\n  {word}"))), "{out}");
+    }
+    for arguments in [&["-h"][..], &["--help"], &["--calmest", "-h"], &["x", "x", "x", "x", "x", "--help"]] {
+        let out = worst(arguments).answered();
+        assert!(out.starts_with("Usage: worst [--calmest] LOG [TANK [K]].\n"), "{out}");
+        let words = ["--calmest", "LOG", "TANK", "K "];
+        assert!(words.iter().all(|word| out.contains(&format!("\n  {word}"))), "{out}");
     }
 }
 

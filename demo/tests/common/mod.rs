@@ -9,13 +9,14 @@ use std::process::{Command, Output};
 use std::sync::atomic::{AtomicUsize, Ordering};
 use std::{env, fs, process};
 
-/// The demo: its command on colours, that on readings, that on an old archive, that on one half hour, and that on the
-/// change since the day before.
+/// The demo: its command on colours, that on readings, that on an old archive, that on one half hour, that on the
+/// change since the day before, and that on the worst half hours.
 pub const TANKS: &str = env!("CARGO_BIN_EXE_tanks");
 pub const AMMONIA: &str = env!("CARGO_BIN_EXE_ammonia");
 pub const ARCHIVE: &str = env!("CARGO_BIN_EXE_archive");
 pub const MOMENT: &str = env!("CARGO_BIN_EXE_moment");
 pub const RISE: &str = env!("CARGO_BIN_EXE_rise");
+pub const WORST: &str = env!("CARGO_BIN_EXE_worst");
 
 /// What every refusal ends with.
 pub const REFUSED: &str = "Nothing was answered.\n";
@@ -140,4 +141,8 @@ pub fn moment<S: AsRef<OsStr>>(arguments: &[S]) -> Told {
 
 pub fn rise<S: AsRef<OsStr>>(arguments: &[S]) -> Told {
     run(Command::new(RISE).args(arguments))
+}
+
+pub fn worst<S: AsRef<OsStr>>(arguments: &[S]) -> Told {
+    run(Command::new(WORST).args(arguments))
 }
