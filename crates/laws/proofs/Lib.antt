@@ -45,6 +45,7 @@ pub mod Counting
 pub mod Ranking
 pub mod Pivoting
 pub mod RankHolds
+pub mod LongRanks
 pub mod Pads
 pub mod Asked
 pub mod Parts

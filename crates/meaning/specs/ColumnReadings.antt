@@ -498,37 +498,11 @@ largestReadings =
     ∷ picks Largest noRows (two 0 1) 0 []
     -- behind an idle marker: row 1 has 1
     ∷ picks Largest idleRows (two 0 1) 1 (lone 0x2)
-    -- 40 rows of one value, cut at row 32 and on both sides of it, before the last row, and not at all: the last segment is full
-    ∷ ranks Largest fortyRows (two 0 3) 31 (0x00020000 ∷ 0x7FFFFFFF ∷ 0x00000002 ∷ [])
-    ∷ ranks Largest fortyRows (two 0 3) 32 (0x00000003 ∷ 0x00000002 ∷ [])
-    ∷ ranks Largest fortyRows (two 0 3) 33 (0x00020003 ∷ 0x00000001 ∷ [])
-    ∷ ranks Largest fortyRows (two 0 3) 39 (0x00020003 ∷ 0x0000007F ∷ [])
-    ∷ ranks Largest fortyRows (two 0 3) 40 (0x00000005 ∷ [])
-    -- rows 0 and 39 have 1, and row 1 is the lowest of the others
-    ∷ ranks Largest fortyRows (two 0 1) 3 (0x00040000 ∷ 0x00000003 ∷ 0x00000080 ∷ [])
-    -- rows 0 and 39 exist alone
-    ∷ ranks Largest fortyRows (two 1 3) 1 (0x00020000 ∷ 0x00000001 ∷ 0x00000002 ∷ [])
     ∷ picks Largest fortyRows (two 1 3) 2 (0x00040000 ∷ 0x00000001 ∷ 0x00000080 ∷ [])
-    -- all but row 39 exist; and all as a run over the pad bits
-    ∷ ranks Largest tailRows (two 2 2) 39 (0x00020003 ∷ 0x0000007F ∷ [])
-    ∷ ranks Largest tailRows (two 1 0) 40 (0x00000005 ∷ [])
-    -- 70 rows of one value: a run of three segments, cut beside row 64 and at it
-    ∷ ranks Largest seventyRows (two 0 0) 63 (0x00020003 ∷ 0x7FFFFFFF ∷ 0x00000002 ∷ [])
-    ∷ ranks Largest seventyRows (two 0 0) 64 (0x00000005 ∷ 0x00000002 ∷ [])
     -- in WAH: none, ties, all that exist
     ∷ picks Largest eightWah (triple 0 1 2) 0 (0 ∷ [])
     ∷ picks Largest eightWah (triple 0 1 2) 2 (0x09 ∷ [])
     ∷ picks Largest eightWah (triple 0 1 2) 6 (0xDB ∷ [])
-    -- 40 rows of one value: none; cut at row 31, where a single clean segment is a literal, and on both sides of it, before the
-    -- last row, and not at all
-    ∷ ranks Largest fortyWah (two 0 3) 0 (0x80000002 ∷ [])
-    ∷ ranks Largest fortyWah (two 0 3) 30 (0x3FFFFFFF ∷ 0 ∷ [])
-    ∷ ranks Largest fortyWah (two 0 3) 31 (0x7FFFFFFF ∷ 0 ∷ [])
-    ∷ ranks Largest fortyWah (two 0 3) 32 (0x7FFFFFFF ∷ 0x00000001 ∷ [])
-    ∷ ranks Largest fortyWah (two 0 3) 39 (0x7FFFFFFF ∷ 0x000000FF ∷ [])
-    ∷ ranks Largest fortyWah (two 0 3) 40 (0xC0000002 ∷ [])
-    -- 70 rows of one value: two full segments are one fill
-    ∷ ranks Largest seventyWah (two 0 0) 62 (0xC0000002 ∷ 0 ∷ [])
     ∷ []
 
 -- the k smallest
@@ -563,6 +537,41 @@ smallestReadings =
     ∷ picks Smallest noRows (two 0 1) 0 []
     -- behind an idle marker: rows 0 and 2 have 0
     ∷ picks Smallest idleRows (two 0 1) 2 (lone 0x5)
+    -- in WAH: ties, and all that exist
+    ∷ picks Smallest eightWah (triple 0 1 2) 3 (0x83 ∷ [])
+    ∷ picks Smallest eightWah (triple 0 1 2) 6 (0xDB ∷ [])
+    ∷ []
+
+-- of 40 and 70 rows: cuts within a run, at its segments' ends and beside them, and over pad bits. They take long to compute, so that the claim
+-- stands in `laws`
+unfoldable pub longRankReadings : List ColumnReading
+longRankReadings =
+    -- 40 rows of one value, cut at row 32 and on both sides of it, before the last row, and not at all: the last segment is full
+    ranks Largest fortyRows (two 0 3) 31 (0x00020000 ∷ 0x7FFFFFFF ∷ 0x00000002 ∷ [])
+    ∷ ranks Largest fortyRows (two 0 3) 32 (0x00000003 ∷ 0x00000002 ∷ [])
+    ∷ ranks Largest fortyRows (two 0 3) 33 (0x00020003 ∷ 0x00000001 ∷ [])
+    ∷ ranks Largest fortyRows (two 0 3) 39 (0x00020003 ∷ 0x0000007F ∷ [])
+    ∷ ranks Largest fortyRows (two 0 3) 40 (0x00000005 ∷ [])
+    -- rows 0 and 39 have 1, and row 1 is the lowest of the others
+    ∷ ranks Largest fortyRows (two 0 1) 3 (0x00040000 ∷ 0x00000003 ∷ 0x00000080 ∷ [])
+    -- rows 0 and 39 exist alone
+    ∷ ranks Largest fortyRows (two 1 3) 1 (0x00020000 ∷ 0x00000001 ∷ 0x00000002 ∷ [])
+    -- all but row 39 exist; and all as a run over the pad bits
+    ∷ ranks Largest tailRows (two 2 2) 39 (0x00020003 ∷ 0x0000007F ∷ [])
+    ∷ ranks Largest tailRows (two 1 0) 40 (0x00000005 ∷ [])
+    -- 70 rows of one value: a run of three segments, cut beside row 64 and at it
+    ∷ ranks Largest seventyRows (two 0 0) 63 (0x00020003 ∷ 0x7FFFFFFF ∷ 0x00000002 ∷ [])
+    ∷ ranks Largest seventyRows (two 0 0) 64 (0x00000005 ∷ 0x00000002 ∷ [])
+    -- 40 rows of one value: none; cut at row 31, where a single clean segment is a literal, and on both sides of it, before the
+    -- last row, and not at all
+    ∷ ranks Largest fortyWah (two 0 3) 0 (0x80000002 ∷ [])
+    ∷ ranks Largest fortyWah (two 0 3) 30 (0x3FFFFFFF ∷ 0 ∷ [])
+    ∷ ranks Largest fortyWah (two 0 3) 31 (0x7FFFFFFF ∷ 0 ∷ [])
+    ∷ ranks Largest fortyWah (two 0 3) 32 (0x7FFFFFFF ∷ 0x00000001 ∷ [])
+    ∷ ranks Largest fortyWah (two 0 3) 39 (0x7FFFFFFF ∷ 0x000000FF ∷ [])
+    ∷ ranks Largest fortyWah (two 0 3) 40 (0xC0000002 ∷ [])
+    -- 70 rows of one value: two full segments are one fill
+    ∷ ranks Largest seventyWah (two 0 0) 62 (0xC0000002 ∷ 0 ∷ [])
     -- 40 rows: 0 to 31 have 1, and the last segment's rows 0; these, and row 0 with them
     ∷ ranks Smallest fortyRows (two 0 2) 8 (0x00000002 ∷ 0x00000003 ∷ [])
     ∷ ranks Smallest fortyRows (two 0 2) 9 (0x00020000 ∷ 0x00000001 ∷ 0x00000003 ∷ [])
@@ -572,10 +581,7 @@ smallestReadings =
     ∷ ranks Smallest tailRows (two 1 2) 1 (0x00020002 ∷ 0x00000080 ∷ [])
     -- 70 rows: 32 to 63 have 1, and the others, before and behind that run, have 0: all these and row 32
     ∷ ranks Smallest seventyRows (two 0 1) 39 (0x00020003 ∷ 0x00000001 ∷ 0x00000003 ∷ [])
-    -- in WAH: ties, and all that exist; of 40 rows the last segment's have 0; these, and row 0 with them;
-    -- and where rows 0 and 39 have 1 all others
-    ∷ picks Smallest eightWah (triple 0 1 2) 3 (0x83 ∷ [])
-    ∷ picks Smallest eightWah (triple 0 1 2) 6 (0xDB ∷ [])
+    -- in WAH the last segment's rows have 0: these, and row 0 with them; and where rows 0 and 39 have 1 all others
     ∷ ranks Smallest fortyWah (two 0 2) 9 (0 ∷ 0x000001FF ∷ [])
     ∷ ranks Smallest fortyWah (two 0 2) 10 (0x00000001 ∷ 0x000001FF ∷ [])
     ∷ ranks Smallest fortyWah (two 0 1) 38 (0x7FFFFFFE ∷ 0x000000FF ∷ [])

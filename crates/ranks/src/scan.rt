@@ -54,7 +54,10 @@ fn scan(index: &[u32], list: &[u32], value: u32, most: u32) -> Found
         run = s.even;
         o += s.n;
     }
-    Found { count: total, row: 0 }
+    Found {
+        count: total,
+        row: 0,
+    }
 }
 
 // How many rows exist and have the value: more than there can be are never found.

@@ -26,7 +26,7 @@ bad-argument-requires c κs = search needs
 
 returns : tie.Need-returns
 unfolding verdictOf
-returns c = 
+returns c =
     ap refusedBy (c .bad-argument .ensures)
     ∙ rank-bad-list _ _ _ (sym (c .before .before .column-is-bad .ensures) ∙ c .before .if1 .taken)
 
@@ -38,18 +38,18 @@ bad-argument-requires-2 c κs = search needs
 
 returns-2 : tie.Need-returns-2
 unfolding verdictOf
-returns-2 c = 
+returns-2 c =
     let n = c .before .before in
     ap refusedBy (c .bad-argument2 .ensures)
     ∙ rank-too-many _ _ _ (good-list (n .before)) (n .existing .result) (n .existing .ensures) (c .before .if2 .taken)
 
 strays-requires : tie.Need-strays-requires
-strays-requires c κs = 
+strays-requires c κs =
     let g = good-column _ _ _ (good-list (c .before .before)) in
     (c .before .before .before .before .before .before .pre, (g .0, omega (arith, g .1), g .2))
 
 returns-3 : tie.Need-returns-3
-returns-3 c = 
+returns-3 c =
     let n = c .before .before in
     c .strays .ensures
     ∙ rank-rest _ _ _ (good-list (n .before)) (n .existing .result) (n .existing .ensures) (c .before .if2 .left)

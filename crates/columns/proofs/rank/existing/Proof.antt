@@ -17,7 +17,7 @@ shared-slice-read-body : tie.Need-shared-slice-read-body
 shared-slice-read-body c = let s = c .before .before .before .before in omega (arith, good-column _ _ _ (s .pre .1) .0)
 
 body-requires : tie.Need-body-requires
-body-requires c κs = 
+body-requires c κs =
     let s = c .before .before .before .before in
     let g = good-column _ _ _ (s .pre .1) in
     (s .pre .0 .head, (s .pre .0 .entries, g .2 0 (omega (arith, g .0))))
@@ -26,7 +26,7 @@ rows-requires : tie.Need-rows-requires
 rows-requires c κs = search needs
 
 count-requires : tie.Need-count-requires
-count-requires c κs = 
+count-requires c κs =
     let s = c .before .before .before .before .before .before in
     let g = good-column _ _ _ (s .pre .1) in
     rw (c .before .body .ensures .0, c .before .before .before .format .ensures, c .rows .ensures)
@@ -34,7 +34,7 @@ count-requires c κs =
 
 returns : tie.Need-returns
 unfolding rowsAt
-returns c = 
+returns c =
     let s = c .before .before .before .before .before .before .before in
     let g = good-column _ _ _ (s .pre .1) in
     c .count .ensures

@@ -24,7 +24,7 @@ enum-told : tie.Need-enum-told
 enum-told c = search needs
 
 write-ranked-requires : tie.Need-write-ranked-requires
-write-ranked-requires c κs = 
+write-ranked-requires c κs =
     let k = c .before .before .before in
     let s = k .before .before .before .before in
     let a = s .args in
@@ -32,7 +32,7 @@ write-ranked-requires c κs =
     (s .pre, rank-passed _ _ _ refl (sound-is (k .check-rank .result) v (k .check-rank .ensures) (c .before .enum-told .given .1)))
 
 returns : tie.Need-returns
-returns c = 
+returns c =
     let k = c .before .before .before in
     let a = k .before .before .before .before .args in
     let v : Verdict = rankVerdict (now (a .index)) (now (a .list)) (a .k) in
@@ -45,7 +45,7 @@ same-length : tie.Need-same-length
 same-length c = search needs
 
 returns-2 : tie.Need-returns-2
-returns-2 c = 
+returns-2 c =
     let w = c .before .before in
     let t = w .before .before in
     let k = t .before .before in

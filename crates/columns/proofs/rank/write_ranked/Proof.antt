@@ -8,7 +8,7 @@ use Rattle.columns.proofs.rank.write_ranked.Statement.{statement}
 use Rattle.columns.proofs.rank.write_ranked.Tie as tie
 
 write-requires : tie.Need-write-requires
-write-requires c κs = 
+write-requires c κs =
     let s = c .before .before .before .before in
     (ranked-column _ _ _ (s .pre .0) (s .pre .1), so-many _ _ _ (s .pre .0) (s .pre .1))
 
@@ -19,7 +19,7 @@ same-length : tie.Need-same-length
 same-length c = search needs
 
 returns : tie.Need-returns
-returns c = 
+returns c =
     let k = c .before .before .before .before in
     let a = k .before .before .before .before .before .args in
     rank-no-room (now (a .index)) (now (a .list)) (a .k) (a .op) (now (a .out)) _ (k .write .result) (k .write .ensures)
@@ -29,7 +29,7 @@ same-length-2 : tie.Need-same-length-2
 same-length-2 c = search needs
 
 returns-2 : tie.Need-returns-2
-returns-2 c = 
+returns-2 c =
     let k = c .before .before .before in
     let a = k .before .before .before .before .before .args in
     rank-words (now (a .index)) (now (a .list)) (a .k) (a .op) (now (a .out)) _ (k .write .result) (k .write .ensures)

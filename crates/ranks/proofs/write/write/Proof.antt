@@ -86,7 +86,7 @@ most-words-requires : tie.Need-most-words-requires
 most-words-requires c κs = search needs
 
 pass-requires : tie.Need-pass-requires
-pass-requires c κs = 
+pass-requires c κs =
     let k = c .before .before .before .before .before in
     (call k .pre .0, (pv k .low, ct k .within, λ t. omega (arith, any-fits (c .before .before), c .before .if1 .taken)))
 
@@ -99,7 +99,7 @@ returns c =
     rank-fits (pv k) (ct k) (c .before .before .pass .ensures) (omega (arith, any-fits (c .before .before .before .before .before), c .before .before .before .before .if1 .taken))
 
 pass-requires-2 : tie.Need-pass-requires-2
-pass-requires-2 c κs = 
+pass-requires-2 c κs =
     let k = c .before .before .before .before .before in
     (call k .pre .0, (pv k .low, ct k .within, not-stored (length (body k))))
 
@@ -113,7 +113,7 @@ returns-2 c =
     rank-lacks (pv k) (ct k) (q .pass2 .ensures) (omega (arith, c .if2 .taken, ap length (untouched q)))
 
 pass-requires-3 : tie.Need-pass-requires-3
-pass-requires-3 c κs = 
+pass-requires-3 c κs =
     let k = c .before .before .before .before .before .before .before .before .before .before in
     (call k .pre .0, (pv k .low, ct k .within, λ t. omega (arith, need-is (c .before .before .before .before), c .before .if2 .left)))
 
