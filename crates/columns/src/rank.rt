@@ -2,7 +2,6 @@
 // the answer.
 ghost use mathlib.Core.Path.{_≡_};
 ghost use mathlib.Core.Bool.{false};
-ghost use Prim.Native.Nat.{_≤_};
 ghost use lib.ListN.{length};
 ghost use Rattle.meaning.specs.Limits.{mostColumn};
 ghost use Rattle.meaning.specs.Rows.{countBelow};

@@ -1,16 +1,16 @@
 -- One digit more of the comparison with a pivot: what the words say of the rows, bit by bit.
 -- Assumes nothing.
-use Prim.Native.Nat.{ℕ, zero, suc, _+_, _*_, _/_, _%_, _^_, _≤_, _<_}
+use Prim.Native.Nat.{ℕ, zero, suc, _+_, _*_, _/_, _^_, _<_}
 use mathlib.Core.Bool.{Bool, true, false, not, _&&_, _||_, xor}
 use mathlib.Core.Path.{_≡_, refl, sym, ap, ap₂, _∙_}
 use mathlib.Core.List.{List}
 use lib.Bits.{bitAnd, bitOr, bitXor, and-mask}
-use lib.Dec.{eqb, lit<}
+use lib.Dec.{eqb}
 use lib.ListN.{getD, replicate, getD-replicate}
 use native.Mathlib.Nat.{div-eq-of-lt}
 use native.Mathlib.Omega.{arith}
 use Rattle.meaning.specs.Limits.{wordBits, blockSegments}
-use Rattle.meaning.specs.Rows.{bit, sumBelow}
+use Rattle.meaning.specs.Rows.{bit}
 use Rattle.meaning.specs.Segment.{bitAt, isSet}
 use Rattle.meaning.specs.Ranking.{ahead}
 use Rattle.meaning.specs.declared.Ranking.{Ranking}
@@ -20,7 +20,7 @@ use Rattle.laws.proofs.Tests.{and-assoc, and-yes, and-no}
 use Rattle.laws.proofs.Counting.{zero-clear}
 use Rattle.laws.proofs.Ranking.{ahead-self}
 use Rattle.laws.proofs.Pivoting.{ahead-digit, eqb-digit, halves}
-use Rattle.words.proofs.BitLaws.{bit-lt, bit-set, and-set, or-set, xor-set}
+use Rattle.words.proofs.BitLaws.{bit-lt, and-set, or-set, xor-set}
 use Rattle.words.proofs.Entries.{Filled}
 use Rattle.words.specs.Sums.{PartOf}
 use Rattle.adder.specs.Digits.{numberAt}

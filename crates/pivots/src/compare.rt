@@ -1,5 +1,4 @@
 // The values of a block's rows compared with the pivot, digit by digit from the top one down, many rows at a time.
-ghost use mathlib.Core.Bool.{Bool};
 ghost use mathlib.Core.Path.{_≡_};
 ghost use Prim.Native.Nat.{ℕ, _≤_, _<_, _^_};
 ghost use lib.ListN.{length};

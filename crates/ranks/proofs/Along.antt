@@ -7,7 +7,7 @@ use mathlib.Core.List.{List}
 use lib.ListN.{length, replicate}
 use native.Mathlib.Nat.{zero-mul}
 use native.Mathlib.Omega.{arith}
-use Rattle.meaning.specs.Limits.{mostRows, mostSegments, blockWords, placeNumbers, shortNumbers}
+use Rattle.meaning.specs.Limits.{mostSegments, blockWords, placeNumbers, shortNumbers}
 use Rattle.meaning.specs.Rows.{sumBelow, countBelow}
 use Rattle.meaning.specs.Format.{width}
 use Rattle.meaning.specs.Index.{formatOf, rowCount}

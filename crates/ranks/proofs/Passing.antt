@@ -1,7 +1,7 @@
 -- The pass that makes the body: the words of a block as they are written are the body's segments.
 -- Assumes nothing.
-use Prim.Native.Nat.{ℕ, suc, _+_, _-_, _*_, _/_, _%_, _^_, _≤_, _<_}
-use mathlib.Core.Bool.{Bool, true, false, _&&_, _||_, true≢false}
+use Prim.Native.Nat.{ℕ, suc, _+_, _-_, _*_, _/_, _^_, _≤_, _<_}
+use mathlib.Core.Bool.{Bool, true, false, _&&_, _||_}
 use mathlib.Core.Path.{_≡_, refl, sym, ap, ap₂, _∙_, subst}
 use mathlib.Core.List.{List}
 use lib.Dec.{eqb, ltb}
@@ -12,7 +12,7 @@ use native.Mathlib.Decide.{decLe, ℕ-discrete}
 use native.Mathlib.Omega.{arith}
 use borrow.Author.Tests.{lt-ltb, le-ltb}
 use Rattle.meaning.specs.Limits.{wordBits, mostSegments, blockSegments}
-use Rattle.meaning.specs.Segment.{Segment, clean, kind, rowsIn, allSet, isSet, segmentCount}
+use Rattle.meaning.specs.Segment.{Segment, clean, kind, rowsIn, allSet, isSet}
 use Rattle.meaning.specs.Format.{width, mostRun, wordsOf, canonical}
 use Rattle.meaning.specs.Index.{formatOf, rowCount}
 use Rattle.meaning.specs.Ranking.{ahead}
@@ -31,9 +31,8 @@ use Rattle.blocks.proofs.Values.{place, place-low}
 use Rattle.blocks.proofs.Segmented.{segs, segs-length, segment-is, word-low}
 use Rattle.blocks.proofs.Runs.{uniform, rowsKind, clean-kind}
 use Rattle.blocks.proofs.Walks.{S}
-use Rattle.pivots.specs.Splits.{HasRows, SplitBy, Taken}
+use Rattle.pivots.specs.Splits.{SplitBy, Taken}
 use Rattle.ranks.specs.Frames.{Column}
-use Rattle.ranks.specs.Found.{rowsAbove, rowsLevel}
 use Rattle.ranks.specs.Passes.{EndOf, Kept, Spelled, RowLength, cutRows, cutBody}
 use Rattle.ranks.proofs.Along.{few}
 use Rattle.ranks.proofs.Comparing.{Tested, has-rows, clear, like, tested-ahead, tested-same}

@@ -1,8 +1,8 @@
 -- Rows of one value, counted block by block, and the row where so many of them are cut.
 -- Assumes nothing.
-use Prim.Native.Nat.{ℕ, zero, suc, _+_, _-_, _*_, _≤_, _<_, min}
+use Prim.Native.Nat.{ℕ, zero, suc, _+_, _-_, _*_, _≤_, _<_}
 use mathlib.Core.Bool.{Bool}
-use mathlib.Core.Path.{_≡_, refl, sym, ap, _∙_}
+use mathlib.Core.Path.{_≡_, refl, ap, _∙_}
 use mathlib.Core.List.{List}
 use native.Mathlib.Nat.{zero-mul, add-mul, suc-mul, mul-le-mul-right}
 use native.Mathlib.Omega.{arith}
@@ -17,7 +17,7 @@ use Rattle.laws.proofs.Counting.{count-add}
 use Rattle.laws.proofs.Counted.{count-upto}
 use Rattle.blocks.proofs.Walks.{S}
 use Rattle.pivots.specs.Splits.{Reached}
-use Rattle.ranks.specs.Found.{rowsLevel, CutAt, Scanned}
+use Rattle.ranks.specs.Found.{rowsLevel, Scanned}
 use Rattle.ranks.proofs.Along.{rowsBefore}
 
 -- the last segment begins before the last row

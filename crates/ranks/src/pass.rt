@@ -1,7 +1,7 @@
 // One pass that makes the body of the rows that come before the pivot, and of those that have its value and come before the cut.
 ghost use mathlib.Core.Bool.{true, false};
 ghost use mathlib.Core.Path.{_≡_};
-ghost use Prim.Native.Nat.{ℕ, _≤_, _<_, _^_, _*_};
+ghost use Prim.Native.Nat.{_≤_, _<_, _^_, _*_};
 ghost use lib.ListN.{length};
 ghost use Rattle.meaning.specs.Limits.{blockSegments};
 ghost use Rattle.meaning.specs.Segment.{segmentCount};

@@ -9,7 +9,6 @@ use Rattle.answers.specs.Told.{Wrote}
 use Rattle.answers.proofs.Checks.{refuses, sound-is}
 use Rattle.answers.proofs.Tells.{wrote-refused, wrote-then}
 use Rattle.columns.proofs.Asking.{rankVerdict, rank-passed, writes, ranked-then}
-use native.Mathlib.Omega.{arith}
 use borrow.Author.Needs.{needs}
 use Rattle.columns.proofs.rank.ranked.Statement.{statement}
 use Rattle.columns.proofs.rank.ranked.Tie as tie

@@ -1,10 +1,9 @@
 -- `pivots::compare::refine` meets its contract. The invariant: the first w words are refined.
 -- Assumes nothing.
-use mathlib.Core.Path.{_≡_, refl, ap, _∙_}
-use Prim.Native.Nat.{ℕ, _-_, _≤_}
+use mathlib.Core.Path.{_≡_, refl}
+use Prim.Native.Nat.{_-_, _≤_}
 use lib.ListN.{replicate}
 use Rattle.meaning.specs.Limits.{blockSegments}
-use Rattle.meaning.specs.Segment.{isSet}
 use Rattle.words.proofs.Entries.{Filled, filled-from, filled-more}
 use Rattle.pivots.proofs.Refining.{aheadAt, sameAt, refined-all}
 use borrow.Author.Needs.{needs}
