@@ -110,9 +110,9 @@ extern "C" {
 
 /* The version of the header and its library. */
 #define ZV_VERSION_MAJOR 0
-#define ZV_VERSION_MINOR 5
+#define ZV_VERSION_MINOR 6
 #define ZV_VERSION_PATCH 0
-#define ZV_VERSION "0.5.0"
+#define ZV_VERSION "0.6.0"
 
 /* Every limit and size, once. */
 
