@@ -194,6 +194,32 @@ fn emit_each(
     v
 }
 
+// A row of n segments, one by one or as a run, is written where `store` says so, and else only measured; the mask has the
+// rows of the last. For a body by itself: it leaves the quicker `emit_row` to those who write many, who alone call it.
+pub fn emit_apart(
+    format: Format,
+    out: &mut [u32],
+    w: Writer,
+    words: &[u32],
+    n: u32,
+    even: bool,
+    mask: u32,
+    store: bool,
+) -> Writer
+    requires { ⌜ Growing format w n ⌝ }
+    requires { ⌜ (1 ≤ n) × (n ≤ mostRun format)
+        × (even ≡ true → (1 ≤ length (now words)) × CleanWord format (getD (now words) 0 0))
+        × (even ≡ false → length (now words) ≡ n) ⌝ }
+    requires { ⌜ (store ≡ true → RoomFor format (rowSegments format (now words) n even) w (length (now out))) ⌝ }
+    ensures { λ r. ⌜ ((real : ℕ) → mask ≡ 2 ^ real - 1 → Emitted format real (now (out .entry)) (now (out .exit)) w
+        (rowSegments format (now (words .entry)) n even) store r) ⌝ }
+{
+    if even {
+        return emit_even(format, out, w, words[0], n, mask, store);
+    }
+    emit_each(format, out, w, words, mask, store)
+}
+
 // A row of n segments is written where `store` says so, and else only measured; the mask has the rows of the last.
 pub fn emit_row(
     format: Format,

@@ -1,4 +1,4 @@
-// How many segments come next, and whether as a run: where no piece ends within a block or more, the segments up to the
+// How many segments come next, and whether as a run: where the nearest end of a piece is a block or more on, the segments up to the
 // nearest end are alike in every place, and one word for each says them all.
 ghost use mathlib.Core.Bool.{true};
 ghost use mathlib.Core.Path.{_≡_};
@@ -14,7 +14,7 @@ pub struct Step {
     pub even: bool,
 }
 
-// Whether a run comes next: no piece ends within a block, and several segments are ahead. A lone one is a block of one.
+// Whether a run comes next: no piece ends before a block does, and several segments are ahead. A lone one is a block of one.
 fn is_run(near: u32, ahead: u32) -> bool
     ensures { λ r. ⌜ (r ≡ true → (blockSegments ≤ near) × (2 ≤ ahead)) ⌝ }
 {
@@ -24,7 +24,7 @@ fn is_run(near: u32, ahead: u32) -> bool
     2 <= ahead
 }
 
-// The next segments from segment o on, up to `end` at most, where no piece ends within the next `near`. Behind a run
+// The next segments from segment o on, up to `end` at most, where the nearest end of a piece is `near` segments on. Behind a run
 // comes one segment alone: often the next run begins behind it, and a block would cut that.
 pub fn choose(near: u32, o: u32, end: u32, behind_run: bool) -> Step
     requires { ⌜ o < end ⌝ }

@@ -49,7 +49,7 @@ fn check_rank(index: &[u32], list: &[u32], k: u32) -> Checked
     column::strays(index, list)
 }
 
-// Of a column with as many rows; 9 where the answer does not fit.
+// Of a column in which at least k rows exist; 9 where the answer does not fit.
 fn write_ranked(op: Ranking, index: &[u32], list: &[u32], k: u32, out: &mut [u32]) -> Written
     requires { ⌜ IndexFacts (now index) ⌝ }
     requires { ⌜ meaning.badRank (now index) (now list) k ≡ false ⌝ }

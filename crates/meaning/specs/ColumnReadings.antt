@@ -1,5 +1,5 @@
 -- Readings of columns and of new indexes, worked out by hand from paper 01's format and requests 1, 7 and 8, as one table over the
--- definitions; `proofs/AllColumns` has the one claim.
+-- definitions; `proofs/AllColumns` has the one claim. The long ones of request 8 are a table by themselves, claimed by `LongRanks` of `laws`.
 -- Assumes nothing.
 use Prim.Native.Nat.{ℕ, suc, _-_}
 use mathlib.Core.Bool.{Bool, true, false, _&&_, _||_}
@@ -559,6 +559,8 @@ longRankReadings =
     -- all but row 39 exist; and all as a run over the pad bits
     ∷ ranks Largest tailRows (two 2 2) 39 (0x00020003 ∷ 0x0000007F ∷ [])
     ∷ ranks Largest tailRows (two 1 0) 40 (0x00000005 ∷ [])
+    -- existence in dirty words and a slice as a run over the pad bits: no row strays
+    ∷ ranks Smallest tailRows (two 0 1) 40 (0x00000005 ∷ [])
     -- 70 rows of one value: a run of three segments, cut beside row 64 and at it
     ∷ ranks Largest seventyRows (two 0 0) 63 (0x00020003 ∷ 0x7FFFFFFF ∷ 0x00000002 ∷ [])
     ∷ ranks Largest seventyRows (two 0 0) 64 (0x00000005 ∷ 0x00000002 ∷ [])
@@ -592,6 +594,7 @@ unfoldable pub rankRefusals : List ColumnReading
 rankRefusals =
     -- 8: the list is too short, too long, or names a bitmap that is not there
     declinesRank Largest eightRows [] 0 9 8 0 0
+    ∷ declinesRank Largest eightRows (triple 0 1 2) 4294967295 9 8 0 0
     ∷ declinesRank Largest eightRows (0 ∷ []) 0 9 8 0 0
     ∷ declinesRank Smallest eightRows (0 ∷ []) 1 9 8 0 0
     ∷ declinesRank Largest eightRows (replicate 34 0) 1 9 8 0 0
@@ -630,7 +633,7 @@ rankRefusals =
     ∷ declinesRank Largest (1 ∷ 8 ∷ 2 ∷ 7 ∷ 2 ∷ 9 ∷ 2 ∷ 0x00020000 ∷ 0x01 ∷ 0x00020000 ∷ 0x100 ∷ []) (two 0 0) 2 9 7 1 10
     ∷ []
 
--- all of them
+-- all but `longRankReadings`
 unfoldable pub columnReadings : List ColumnReading
 unfolding newReadings valueReadings sumReadings signedReadings differenceReadings smallerReadings largestReadings smallestReadings rankRefusals
 columnReadings =

@@ -1,5 +1,5 @@
--- The k rows that come first by their values: the largest, or the smallest. Source document 002, Algorithm 4.1, has them as the top k;
--- request 8 settles ties. No index, refusal or buffer is known here.
+-- The k rows that come first by their values: the largest, or the smallest. Algorithm 4.1 of source document 002 has the largest, for k from
+-- 1 on; request 8 adds the smallest, a k of 0 and the order of ties. No index, refusal or buffer is known here.
 -- Assumes nothing.
 use Prim.Native.Nat.{ℕ}
 use mathlib.Core.Bool.{Bool, _&&_, _||_}

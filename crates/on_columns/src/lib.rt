@@ -83,10 +83,10 @@ pub fn difference_or_zero(index: &[u32], first: &[u32], second: &[u32], out: &mu
     pair(Pairing::DifferenceOrZero, index, first, second, out)
 }
 
-// ---- a column of up to `MOST_COLUMN` numbers: its k best rows, as a body in canonical form, of the index's format; of equal values the
-// lowest rows come first
+// ---- a column of up to `MOST_COLUMN` numbers: its k rows of largest or smallest value, as a body in canonical form, of the index's
+// format; of equal values the lowest rows come first
 
-// The rows whose values come first.
+// The k rows whose values come first.
 fn ranked(op: Ranking, index: &[u32], column: &[u32], k: u32, out: &mut [u32]) -> Written
     ensures { λ r. ⌜ Wrote (columns.ranked (now (index .entry)) op (now (column .entry)) k (length (now (out .entry))))
         r (now (out .entry)) (now (out .exit)) ⌝ }

@@ -37,8 +37,8 @@ fn filled(on: bool) -> u32
     0
 }
 
-// One digit more, which x has. The rows that agreed with the pivot so far agree where theirs is its digit; the others are
-// ahead if its digit is not the one that comes first.
+// One digit more, which x has. Of the rows that agreed with the pivot so far those agree on whose digit is its own; the others come
+// before it if theirs is the digit that comes first, and else behind it.
 fn refine(s: Compared, x: [u32; BLOCK_SEGMENTS], digit: u32, first: u32) -> Compared
     requires { ⌜ digit < 2 ⌝ }
     ensures { λ r. ⌜ Refined digit first (s .ahead) (s .same) x (r .ahead) (r .same) ⌝ }

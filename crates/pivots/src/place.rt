@@ -11,7 +11,7 @@ ghost use Rattle.pivots.specs.Splits.{HasRows, Reached};
 use meaning::BLOCK_SEGMENTS;
 use words::bits;
 
-// How many bits of a word, from the lowest on, have just n set ones: no more than it is long.
+// How many bits of a word, from the lowest on, have just n set ones: no more than w where it has no bit from w on.
 fn reach(x: u32, n: u32) -> u32
     requires { ⌜ n ≤ countBelow 32 (isSet x) ⌝ }
     ensures { λ r. ⌜ (r ≤ 32) × (countBelow r (isSet x) ≡ n) × ((w : ℕ) → x < 2 ^ w → r ≤ w) ⌝ }

@@ -115,7 +115,7 @@ pub fn pass(
         let rows = compare::taken(told, kept(o, at, low));
         let row = spelled(rows, s.n, s.even, mask, f.full);
         let len = row_length(s.n, s.even);
-        let v = block_write::emit_row(format, out, w, &row[0..len], s.n, s.even, mask, store);
+        let v = block_write::emit_apart(format, out, w, &row[0..len], s.n, s.even, mask, store);
         w = v;
         run = s.even;
         o += s.n;

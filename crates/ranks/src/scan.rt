@@ -16,13 +16,14 @@ use pivots::count;
 use pivots::place;
 use walk::survey;
 
-// How many rows were counted, and, if that is as many as were to be found, the row behind the last of these.
+// How many rows were counted, and, if these are at least as many as were to be found, the row behind the last of those.
 struct Found {
     count: u32,
     row: u32,
 }
 
-// Of the rows that exist and have the value, up to the block in which there are `most` of them.
+// Of the rows that exist and have the value, up to the block in which there are `most` of them. Which rows have it is the same for both
+// orders.
 fn scan(index: &[u32], list: &[u32], value: u32, most: u32) -> Found
     requires { ⌜ Column (now index) (now list) ⌝ }
     requires { ⌜ value < 2 ^ sliceCount (now list) ⌝ }
@@ -60,7 +61,7 @@ fn scan(index: &[u32], list: &[u32], value: u32, most: u32) -> Found
     }
 }
 
-// How many rows exist and have the value: more than there can be are never found.
+// How many rows exist and have the value: asked for more than there can be, the scan never ends early.
 pub fn count(index: &[u32], list: &[u32], value: u32) -> u32
     requires { ⌜ Column (now index) (now list) ⌝ }
     requires { ⌜ value < 2 ^ sliceCount (now list) ⌝ }

@@ -11,7 +11,8 @@ use crate::scan;
 use body_write::bound;
 use meaning::Ranking;
 
-// The words that it takes; it is written where there is room for it, and else nothing is. Where any body has room, nothing is measured.
+// The words that it takes; it is written where there is room for it, and else nothing is. It is measured first, unless the buffer has room
+// for the longest body of so many rows.
 pub fn write(op: Ranking, index: &[u32], list: &[u32], k: u32, out: &mut [u32]) -> usize
     requires { ⌜ Column (now index) (now list) ⌝ }
     requires { ⌜ k ≤ countBelow (rowCount (now index)) (existing (now index) (now list)) ⌝ }

@@ -122,9 +122,8 @@ reports index list o r s out out′ n e w =
     }
 
 -- demand 3 of what the public call tells is demand 3 of what the caller reads
-pub demanded : (index list : List ℕ) (t : ℕ) (r : Answered) (s : ZvAnswered) (out out′ : List ℕ) (o : Outcome (List ℕ)) → answeredOf r out′ ≡ o → answeredTold s out′ ≡ o
-    → ThresholdDemand index list t out (answeredOf r out′) out′ → ThresholdDemand index list t out (answeredTold s out′) out′
-demanded index list t r s out out′ o e f d = subst (λ (p : Outcome (List ℕ)). ThresholdDemand index list t out p out′) (e ∙ sym f) d
+pub demanded : (D : Outcome (List ℕ) → Type 0) {o p q : Outcome (List ℕ)} → p ≡ o → q ≡ o → D p → D q
+demanded D e f d = subst D (e ∙ sym f) d
 
 -- ---- a histogram
 

@@ -120,8 +120,8 @@ pub use on_columns::smaller;
 // The differences, and 0 where they are negative, with as many slices as the wider column has.
 pub use on_columns::difference_or_zero;
 
-// ---- a column of up to `MOST_COLUMN` numbers: its k best rows, as a body in canonical form, of the index's format; of equal values the
-// lowest rows come first
+// ---- a column of up to `MOST_COLUMN` numbers: its k rows of largest or smallest value, as a body in canonical form, of the index's
+// format; of equal values the lowest rows come first
 
 // The k rows with the largest values.
 pub use on_columns::largest;

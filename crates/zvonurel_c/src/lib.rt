@@ -9,8 +9,10 @@ ghost use lib.ListN.{length};
 ghost use Rattle.meaning.specs.declared.Format.the-variants.{Ewah};
 ghost use Rattle.meaning.specs.Answer as meaning;
 ghost use Rattle.meaning.specs.Columns as columns;
+ghost use Rattle.meaning.specs.declared.Ranking.the-variants.{Largest, Smallest};
 ghost use Rattle.laws.specs.Demands.{Asked, ThresholdDemand};
-ghost use Rattle.replies.specs.Exported.{Checks, Flags, Numbers, Values, SignedValues, Writes, Reports, Lends, Counts, answeredTold};
+ghost use Rattle.laws.specs.RankLaws.{RankAsked, RankDemand};
+ghost use Rattle.replies.specs.Exported.{Checks, Flags, Numbers, Values, SignedValues, Writes, Reports, Lends, Counts, writtenTold, answeredTold};
 use replies::reply;
 pub use replies::reply::ZvAnswered;
 pub use replies::reply::ZvChecked;
@@ -274,6 +276,9 @@ pub extern "C" fn zv_difference_or_zero(
 pub extern "C" fn zv_largest(index: &[u32], column: &[u32], k: u32, out: &mut [u32]) -> ZvWritten
     ensures { λ r. ⌜ Writes (columns.largest (now (index .entry)) (now (column .entry)) k (length (now (out .entry))))
         r (now (out .entry)) (now (out .exit)) ⌝ }
+    ensures { λ r. ⌜ (RankAsked (now (index .entry)) (now (column .entry)) k
+        → RankDemand Largest (now (index .entry)) (now (column .entry)) k (now (out .entry))
+        (writtenTold r (now (out .exit))) (now (out .exit))) ⌝ }
 {
     reply::written(zvonurel::largest(index, column, k, out))
 }
@@ -282,6 +287,9 @@ pub extern "C" fn zv_largest(index: &[u32], column: &[u32], k: u32, out: &mut [u
 pub extern "C" fn zv_smallest(index: &[u32], column: &[u32], k: u32, out: &mut [u32]) -> ZvWritten
     ensures { λ r. ⌜ Writes (columns.smallest (now (index .entry)) (now (column .entry)) k (length (now (out .entry))))
         r (now (out .entry)) (now (out .exit)) ⌝ }
+    ensures { λ r. ⌜ (RankAsked (now (index .entry)) (now (column .entry)) k
+        → RankDemand Smallest (now (index .entry)) (now (column .entry)) k (now (out .entry))
+        (writtenTold r (now (out .exit))) (now (out .exit))) ⌝ }
 {
     reply::written(zvonurel::smallest(index, column, k, out))
 }

@@ -1,10 +1,15 @@
--- `zvonurel_c::zv_largest` meets its contract: `writes` of what `zvonurel::largest` told; no refusal of it has number 0. Assumes nothing.
+-- `zvonurel_c::zv_largest` meets its contract: `writes` of what `zvonurel::largest` told; no refusal of it has number 0; by `demanded`,
+-- demand 3 holds of what the caller reads. Assumes nothing.
+use Prim.Native.Nat.{ℕ}
+use mathlib.Core.List.{List}
 use denote.Ref.{now}
 use lib.ListN.{length}
 use Rattle.meaning.specs.Columns as columns
 use Rattle.meaning.specs.declared.Ranking.the-variants.{Largest}
+use Rattle.meaning.specs.Refusal.{Outcome}
+use Rattle.laws.specs.RankLaws.{RankDemand}
 use Rattle.laws.proofs.Numbered as numbered
-use Rattle.replies.proofs.Codes.{writes}
+use Rattle.replies.proofs.Codes.{writes, demanded}
 use borrow.Author.Needs.{needs}
 use Rattle.zvonurel_c.proofs.zv_largest.Statement.{statement}
 use Rattle.zvonurel_c.proofs.zv_largest.Tie as tie
@@ -22,7 +27,11 @@ returns : tie.Need-returns
 returns c =
     let w = c .before .before .before in
     let a = w .before .before .before .before .before .args in
-    writes (columns.largest (now (a .index)) (now (a .column)) (a .k) (length (now (a .out)))) (w .largest .result) (c .written .result) (now (a .out)) (w .largest .last .1 .1 .1 .0) (numbered.ranked (now (a .index)) Largest (now (a .column)) (a .k) (length (now (a .out)))) (c .written .ensures) (w .largest .ensures .0)
+    let e = writes (columns.largest (now (a .index)) (now (a .column)) (a .k) (length (now (a .out)))) (w .largest .result) (c .written .result) (now (a .out)) (w .largest .last .1 .1 .1 .0) (numbered.ranked (now (a .index)) Largest (now (a .column)) (a .k) (length (now (a .out)))) (c .written .ensures) (w .largest .ensures .0) in (
+      e,
+      λ asked. demanded (λ (p : Outcome (List ℕ)). RankDemand Largest (now (a .index)) (now (a .column)) (a .k) (now (a .out)) p (w .largest .last .1 .1 .1 .0))
+          (w .largest .ensures .0 .told) (e .tells) (w .largest .ensures .1 asked),
+    )
 
 pub zv-largest-spec : {M : Type 1} → statement M
 zv-largest-spec = tie.close (tie.spec largest-requires written-requires same-length returns)

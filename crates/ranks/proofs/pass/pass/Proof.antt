@@ -246,17 +246,17 @@ spelled-requires c κs =
 row-length-requires : tie.Need-row-length-requires Inv-loop μ-loop
 row-length-requires c κs = search needs
 
-sub-emit-row : tie.Need-sub-emit-row Inv-loop μ-loop
-sub-emit-row c = omega arith
+sub-emit-apart : tie.Need-sub-emit-apart Inv-loop μ-loop
+sub-emit-apart c = omega arith
 
-part-emit-row-start : tie.Need-part-emit-row-start Inv-loop μ-loop
-part-emit-row-start c = search needs
+part-emit-apart-start : tie.Need-part-emit-apart-start Inv-loop μ-loop
+part-emit-apart-start c = search needs
 
-part-emit-row-end : tie.Need-part-emit-row-end Inv-loop μ-loop
-part-emit-row-end c = let e = c .before .before in omega (arith, row-fits e)
+part-emit-apart-end : tie.Need-part-emit-apart-end Inv-loop μ-loop
+part-emit-apart-end c = let e = c .before .before in omega (arith, row-fits e)
 
-emit-row-requires : tie.Need-emit-row-requires Inv-loop μ-loop
-emit-row-requires c κs =
+emit-apart-requires : tie.Need-emit-apart-requires Inv-loop μ-loop
+emit-apart-requires c κs =
     let e = c .before .before .before in
     let n = taken e in
     let l = here n .before .loop in
@@ -276,7 +276,7 @@ loop-again c =
     let e = c .before .before .before .before .before .before .before in
     let n = taken e in
     let l = here n .before .loop in
-    let put = c .before .before .before .emit-row in (
+    let put = c .before .before .before .emit-apart in (
       along-more (nb n) (en n .within),
       up-next (cs (a n)) (nb n) (split e .split .ensures) (low-ahead e) (low-same e) (e .before .before .taken .ensures) (low-taken e)
           (e .before .before .before .kept .ensures) (en n) (low-less (a n)) (cut-is (a n)) (e .before .spelled .ensures) (lengths e)
@@ -328,10 +328,10 @@ pass-spec =
     taken-requires
     spelled-requires
     row-length-requires
-    sub-emit-row
-    part-emit-row-start
-    part-emit-row-end
-    emit-row-requires
+    sub-emit-apart
+    part-emit-apart-start
+    part-emit-apart-end
+    emit-apart-requires
     add-o
     loop-less
     loop-again
