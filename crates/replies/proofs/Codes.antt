@@ -122,8 +122,8 @@ reports index list o r s out out′ n e w =
     }
 
 -- demand 3 of what the public call tells is demand 3 of what the caller reads
-pub demanded : (D : Outcome (List ℕ) → Type 0) {o p q : Outcome (List ℕ)} → p ≡ o → q ≡ o → D p → D q
-demanded D e f d = subst D (e ∙ sym f) d
+pub demanded : (D : Outcome (List ℕ) → Type 0) (o : Outcome (List ℕ)) {p q : Outcome (List ℕ)} → p ≡ o → q ≡ o → D p → D q
+demanded D o e f d = subst D (e ∙ sym f) d
 
 -- ---- a histogram
 

@@ -30,6 +30,7 @@ returns c =
     let e = writes (columns.largest (now (a .index)) (now (a .column)) (a .k) (length (now (a .out)))) (w .largest .result) (c .written .result) (now (a .out)) (w .largest .last .1 .1 .1 .0) (numbered.ranked (now (a .index)) Largest (now (a .column)) (a .k) (length (now (a .out)))) (c .written .ensures) (w .largest .ensures .0) in (
       e,
       λ asked. demanded (λ (p : Outcome (List ℕ)). RankDemand Largest (now (a .index)) (now (a .column)) (a .k) (now (a .out)) p (w .largest .last .1 .1 .1 .0))
+          (columns.largest (now (a .index)) (now (a .column)) (a .k) (length (now (a .out))))
           (w .largest .ensures .0 .told) (e .tells) (w .largest .ensures .1 asked),
     )
 

@@ -30,6 +30,7 @@ returns c =
     let e = writes (columns.smallest (now (a .index)) (now (a .column)) (a .k) (length (now (a .out)))) (w .smallest .result) (c .written .result) (now (a .out)) (w .smallest .last .1 .1 .1 .0) (numbered.ranked (now (a .index)) Smallest (now (a .column)) (a .k) (length (now (a .out)))) (c .written .ensures) (w .smallest .ensures .0) in (
       e,
       λ asked. demanded (λ (p : Outcome (List ℕ)). RankDemand Smallest (now (a .index)) (now (a .column)) (a .k) (now (a .out)) p (w .smallest .last .1 .1 .1 .0))
+          (columns.smallest (now (a .index)) (now (a .column)) (a .k) (length (now (a .out))))
           (w .smallest .ensures .0 .told) (e .tells) (w .smallest .ensures .1 asked),
     )
 

@@ -28,6 +28,7 @@ returns c =
     let e = reports (now (a .index)) (now (a .list)) (meaning.threshold (now (a .index)) (now (a .list)) (a .t) (length (now (a .out)))) (w .threshold .result) (c .answered .result) (now (a .out)) (w .threshold .last .1 .1 .1 .0) (numbered.threshold (now (a .index)) (now (a .list)) (a .t) (length (now (a .out)))) (c .answered .ensures) (w .threshold .ensures .0) in (
       e,
       λ asked. demanded (λ (p : Outcome (List ℕ)). ThresholdDemand (now (a .index)) (now (a .list)) (a .t) (now (a .out)) p (w .threshold .last .1 .1 .1 .0))
+          (meaning.threshold (now (a .index)) (now (a .list)) (a .t) (length (now (a .out))))
           (w .threshold .ensures .0 .told) (e .tells) (w .threshold .ensures .1 asked),
     )
 
