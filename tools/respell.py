@@ -11,7 +11,7 @@ them gets another name first: a lemma that had its function's name ends in `_lem
 import glob
 import re
 
-WORD = re.compile(r"[A-Za-z_][A-Za-z0-9_'₀-₉]*")
+WORD = re.compile(r"(?<![A-Za-z0-9_'])[A-Za-z_][A-Za-z0-9_'₀-₉]*")
 
 # file: names that have to make way there
 FIRST = {

@@ -28,7 +28,7 @@ flip-bit v j h l =
     ∙ not-bit (is_set v j)
     ∙ ap (λ (k : ℕ). 1 - k) (sym (bit-set v j))
 
-pub one_bit : (j : ℕ) → j < word_bits → bit_at 0x_fFFFFFFF j ≡ 1
+pub one_bit : (j : ℕ) → j < word_bits → bit_at 0xFFFFFFFF j ≡ 1
 one_bit j l = flip-bit 0 j (omega arith) l ∙ ap (λ (k : ℕ). 1 - k) (zero_bit j)
 
 choice-table : (a b m : Bool) → xor a (xor a b && m) ≡ cond m b a

@@ -64,7 +64,7 @@ pub fn difference(
         × NotLess x.now y.now n result }
 {
     let exist = rows::exist(x, y, z);
-    let mut carry: [u32; BLOCK_SEGMENTS] = [0x_fFFF_FFFF; BLOCK_SEGMENTS];
+    let mut carry: [u32; BLOCK_SEGMENTS] = [0xFFFF_FFFF; BLOCK_SEGMENTS];
     let mut i: usize = 0;
     while i < n {
         let at = (i + 1) * BLOCK_SEGMENTS;

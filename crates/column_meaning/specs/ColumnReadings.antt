@@ -126,12 +126,12 @@ three_wah_sum = 2 ∷ 3 ∷ 4 ∷ 11 ∷ 1 ∷ 12 ∷ 1 ∷ 13 ∷ 1 ∷ 14 ∷ 
 abbrev pub forty_rows : List ℕ
 forty_rows =
     1 ∷ 40 ∷ 4 ∷ 11 ∷ 2 ∷ 13 ∷ 3 ∷ 16 ∷ 2 ∷ 18 ∷ 1
-    ∷ 0x00020003 ∷ 0x000000_fF ∷ 0x00040000 ∷ 0x00000001 ∷ 0x00000080 ∷ 0x00000003 ∷ 0x00000002 ∷ 0x00000004 ∷ []
+    ∷ 0x00020003 ∷ 0x000000FF ∷ 0x00040000 ∷ 0x00000001 ∷ 0x00000080 ∷ 0x00000003 ∷ 0x00000002 ∷ 0x00000004 ∷ []
 
 -- 40 rows. Bitmaps 0 and 1 have all of them, 0 with a dirty word for the last segment and 1 as a run of ones over its pad bits;
 -- 2 has all but row 39
 abbrev pub tail_rows : List ℕ
-tail_rows = 1 ∷ 40 ∷ 3 ∷ 9 ∷ 2 ∷ 11 ∷ 1 ∷ 12 ∷ 2 ∷ 0x00020003 ∷ 0x000000_fF ∷ 0x00000005 ∷ 0x00020003 ∷ 0x0000007_f ∷ []
+tail_rows = 1 ∷ 40 ∷ 3 ∷ 9 ∷ 2 ∷ 11 ∷ 1 ∷ 12 ∷ 2 ∷ 0x00020003 ∷ 0x000000FF ∷ 0x00000005 ∷ 0x00020003 ∷ 0x0000007F ∷ []
 
 -- 3 rows, bitmap 0 has all, behind an idle marker, and 1 has row 1
 abbrev pub idle_rows : List ℕ
@@ -146,11 +146,11 @@ no_rows = 1 ∷ 0 ∷ 2 ∷ 7 ∷ 0 ∷ 7 ∷ 0 ∷ []
 abbrev pub eight_rows : List ℕ
 eight_rows =
     1 ∷ 8 ∷ 4 ∷ 11 ∷ 2 ∷ 13 ∷ 2 ∷ 15 ∷ 2 ∷ 17 ∷ 1
-    ∷ 0x00020000 ∷ 0x_dB ∷ 0x00020000 ∷ 0x0_a ∷ 0x00020000 ∷ 0x59 ∷ 0x00000002 ∷ []
+    ∷ 0x00020000 ∷ 0xDB ∷ 0x00020000 ∷ 0x0A ∷ 0x00020000 ∷ 0x59 ∷ 0x00000002 ∷ []
 
 -- the same with WAH bodies
 abbrev pub eight_wah : List ℕ
-eight_wah = 2 ∷ 8 ∷ 4 ∷ 11 ∷ 1 ∷ 12 ∷ 1 ∷ 13 ∷ 1 ∷ 14 ∷ 1 ∷ 0x_dB ∷ 0x0_a ∷ 0x59 ∷ 0 ∷ []
+eight_wah = 2 ∷ 8 ∷ 4 ∷ 11 ∷ 1 ∷ 12 ∷ 1 ∷ 13 ∷ 1 ∷ 14 ∷ 1 ∷ 0xDB ∷ 0x0A ∷ 0x59 ∷ 0 ∷ []
 
 -- the body of one mixed segment
 abbrev pub lone : ℕ → List ℕ
@@ -160,7 +160,7 @@ lone x = 0x00020000 ∷ x ∷ []
 abbrev pub forty_wah : List ℕ
 forty_wah =
     2 ∷ 40 ∷ 4 ∷ 11 ∷ 1 ∷ 12 ∷ 2 ∷ 14 ∷ 2 ∷ 16 ∷ 1
-    ∷ 0x_c0000002 ∷ 0x00000001 ∷ 0x00000100 ∷ 0x7_fFFFFFF ∷ 0 ∷ 0x80000002 ∷ []
+    ∷ 0xC0000002 ∷ 0x00000001 ∷ 0x00000100 ∷ 0x7FFFFFFF ∷ 0 ∷ 0x80000002 ∷ []
 
 -- 70 rows, three segments, 6 rows in the last. Bitmap 0 has all of them, 1 rows 32 to 63
 abbrev pub seventy_rows : List ℕ
@@ -168,7 +168,7 @@ seventy_rows = 1 ∷ 70 ∷ 2 ∷ 7 ∷ 1 ∷ 8 ∷ 3 ∷ 0x00000007 ∷ 0x00000
 
 -- 70 rows in WAH, three segments, 8 rows in the last. Bitmap 0 has all of them
 abbrev pub seventy_wah : List ℕ
-seventy_wah = 2 ∷ 70 ∷ 1 ∷ 5 ∷ 1 ∷ 0x_c0000003 ∷ []
+seventy_wah = 2 ∷ 70 ∷ 1 ∷ 5 ∷ 1 ∷ 0xC0000003 ∷ []
 
 -- lists of two and three numbers
 abbrev pub two : (a b : ℕ) → List ℕ
@@ -268,11 +268,11 @@ sum_readings =
     -- 40 rows: row 0 has 3 + 1, rows 1 to 31 have 2 + 0, row 39 has 1 + 1
     ∷ adds forty_rows (triple 0 1 2) (two 0 1)
     (1 ∷ 40 ∷ 4 ∷ 11 ∷ 1 ∷ 12 ∷ 1 ∷ 13 ∷ 3 ∷ 16 ∷ 3
-    ∷ 0x00000005 ∷ 0x00000004 ∷ 0x00040000 ∷ 0x_fFFFFFFE ∷ 0x00000080 ∷ 0x00020000 ∷ 0x00000001 ∷ 0x00000002 ∷ [])
+    ∷ 0x00000005 ∷ 0x00000004 ∷ 0x00040000 ∷ 0xFFFFFFFE ∷ 0x00000080 ∷ 0x00020000 ∷ 0x00000001 ∷ 0x00000002 ∷ [])
     -- rows 0 to 31 of the first, with 1 each: row 39 of the second is not in the sum
     ∷ adds forty_rows (two 2 2) (two 0 1)
     (1 ∷ 40 ∷ 3 ∷ 9 ∷ 2 ∷ 11 ∷ 3 ∷ 14 ∷ 3
-    ∷ 0x00000003 ∷ 0x00000002 ∷ 0x00020000 ∷ 0x_fFFFFFFE ∷ 0x00000002 ∷ 0x00020000 ∷ 0x00000001 ∷ 0x00000002 ∷ [])
+    ∷ 0x00000003 ∷ 0x00000002 ∷ 0x00020000 ∷ 0xFFFFFFFE ∷ 0x00000002 ∷ 0x00020000 ∷ 0x00000001 ∷ 0x00000002 ∷ [])
     -- 64 rows, all of them with 1 + 1: clean runs alone
     ∷ adds (1 ∷ 64 ∷ 1 ∷ 5 ∷ 1 ∷ 0x00000005 ∷ []) (two 0 0) (two 0 0)
     (1 ∷ 64 ∷ 3 ∷ 9 ∷ 1 ∷ 10 ∷ 1 ∷ 11 ∷ 1 ∷ 0x00000005 ∷ 0x00000004 ∷ 0x00000005 ∷ [])
@@ -281,7 +281,7 @@ sum_readings =
     ∷ adds tail_rows (two 0 1) (two 1 0)
     (1 ∷ 40 ∷ 3 ∷ 9 ∷ 1 ∷ 10 ∷ 1 ∷ 11 ∷ 1 ∷ 0x00000005 ∷ 0x00000004 ∷ 0x00000005 ∷ [])
     ∷ adds tail_rows (two 1 1) (two 1 2)
-    (1 ∷ 40 ∷ 3 ∷ 9 ∷ 1 ∷ 10 ∷ 2 ∷ 12 ∷ 2 ∷ 0x00000005 ∷ 0x00020002 ∷ 0x00000080 ∷ 0x00020003 ∷ 0x0000007_f ∷ [])
+    (1 ∷ 40 ∷ 3 ∷ 9 ∷ 1 ∷ 10 ∷ 2 ∷ 12 ∷ 2 ∷ 0x00000005 ∷ 0x00020002 ∷ 0x00000080 ∷ 0x00020003 ∷ 0x0000007F ∷ [])
     -- no rows: the bodies have no words
     ∷ adds no_rows (two 0 1) (two 1 0) (1 ∷ 0 ∷ 3 ∷ 9 ∷ 0 ∷ 9 ∷ 0 ∷ 9 ∷ 0 ∷ [])
     -- 32 slices each, all digits set: twice 4,294,967,295, with 33 slices, in 3 + 68 + 34 words
@@ -437,7 +437,7 @@ smaller_readings =
     (1 ∷ 3 ∷ 3 ∷ 9 ∷ 1 ∷ 10 ∷ 1 ∷ 11 ∷ 1 ∷ 0x00000003 ∷ 0x00000002 ∷ 0x00000002 ∷ [])
     -- 40 rows: all but row 39 have 1 as the smaller, and it alone has 1 as the rest
     ∷ combines Smaller tail_rows (two 1 1) (two 1 2)
-    (1 ∷ 40 ∷ 2 ∷ 7 ∷ 1 ∷ 8 ∷ 2 ∷ 0x00000005 ∷ 0x00020003 ∷ 0x0000007_f ∷ [])
+    (1 ∷ 40 ∷ 2 ∷ 7 ∷ 1 ∷ 8 ∷ 2 ∷ 0x00000005 ∷ 0x00020003 ∷ 0x0000007F ∷ [])
     ∷ combines DifferenceOrZero tail_rows (two 1 1) (two 1 2)
     (1 ∷ 40 ∷ 2 ∷ 7 ∷ 1 ∷ 8 ∷ 2 ∷ 0x00000005 ∷ 0x00020002 ∷ 0x00000080 ∷ [])
     -- no row exists in both; no rows
@@ -471,20 +471,20 @@ largest_readings =
     ∷ picks Largest eight_rows (triple 0 1 2) 2 (lone 0x09)
     ∷ picks Largest eight_rows (triple 0 1 2) 3 (lone 0x19)
     ∷ picks Largest eight_rows (triple 0 1 2) 4 (lone 0x59)
-    ∷ picks Largest eight_rows (triple 0 1 2) 5 (lone 0x5_b)
-    ∷ picks Largest eight_rows (triple 0 1 2) 6 (lone 0x_dB)
+    ∷ picks Largest eight_rows (triple 0 1 2) 5 (lone 0x5B)
+    ∷ picks Largest eight_rows (triple 0 1 2) 6 (lone 0xDB)
     -- the slices the other way round: row 1 has 2, rows 0, 4 and 6 have 1
-    ∷ picks Largest eight_rows (triple 0 2 1) 2 (lone 0x0_a)
+    ∷ picks Largest eight_rows (triple 0 2 1) 2 (lone 0x0A)
     -- one slice: rows 1 and 3 have 1, the others 0; and then all have 0
     ∷ picks Largest eight_rows (two 0 1) 1 (lone 0x02)
-    ∷ picks Largest eight_rows (two 0 1) 3 (lone 0x0_b)
+    ∷ picks Largest eight_rows (two 0 1) 3 (lone 0x0B)
     ∷ picks Largest eight_rows (two 0 3) 2 (lone 0x03)
     -- slices that share a bitmap, with each other and with existence
-    ∷ picks Largest eight_rows (triple 0 1 1) 4 (lone 0x1_b)
-    ∷ picks Largest eight_rows (triple 0 0 0) 3 (lone 0x0_b)
+    ∷ picks Largest eight_rows (triple 0 1 1) 4 (lone 0x1B)
+    ∷ picks Largest eight_rows (triple 0 0 0) 3 (lone 0x0B)
     -- 32 slices: all of one value; rows 1 and 3 one above the others; rows 0, 3, 4 and 6 with the top digit alone; and these with
     -- the top digit, rows 1 and 3 with all digits below it
-    ∷ picks Largest eight_rows (replicate 33 0) 3 (lone 0x0_b)
+    ∷ picks Largest eight_rows (replicate 33 0) 3 (lone 0x0B)
     ∷ picks Largest eight_rows (0 ∷ 1 ∷ replicate 31 0) 1 (lone 0x02)
     ∷ picks Largest eight_rows ((0 ∷ replicate 31 3) ++ 2 ∷ []) 3 (lone 0x19)
     ∷ picks Largest eight_rows ((0 ∷ replicate 31 1) ++ 2 ∷ []) 2 (lone 0x09)
@@ -497,7 +497,7 @@ largest_readings =
     -- in WAH: none, ties, all that exist
     ∷ picks Largest eight_wah (triple 0 1 2) 0 (0 ∷ [])
     ∷ picks Largest eight_wah (triple 0 1 2) 2 (0x09 ∷ [])
-    ∷ picks Largest eight_wah (triple 0 1 2) 6 (0x_dB ∷ [])
+    ∷ picks Largest eight_wah (triple 0 1 2) 6 (0xDB ∷ [])
     ∷ []
 
 -- the k smallest
@@ -510,21 +510,21 @@ smallest_readings =
     ∷ picks Smallest eight_rows (triple 0 1 2) 2 (lone 0x82)
     ∷ picks Smallest eight_rows (triple 0 1 2) 3 (lone 0x83)
     ∷ picks Smallest eight_rows (triple 0 1 2) 4 (lone 0x93)
-    ∷ picks Smallest eight_rows (triple 0 1 2) 5 (lone 0x_d3)
-    ∷ picks Smallest eight_rows (triple 0 1 2) 6 (lone 0x_dB)
+    ∷ picks Smallest eight_rows (triple 0 1 2) 5 (lone 0xD3)
+    ∷ picks Smallest eight_rows (triple 0 1 2) 6 (lone 0xDB)
     -- the slices the other way round: row 7 has 0, rows 0, 4 and 6 have 1
     ∷ picks Smallest eight_rows (triple 0 2 1) 2 (lone 0x81)
     -- one slice: rows 1 and 3 have 1, the others 0; and then all have 0
     ∷ picks Smallest eight_rows (two 0 1) 3 (lone 0x51)
-    ∷ picks Smallest eight_rows (two 0 1) 5 (lone 0x_d3)
-    ∷ picks Smallest eight_rows (two 0 3) 5 (lone 0x5_b)
+    ∷ picks Smallest eight_rows (two 0 1) 5 (lone 0xD3)
+    ∷ picks Smallest eight_rows (two 0 3) 5 (lone 0x5B)
     -- slices that share a bitmap, with each other and with existence
-    ∷ picks Smallest eight_rows (triple 0 1 1) 4 (lone 0x_d1)
-    ∷ picks Smallest eight_rows (triple 0 0 0) 3 (lone 0x0_b)
+    ∷ picks Smallest eight_rows (triple 0 1 1) 4 (lone 0xD1)
+    ∷ picks Smallest eight_rows (triple 0 0 0) 3 (lone 0x0B)
     -- 32 slices: all of one value; rows 1 and 3 one above the others; rows 0, 3, 4 and 6 with the top digit alone; and these with
     -- the top digit, rows 1 and 3 with all digits below it
-    ∷ picks Smallest eight_rows (replicate 33 0) 3 (lone 0x0_b)
-    ∷ picks Smallest eight_rows (0 ∷ 1 ∷ replicate 31 0) 5 (lone 0x_d3)
+    ∷ picks Smallest eight_rows (replicate 33 0) 3 (lone 0x0B)
+    ∷ picks Smallest eight_rows (0 ∷ 1 ∷ replicate 31 0) 5 (lone 0xD3)
     ∷ picks Smallest eight_rows ((0 ∷ replicate 31 3) ++ 2 ∷ []) 3 (lone 0x83)
     ∷ picks Smallest eight_rows ((0 ∷ replicate 31 1) ++ 2 ∷ []) 2 (lone 0x82)
     -- no row exists, and no rows at all: none of them
@@ -534,7 +534,7 @@ smallest_readings =
     ∷ picks Smallest idle_rows (two 0 1) 2 (lone 0x5)
     -- in WAH: ties, and all that exist
     ∷ picks Smallest eight_wah (triple 0 1 2) 3 (0x83 ∷ [])
-    ∷ picks Smallest eight_wah (triple 0 1 2) 6 (0x_dB ∷ [])
+    ∷ picks Smallest eight_wah (triple 0 1 2) 6 (0xDB ∷ [])
     ∷ []
 
 -- of 40 and 70 rows: cuts within a run, at its segments' ends and beside them, and over pad bits. They take long to compute, so that the claim
@@ -542,46 +542,46 @@ smallest_readings =
 unfoldable pub long_rank_readings : List ColumnReading
 long_rank_readings =
     -- 40 rows of one value, cut at row 32 and on both sides of it, before the last row, and not at all: the last segment is full
-    ranks Largest forty_rows (two 0 3) 31 (0x00020000 ∷ 0x7_fFFFFFF ∷ 0x00000002 ∷ [])
+    ranks Largest forty_rows (two 0 3) 31 (0x00020000 ∷ 0x7FFFFFFF ∷ 0x00000002 ∷ [])
     ∷ ranks Largest forty_rows (two 0 3) 32 (0x00000003 ∷ 0x00000002 ∷ [])
     ∷ ranks Largest forty_rows (two 0 3) 33 (0x00020003 ∷ 0x00000001 ∷ [])
-    ∷ ranks Largest forty_rows (two 0 3) 39 (0x00020003 ∷ 0x0000007_f ∷ [])
+    ∷ ranks Largest forty_rows (two 0 3) 39 (0x00020003 ∷ 0x0000007F ∷ [])
     ∷ ranks Largest forty_rows (two 0 3) 40 (0x00000005 ∷ [])
     -- rows 0 and 39 have 1, and row 1 is the lowest of the others
     ∷ ranks Largest forty_rows (two 0 1) 3 (0x00040000 ∷ 0x00000003 ∷ 0x00000080 ∷ [])
     -- rows 0 and 39 exist alone
     ∷ ranks Largest forty_rows (two 1 3) 1 (0x00020000 ∷ 0x00000001 ∷ 0x00000002 ∷ [])
     -- all but row 39 exist; and all as a run over the pad bits
-    ∷ ranks Largest tail_rows (two 2 2) 39 (0x00020003 ∷ 0x0000007_f ∷ [])
+    ∷ ranks Largest tail_rows (two 2 2) 39 (0x00020003 ∷ 0x0000007F ∷ [])
     ∷ ranks Largest tail_rows (two 1 0) 40 (0x00000005 ∷ [])
     -- existence in dirty words and a slice as a run over the pad bits: no row strays
     ∷ ranks Smallest tail_rows (two 0 1) 40 (0x00000005 ∷ [])
     -- 70 rows of one value: a run of three segments, cut beside row 64 and at it
-    ∷ ranks Largest seventy_rows (two 0 0) 63 (0x00020003 ∷ 0x7_fFFFFFF ∷ 0x00000002 ∷ [])
+    ∷ ranks Largest seventy_rows (two 0 0) 63 (0x00020003 ∷ 0x7FFFFFFF ∷ 0x00000002 ∷ [])
     ∷ ranks Largest seventy_rows (two 0 0) 64 (0x00000005 ∷ 0x00000002 ∷ [])
     -- 40 rows of one value: none; cut at row 31, where a single clean segment is a literal, and on both sides of it, before the
     -- last row, and not at all
     ∷ ranks Largest forty_wah (two 0 3) 0 (0x80000002 ∷ [])
-    ∷ ranks Largest forty_wah (two 0 3) 30 (0x3_fFFFFFF ∷ 0 ∷ [])
-    ∷ ranks Largest forty_wah (two 0 3) 31 (0x7_fFFFFFF ∷ 0 ∷ [])
-    ∷ ranks Largest forty_wah (two 0 3) 32 (0x7_fFFFFFF ∷ 0x00000001 ∷ [])
-    ∷ ranks Largest forty_wah (two 0 3) 39 (0x7_fFFFFFF ∷ 0x000000_fF ∷ [])
-    ∷ ranks Largest forty_wah (two 0 3) 40 (0x_c0000002 ∷ [])
+    ∷ ranks Largest forty_wah (two 0 3) 30 (0x3FFFFFFF ∷ 0 ∷ [])
+    ∷ ranks Largest forty_wah (two 0 3) 31 (0x7FFFFFFF ∷ 0 ∷ [])
+    ∷ ranks Largest forty_wah (two 0 3) 32 (0x7FFFFFFF ∷ 0x00000001 ∷ [])
+    ∷ ranks Largest forty_wah (two 0 3) 39 (0x7FFFFFFF ∷ 0x000000FF ∷ [])
+    ∷ ranks Largest forty_wah (two 0 3) 40 (0xC0000002 ∷ [])
     -- 70 rows of one value: two full segments are one fill
-    ∷ ranks Largest seventy_wah (two 0 0) 62 (0x_c0000002 ∷ 0 ∷ [])
+    ∷ ranks Largest seventy_wah (two 0 0) 62 (0xC0000002 ∷ 0 ∷ [])
     -- 40 rows: 0 to 31 have 1, and the last segment's rows 0; these, and row 0 with them
     ∷ ranks Smallest forty_rows (two 0 2) 8 (0x00000002 ∷ 0x00000003 ∷ [])
     ∷ ranks Smallest forty_rows (two 0 2) 9 (0x00020000 ∷ 0x00000001 ∷ 0x00000003 ∷ [])
     -- rows 0 and 39 have 1: all others
-    ∷ ranks Smallest forty_rows (two 0 1) 38 (0x00040000 ∷ 0x_fFFFFFFE ∷ 0x0000007_f ∷ [])
+    ∷ ranks Smallest forty_rows (two 0 1) 38 (0x00040000 ∷ 0xFFFFFFFE ∷ 0x0000007F ∷ [])
     -- row 39 alone has 0, beside the pad bits
     ∷ ranks Smallest tail_rows (two 1 2) 1 (0x00020002 ∷ 0x00000080 ∷ [])
     -- 70 rows: 32 to 63 have 1, and the others, before and behind that run, have 0: all these and row 32
     ∷ ranks Smallest seventy_rows (two 0 1) 39 (0x00020003 ∷ 0x00000001 ∷ 0x00000003 ∷ [])
     -- in WAH the last segment's rows have 0: these, and row 0 with them; and where rows 0 and 39 have 1 all others
-    ∷ ranks Smallest forty_wah (two 0 2) 9 (0 ∷ 0x000001_fF ∷ [])
-    ∷ ranks Smallest forty_wah (two 0 2) 10 (0x00000001 ∷ 0x000001_fF ∷ [])
-    ∷ ranks Smallest forty_wah (two 0 1) 38 (0x7_fFFFFFE ∷ 0x000000_fF ∷ [])
+    ∷ ranks Smallest forty_wah (two 0 2) 9 (0 ∷ 0x000001FF ∷ [])
+    ∷ ranks Smallest forty_wah (two 0 2) 10 (0x00000001 ∷ 0x000001FF ∷ [])
+    ∷ ranks Smallest forty_wah (two 0 1) 38 (0x7FFFFFFE ∷ 0x000000FF ∷ [])
     ∷ []
 
 -- both, refused

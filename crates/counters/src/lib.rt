@@ -41,7 +41,7 @@ pub fn at_least(planes: [u32; PLANES], most: u32, t: u32) -> u32
     if most < t {
         return 0;
     }
-    let mut r: u32 = 0x_fFFF_FFFF;
+    let mut r: u32 = 0xFFFF_FFFF;
     for k in 0..PLANES {
         if k == FEW_PLANES {
             if most <= FEW_COUNTED {
@@ -65,7 +65,7 @@ pub fn equals(planes: [u32; PLANES], most: u32, t: u32) -> u32
     if most < t {
         return 0;
     }
-    let mut r: u32 = 0x_fFFF_FFFF;
+    let mut r: u32 = 0xFFFF_FFFF;
     for k in 0..PLANES {
         if k == FEW_PLANES {
             if most <= FEW_COUNTED {

@@ -16,7 +16,7 @@ pub fn read(m: u32) -> Marker
 {
     Marker {
         value: m & 1,
-        clean: (m >> 1) & 0x_fFFF,
+        clean: (m >> 1) & 0xFFFF,
         dirty: m >> 17,
     }
 }
@@ -36,5 +36,5 @@ pub fn segment(value: u32) -> u32
     requires { value < 2 }
     ensures { result ≡ fill 32 value }
 {
-    value * 0x_fFFF_FFFF
+    value * 0xFFFF_FFFF
 }

@@ -16,7 +16,7 @@ fn last_word(plain: &[u32], rows: u32) -> u32
         ≡ kind (last_rows 32 rows) (get_or plain.now (length plain.now - 1) 0) }
 {
     let mask = bits::low_ones(rows::last_rows(rows));
-    rows::spelled(plain[plain.len() - 1], mask, 0x_fFFF_FFFF)
+    rows::spelled(plain[plain.len() - 1], mask, 0xFFFF_FFFF)
 }
 
 // How many words `write` takes: the same steps with no buffer.

@@ -113,7 +113,7 @@ pub fn grow_segment(w: Writer, x: u32) -> Writer
     requires used_bound { w.used < 2 ^ 62 }
     ensures { Grown w (kind 32 x ∷ []) result }
 {
-    if rows::is_clean(x, 0x_fFFF_FFFF) {
+    if rows::is_clean(x, 0xFFFF_FFFF) {
         return grow_run(w, x & 1, 1);
     }
     grow_mixed(w)
@@ -168,7 +168,7 @@ pub fn push_segment(out: &mut [u32], w: Writer, x: u32) -> Writer
     requires { RoomFor (kind 32 x ∷ []) w (length out.old) }
     ensures { Pushed out.old out.new w (kind 32 x ∷ []) result }
 {
-    if rows::is_clean(x, 0x_fFFF_FFFF) {
+    if rows::is_clean(x, 0xFFFF_FFFF) {
         return push_run(out, w, x & 1, 1);
     }
     push_mixed(out, w, x)

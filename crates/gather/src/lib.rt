@@ -29,7 +29,7 @@ pub fn nearest(numbers: &[u32], len: usize) -> u32
     requires { (len ≤ most_named) × PlacesIn numbers.now len }
     ensures { (k : ℕ) → k < len → result ≤ left_of (cursor_of numbers.now k).piece }
 {
-    let mut least: u32 = 0x_fFFF_FFFF;
+    let mut least: u32 = 0xFFFF_FFFF;
     let mut k: usize = 0;
     while k < len {
         least = survey::smaller(least, left(numbers, k));

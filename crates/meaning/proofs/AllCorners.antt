@@ -50,28 +50,28 @@ bodies =
     -- dirty word, and with a pad bit
     ∷ is_sound (check_body Ewah 40 (5 ∷ []))
     ∷ is_sound (check_body Ewah 40 (0 ∷ 3 ∷ 1 ∷ 3 ∷ 1 ∷ []))
-    ∷ is_sound (check_body Ewah 40 (0x00020003 ∷ 0x_fF ∷ []))
-    ∷ is_refused (check_body Ewah 40 (0x00020003 ∷ 0x_fFFFFFFF ∷ [])) 7 0 1
+    ∷ is_sound (check_body Ewah 40 (0x00020003 ∷ 0xFF ∷ []))
+    ∷ is_refused (check_body Ewah 40 (0x00020003 ∷ 0xFFFFFFFF ∷ [])) 7 0 1
     ∷ is_refused (check_body Ewah 40 (5 ∷ 3 ∷ [])) 6 0 1
     ∷ is_number (body_count Ewah 40 (5 ∷ [])) 40
     ∷ is_number (body_count Ewah 40 (3 ∷ 3 ∷ 1 ∷ [])) 40
-    ∷ is_number (body_count Ewah 40 (0x00020003 ∷ 0x_fF ∷ 1 ∷ [])) 40
+    ∷ is_number (body_count Ewah 40 (0x00020003 ∷ 0xFF ∷ 1 ∷ [])) 40
     ∷ is_number (body_nth Ewah 40 (5 ∷ []) 39) 39
     ∷ is_refused (body_nth Ewah 40 (5 ∷ []) 40) 8 0 0
-    ∷ is_answer (expand Ewah 40 (5 ∷ []) 2) (0x_fFFFFFFF ∷ 0x_fF ∷ [])
+    ∷ is_answer (expand Ewah 40 (5 ∷ []) 2) (0xFFFFFFFF ∷ 0xFF ∷ [])
     -- it is written so, down to one row
-    ∷ is_answer (compress Ewah 40 (0x_fFFFFFFF ∷ 0x_fF ∷ []) 1) (5 ∷ [])
-    ∷ is_answer (compress Ewah 40 (0 ∷ 0x_fF ∷ []) 2) (2 ∷ 3 ∷ [])
-    ∷ is_answer (compress Ewah 40 (1 ∷ 0x_fF ∷ []) 3) (0x00020000 ∷ 1 ∷ 3 ∷ [])
-    ∷ is_answer (compress Ewah 33 (0x_fFFFFFFF ∷ 1 ∷ []) 1) (5 ∷ [])
+    ∷ is_answer (compress Ewah 40 (0xFFFFFFFF ∷ 0xFF ∷ []) 1) (5 ∷ [])
+    ∷ is_answer (compress Ewah 40 (0 ∷ 0xFF ∷ []) 2) (2 ∷ 3 ∷ [])
+    ∷ is_answer (compress Ewah 40 (1 ∷ 0xFF ∷ []) 3) (0x00020000 ∷ 1 ∷ 3 ∷ [])
+    ∷ is_answer (compress Ewah 33 (0xFFFFFFFF ∷ 1 ∷ []) 1) (5 ∷ [])
     ∷ is_answer (compress Ewah 1 (1 ∷ []) 1) (3 ∷ [])
-    ∷ is_refused (compress Ewah 40 (0x_fFFFFFFF ∷ 0x_fF ∷ []) 0) 9 0 1
+    ∷ is_refused (compress Ewah 40 (0xFFFFFFFF ∷ 0xFF ∷ []) 0) 9 0 1
     -- 5 before 6, 6 before 7, a marker before its dirty words
     ∷ is_refused (check_body Ewah 32 (0x00040006 ∷ [])) 5 0 0
     ∷ is_refused (check_body Ewah 40 (7 ∷ [])) 6 0 0
-    ∷ is_refused (check_body Ewah 40 (0x00020005 ∷ 0x_fFFFFFFF ∷ [])) 6 0 0
+    ∷ is_refused (check_body Ewah 40 (0x00020005 ∷ 0xFFFFFFFF ∷ [])) 6 0 0
     -- the most rows, and one more, tested before the body
-    ∷ is_sound (check_body Ewah 1073741824 (replicate 512 0x0001_fFFE ++ 0x00000400 ∷ []))
+    ∷ is_sound (check_body Ewah 1073741824 (replicate 512 0x0001FFFE ++ 0x00000400 ∷ []))
     ∷ is_refused (check_body Ewah 1073741825 []) 3 0 1
     ∷ is_refused (compress Ewah 1073741825 [] 0) 3 0 1
     -- set rows past the last
@@ -84,7 +84,7 @@ bodies =
     ∷ is_refused (body_nth Ewah 96 ninety_six 2) 8 0 0
     -- buffers: nothing needed, exactly enough, one less
     ∷ is_answer (expand Ewah 0 [] 0) []
-    ∷ is_answer (expand Ewah 40 (3 ∷ 2 ∷ []) 2) (0x_fFFFFFFF ∷ 0 ∷ [])
+    ∷ is_answer (expand Ewah 40 (3 ∷ 2 ∷ []) 2) (0xFFFFFFFF ∷ 0 ∷ [])
     ∷ is_refused (expand Ewah 40 (3 ∷ 2 ∷ []) 1) 9 0 2
     ∷ is_answer (compress Ewah 0 [] 0) []
     ∷ is_answer (compress Ewah 40 (1 ∷ 0x80 ∷ []) 3) (0x00040000 ∷ 1 ∷ 0x80 ∷ [])
@@ -99,13 +99,13 @@ bodies =
 -- last dirty word
 pub limits : List Bool
 limits =
-    same (body (put (draft [] 0 65535 []) (clean 0))) (0x0001_fFFE ∷ 0x00000002 ∷ [])
-    ∷ eqb (get_or (body (put (draft [] 0 0 (replicate 32766 5)) (mixed 5))) 0 0) 0x_fFFE0000
+    same (body (put (draft [] 0 65535 []) (clean 0))) (0x0001FFFE ∷ 0x00000002 ∷ [])
+    ∷ eqb (get_or (body (put (draft [] 0 0 (replicate 32766 5)) (mixed 5))) 0 0) 0xFFFE0000
     ∷ []
 
 -- 40 rows: all of them as one run, none, and all of them with a dirty word at the end
 abbrev full_tail : List ℕ
-full_tail = 1 ∷ 40 ∷ 3 ∷ 9 ∷ 1 ∷ 10 ∷ 1 ∷ 11 ∷ 2 ∷ 5 ∷ 4 ∷ 0x00020003 ∷ 0x_fF ∷ []
+full_tail = 1 ∷ 40 ∷ 3 ∷ 9 ∷ 1 ∷ 10 ∷ 1 ∷ 11 ∷ 2 ∷ 5 ∷ 4 ∷ 0x00020003 ∷ 0xFF ∷ []
 
 pub indexes : List Bool
 indexes =
@@ -129,7 +129,7 @@ indexes =
     ∷ is_sound (check (1 ∷ 4 ∷ 1 ∷ 5 ∷ 2 ∷ 0x00020000 ∷ 3 ∷ []))
     ∷ is_refused (check (1 ∷ 4 ∷ 1 ∷ 6 ∷ 9 ∷ 0x00020000 ∷ 3 ∷ [])) 4 0 3
     ∷ is_refused (check (1 ∷ 4 ∷ 1 ∷ 5 ∷ 3 ∷ 0x00020000 ∷ 3 ∷ [])) 4 0 4
-    ∷ is_refused (check (1 ∷ 4 ∷ 1 ∷ 5 ∷ 0x_fFFFFFFF ∷ 0x00020000 ∷ 3 ∷ [])) 4 0 4
+    ∷ is_refused (check (1 ∷ 4 ∷ 1 ∷ 5 ∷ 0xFFFFFFFF ∷ 0x00020000 ∷ 3 ∷ [])) 4 0 4
     ∷ is_refused (check (1 ∷ 4 ∷ 1 ∷ 5 ∷ 1 ∷ 0x00020000 ∷ 3 ∷ [])) 4 0 6
     -- a later entry before an earlier body; a body's place is counted from word 0
     ∷ is_refused (check (1 ∷ 4 ∷ 2 ∷ 7 ∷ 2 ∷ 8 ∷ 1 ∷ 0x00020000 ∷ 0x13 ∷ 0 ∷ [])) 4 1 5
@@ -139,7 +139,7 @@ indexes =
     ∷ is_sound (bitmap_refusal (1 ∷ 0 ∷ 1 ∷ 5 ∷ 0 ∷ []) 0)
     ∷ is_refused (bitmap_refusal (1 ∷ 0 ∷ 1 ∷ 5 ∷ 0 ∷ []) 1) 8 0 0
     ∷ is_refused (bitmap_refusal (1 ∷ 4 ∷ 0 ∷ 9 ∷ []) 0) 4 0 3
-    ∷ same (part_of (bitmap looped 1)) (0x00020000 ∷ 0x_e ∷ [])
+    ∷ same (part_of (bitmap looped 1)) (0x00020000 ∷ 0xE ∷ [])
     ∷ same (part_of (bitmap looped 3)) []
     -- an index takes no more of a buffer than it may have words
     ∷ eqb (index_room 0) 0
@@ -155,7 +155,7 @@ indexes =
     ∷ is_answer (symmetric looped (replicate 256 0) (replicate 256 0 ++ 1 ∷ []) 2) (0x00020000 ∷ 0x3 ∷ [])
     ∷ is_refused (symmetric looped (replicate 256 0) (replicate 258 1) 2) 8 0 0
     ∷ same (histogram_reported (histogram looped (replicate 256 0))) (2 ∷ replicate 255 0 ++ 2 ∷ [])
-    ∷ is_answer (threshold looped (1 ∷ 1 ∷ []) 2 9) (0x00020000 ∷ 0x_e ∷ [])
+    ∷ is_answer (threshold looped (1 ∷ 1 ∷ []) 2 9) (0x00020000 ∷ 0xE ∷ [])
     ∷ is_answer (symmetric looped three (1 ∷ 0 ∷ 0 ∷ 1 ∷ []) 1) (2 ∷ [])
     ∷ is_refused (symmetric looped three (0 ∷ 1 ∷ 0 ∷ []) 9) 8 0 0
     ∷ is_refused (symmetric looped three (0 ∷ 1 ∷ 0 ∷ 2 ∷ []) 9) 8 0 0
@@ -174,7 +174,7 @@ indexes =
 
 -- WAH: rows 0 to 39 of 40, none of them, and rows 0 and 39
 abbrev archive : List ℕ
-archive = 2 ∷ 40 ∷ 3 ∷ 9 ∷ 1 ∷ 10 ∷ 1 ∷ 11 ∷ 2 ∷ 0x_c0000002 ∷ 0x80000002 ∷ 0x00000001 ∷ 0x00000100 ∷ []
+archive = 2 ∷ 40 ∷ 3 ∷ 9 ∷ 1 ∷ 10 ∷ 1 ∷ 11 ∷ 2 ∷ 0xC0000002 ∷ 0x80000002 ∷ 0x00000001 ∷ 0x00000100 ∷ []
 
 -- as it is rewritten
 abbrev archive_ewah : List ℕ
@@ -187,38 +187,38 @@ wahs =
     ∷ is_refused (check_body Wah 0 (0 ∷ [])) 6 0 0
     ∷ is_refused (check_body Wah 0 (0x80000000 ∷ [])) 10 0 0
     -- a literal or a fill with no segment left, also with all bits; a fill one too long; an early end; 3 before all
-    ∷ is_refused (check_body Wah 31 (0 ∷ 0x7_fFFFFFF ∷ [])) 6 0 1
-    ∷ is_refused (check_body Wah 31 (0 ∷ 0x_fFFFFFFF ∷ [])) 6 0 1
+    ∷ is_refused (check_body Wah 31 (0 ∷ 0x7FFFFFFF ∷ [])) 6 0 1
+    ∷ is_refused (check_body Wah 31 (0 ∷ 0xFFFFFFFF ∷ [])) 6 0 1
     ∷ is_refused (check_body Wah 31 (0x80000002 ∷ [])) 6 0 0
     ∷ is_refused (check_body Wah 32 (0 ∷ [])) 6 0 1
     ∷ is_refused (check_body Wah 31 []) 6 0 0
     ∷ is_refused (check_body Wah 1073741825 (0x80000000 ∷ [])) 3 0 1
     -- the last segment: a fill of ones over pad bits, a literal of all rows, one with a pad bit, an empty fill before it
-    ∷ is_sound (check_body Wah 32 (0x_c0000002 ∷ []))
-    ∷ is_sound (check_body Wah 32 (0x7_fFFFFFF ∷ 1 ∷ []))
-    ∷ is_refused (check_body Wah 32 (0x7_fFFFFFF ∷ 2 ∷ [])) 7 0 1
+    ∷ is_sound (check_body Wah 32 (0xC0000002 ∷ []))
+    ∷ is_sound (check_body Wah 32 (0x7FFFFFFF ∷ 1 ∷ []))
+    ∷ is_refused (check_body Wah 32 (0x7FFFFFFF ∷ 2 ∷ [])) 7 0 1
     ∷ is_refused (check_body Wah 32 (0x80000000 ∷ 2 ∷ 2 ∷ [])) 10 0 0
     -- the longest: a fill of all segments of the most rows
     ∷ is_sound (check_body Wah 1073741824 (0x82108422 ∷ []))
     ∷ is_refused (check_body Wah 1073741824 (0x82108423 ∷ [])) 6 0 0
     -- questions: the count without pad bits, the nth
-    ∷ is_number (body_count Wah 40 (0x_c0000002 ∷ [])) 40
-    ∷ is_number (body_nth Wah 64 (0x7_fFFFFFF ∷ 0 ∷ 3 ∷ []) 32) 63
-    ∷ is_refused (body_nth Wah 40 (0x_c0000002 ∷ []) 40) 8 0 0
+    ∷ is_number (body_count Wah 40 (0xC0000002 ∷ [])) 40
+    ∷ is_number (body_nth Wah 64 (0x7FFFFFFF ∷ 0 ∷ 3 ∷ []) 32) 63
+    ∷ is_refused (body_nth Wah 40 (0xC0000002 ∷ []) 40) 8 0 0
     -- plain words keep 32 rows, and 7 is judged on them
-    ∷ is_answer (expand Wah 64 (0x7_fFFFFFF ∷ 0 ∷ 3 ∷ []) 2) (0x7_fFFFFFF ∷ 0x_c0000000 ∷ [])
+    ∷ is_answer (expand Wah 64 (0x7FFFFFFF ∷ 0 ∷ 3 ∷ []) 2) (0x7FFFFFFF ∷ 0xC0000000 ∷ [])
     ∷ is_refused (expand Wah 62 (0x80000002 ∷ []) 1) 9 0 2
-    ∷ is_answer (compress Wah 64 (0x7_fFFFFFF ∷ 0x_c0000000 ∷ []) 3) (0x7_fFFFFFF ∷ 0 ∷ 3 ∷ [])
+    ∷ is_answer (compress Wah 64 (0x7FFFFFFF ∷ 0xC0000000 ∷ []) 3) (0x7FFFFFFF ∷ 0 ∷ 3 ∷ [])
     ∷ is_refused (compress Wah 40 (0 ∷ 0x100 ∷ []) 9) 7 0 1
     ∷ is_refused (compress Wah 62 (0 ∷ 0 ∷ 0 ∷ []) 9) 8 0 0
     ∷ is_refused (compress Wah 40 (1 ∷ 0 ∷ []) 1) 9 0 2
     -- canonical form: a lone clean segment, runs of two, a full last segment joins ones before it
-    ∷ is_answer (compress Wah 93 (0x7_fFFFFFF ∷ 0 ∷ 0 ∷ []) 2) (0x7_fFFFFFF ∷ 0x80000002 ∷ [])
+    ∷ is_answer (compress Wah 93 (0x7FFFFFFF ∷ 0 ∷ 0 ∷ []) 2) (0x7FFFFFFF ∷ 0x80000002 ∷ [])
     ∷ is_answer (compress Wah 33 (0x80000001 ∷ 1 ∷ []) 2) (1 ∷ 3 ∷ [])
     -- rewriting: either way, to the same format, and what is refused
-    ∷ is_answer (rewrite Wah Ewah 40 (0x7_fFFFFFF ∷ 0x1_fF ∷ []) 1) (5 ∷ [])
-    ∷ is_answer (rewrite Ewah Wah 40 (5 ∷ []) 1) (0x_c0000002 ∷ [])
-    ∷ is_answer (rewrite Wah Wah 40 (0x7_fFFFFFF ∷ 0x1_fF ∷ []) 1) (0x_c0000002 ∷ [])
+    ∷ is_answer (rewrite Wah Ewah 40 (0x7FFFFFFF ∷ 0x1FF ∷ []) 1) (5 ∷ [])
+    ∷ is_answer (rewrite Ewah Wah 40 (5 ∷ []) 1) (0xC0000002 ∷ [])
+    ∷ is_answer (rewrite Wah Wah 40 (0x7FFFFFFF ∷ 0x1FF ∷ []) 1) (0xC0000002 ∷ [])
     ∷ is_answer (rewrite Ewah Ewah 96 wasteful 4) ninety_six
     ∷ is_refused (rewrite Ewah Wah 40 (6 ∷ []) 9) 6 0 0
     ∷ is_refused (rewrite Wah Ewah 40 (0 ∷ []) 0) 6 0 1
@@ -237,14 +237,14 @@ wahs =
     ∷ is_refused (rewrite_index (2 ∷ 40 ∷ 0 ∷ []) Ewah 2) 9 0 3
     -- an index of WAH bodies: its faults have places in it, and its answers its format
     ∷ is_sound (check archive)
-    ∷ is_refused (check (2 ∷ 40 ∷ 1 ∷ 5 ∷ 2 ∷ 0x7_fFFFFFF ∷ 0x7_fFFFFFF ∷ [])) 7 0 6
+    ∷ is_refused (check (2 ∷ 40 ∷ 1 ∷ 5 ∷ 2 ∷ 0x7FFFFFFF ∷ 0x7FFFFFFF ∷ [])) 7 0 6
     ∷ is_refused (check (2 ∷ 40 ∷ 1 ∷ 5 ∷ 1 ∷ 0x80000000 ∷ [])) 10 0 5
     ∷ is_answer (not_of archive 0 1) (0x80000002 ∷ [])
-    ∷ is_answer (not_of archive 2 2) (0x7_fFFFFFE ∷ 0x_fF ∷ [])
-    ∷ is_answer (threshold archive three 1 1) (0x_c0000002 ∷ [])
+    ∷ is_answer (not_of archive 2 2) (0x7FFFFFFE ∷ 0xFF ∷ [])
+    ∷ is_answer (threshold archive three 1 1) (0xC0000002 ∷ [])
     ∷ is_answer (threshold archive three 2 2) (0x00000001 ∷ 0x00000100 ∷ [])
     ∷ is_refused (threshold archive three 2 1) 9 0 2
-    ∷ is_answer (symmetric archive (1 ∷ []) (1 ∷ 0 ∷ []) 1) (0x_c0000002 ∷ [])
+    ∷ is_answer (symmetric archive (1 ∷ []) (1 ∷ 0 ∷ []) 1) (0xC0000002 ∷ [])
     ∷ []
 
 -- a row, and the first and last row of its piece
@@ -268,8 +268,8 @@ rows =
     ∷ is_row (body_row Ewah 40 (5 ∷ []) 0) 1 0 39
     ∷ is_row (body_row Ewah 40 (5 ∷ []) 39) 1 0 39
     ∷ is_refused (body_row Ewah 40 (5 ∷ []) 40) 8 0 0
-    ∷ is_row (body_row Ewah 40 (0x00020003 ∷ 0x_fF ∷ []) 31) 1 0 31
-    ∷ is_row (body_row Ewah 40 (0x00020003 ∷ 0x_fF ∷ []) 32) 1 32 39
+    ∷ is_row (body_row Ewah 40 (0x00020003 ∷ 0xFF ∷ []) 31) 1 0 31
+    ∷ is_row (body_row Ewah 40 (0x00020003 ∷ 0xFF ∷ []) 32) 1 32 39
     ∷ is_row (body_row Ewah 1 (3 ∷ []) 0) 1 0 0
     -- runs of one value under two markers are two pieces, with idle markers before, between and behind
     ∷ is_row (body_row Ewah 128 (5 ∷ 5 ∷ []) 63) 1 0 63
@@ -277,17 +277,17 @@ rows =
     ∷ is_row (body_row Ewah 72 (0 ∷ 5 ∷ 1 ∷ 0 ∷ 3 ∷ 1 ∷ []) 10) 1 0 63
     ∷ is_row (body_row Ewah 72 (0 ∷ 5 ∷ 1 ∷ 0 ∷ 3 ∷ 1 ∷ []) 71) 1 64 71
     -- so are the two markers of a run that one cannot hold
-    ∷ is_row (body_row Ewah 2097152 (0x0001_fFFE ∷ 0x00000002 ∷ []) 2097119) 0 0 2097119
-    ∷ is_row (body_row Ewah 2097152 (0x0001_fFFE ∷ 0x00000002 ∷ []) 2097120) 0 2097120 2097151
+    ∷ is_row (body_row Ewah 2097152 (0x0001FFFE ∷ 0x00000002 ∷ []) 2097119) 0 0 2097119
+    ∷ is_row (body_row Ewah 2097152 (0x0001FFFE ∷ 0x00000002 ∷ []) 2097120) 0 2097120 2097151
     -- a run and dirty words of its value under the same marker: each word by itself
     ∷ is_row (body_row Ewah 160 (0x00060004 ∷ 0 ∷ 0 ∷ 0 ∷ []) 63) 0 0 63
     ∷ is_row (body_row Ewah 160 (0x00060004 ∷ 0 ∷ 0 ∷ 0 ∷ []) 100) 0 96 127
     -- WAH: segments of 31 rows; a fill, literals, fills of one segment, a cut at the last row
-    ∷ is_row (body_row Wah 40 (0x_c0000002 ∷ []) 39) 1 0 39
-    ∷ is_refused (body_row Wah 40 (0x_c0000002 ∷ []) 40) 8 0 0
-    ∷ is_row (body_row Wah 64 (0x7_fFFFFFF ∷ 0 ∷ 3 ∷ []) 30) 1 0 30
-    ∷ is_row (body_row Wah 64 (0x7_fFFFFFF ∷ 0 ∷ 3 ∷ []) 31) 0 31 61
-    ∷ is_row (body_row Wah 64 (0x7_fFFFFFF ∷ 0 ∷ 3 ∷ []) 62) 1 62 63
+    ∷ is_row (body_row Wah 40 (0xC0000002 ∷ []) 39) 1 0 39
+    ∷ is_refused (body_row Wah 40 (0xC0000002 ∷ []) 40) 8 0 0
+    ∷ is_row (body_row Wah 64 (0x7FFFFFFF ∷ 0 ∷ 3 ∷ []) 30) 1 0 30
+    ∷ is_row (body_row Wah 64 (0x7FFFFFFF ∷ 0 ∷ 3 ∷ []) 31) 0 31 61
+    ∷ is_row (body_row Wah 64 (0x7FFFFFFF ∷ 0 ∷ 3 ∷ []) 62) 1 62 63
     ∷ is_row (body_row Wah 124 (0x80000002 ∷ 0x80000001 ∷ 0 ∷ []) 61) 0 0 61
     ∷ is_row (body_row Wah 124 (0x80000002 ∷ 0x80000001 ∷ 0 ∷ []) 62) 0 62 92
     ∷ is_row (body_row Wah 124 (0x80000002 ∷ 0x80000001 ∷ 0 ∷ []) 93) 0 93 123

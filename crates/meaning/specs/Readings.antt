@@ -85,18 +85,18 @@ all_pass (c ∷ cs) = passes c && all_pass cs
 abbrev pub looped : List ℕ
 looped =
     1 ∷ 4 ∷ 3 ∷ 9 ∷ 2 ∷ 11 ∷ 2 ∷ 13 ∷ 2
-    ∷ 0x00020000 ∷ 0x3 ∷ 0x00020000 ∷ 0x_e ∷ 0x00020000 ∷ 0x8 ∷ []
+    ∷ 0x00020000 ∷ 0x3 ∷ 0x00020000 ∷ 0xE ∷ 0x00020000 ∷ 0x8 ∷ []
 
 -- the same index with WAH bodies
 abbrev pub looped_wah : List ℕ
-looped_wah = 2 ∷ 4 ∷ 3 ∷ 9 ∷ 1 ∷ 10 ∷ 1 ∷ 11 ∷ 1 ∷ 0x3 ∷ 0x_e ∷ 0x8 ∷ []
+looped_wah = 2 ∷ 4 ∷ 3 ∷ 9 ∷ 1 ∷ 10 ∷ 1 ∷ 11 ∷ 1 ∷ 0x3 ∷ 0xE ∷ 0x8 ∷ []
 
 abbrev pub three : List ℕ
 three = 0 ∷ 1 ∷ 2 ∷ []
 
 -- the two bitmaps of 8 rows of source document 003
 abbrev pub eight : List ℕ
-eight = 1 ∷ 8 ∷ 2 ∷ 7 ∷ 2 ∷ 9 ∷ 2 ∷ 0x00020000 ∷ 0x32 ∷ 0x00020000 ∷ 0x_b0 ∷ []
+eight = 1 ∷ 8 ∷ 2 ∷ 7 ∷ 2 ∷ 9 ∷ 2 ∷ 0x00020000 ∷ 0x32 ∷ 0x00020000 ∷ 0xB0 ∷ []
 
 -- rows 5 and 64 of 96: in canonical form, and with the clean segment as a dirty word
 abbrev pub ninety_six : List ℕ
@@ -118,23 +118,23 @@ readings =
     ∷ encodes Ewah 40 (is_in (0 ∷ 39 ∷ [])) (0x00040000 ∷ 0x00000001 ∷ 0x00000080 ∷ [])
     -- 40 rows, body 00000005: all of them (request 3). The last segment as a dirty word; the same with a pad bit
     ∷ holds Ewah 40 (λ r. true) (0x00000005 ∷ [])
-    ∷ holds Ewah 40 (λ r. true) (0x00020003 ∷ 0x000000_fF ∷ [])
-    ∷ faulty Ewah 40 (0x00020003 ∷ 0x000001_fF ∷ []) 7 1
+    ∷ holds Ewah 40 (λ r. true) (0x00020003 ∷ 0x000000FF ∷ [])
+    ∷ faulty Ewah 40 (0x00020003 ∷ 0x000001FF ∷ []) 7 1
     -- 96 rows: rows 5 and 64, and the same wastefully
     ∷ encodes Ewah 96 (is_in (5 ∷ 64 ∷ [])) ninety_six
     ∷ holds Ewah 96 (is_in (5 ∷ 64 ∷ [])) wasteful
     -- LOOPED: T = 2, the histogram, T = 4, a buffer of one word
     ∷ whole looped
-    ∷ asks looped three 2 (7 ∷ 7 ∷ 7 ∷ []) (0x00020000 ∷ 0x_a ∷ 7 ∷ []) 2 1
+    ∷ asks looped three 2 (7 ∷ 7 ∷ 7 ∷ []) (0x00020000 ∷ 0xA ∷ 7 ∷ []) 2 1
     ∷ counts looped three (0 ∷ 2 ∷ 2 ∷ 0 ∷ replicate 253 0)
     ∷ refuses looped three 4 (7 ∷ 7 ∷ 7 ∷ []) 8 0 0
     ∷ refuses looped three 2 (7 ∷ []) 9 0 2
     -- 8 rows: AND, OR, XOR, ANDNOT, and NOT of the first
     ∷ writes (and eight 0 1 2) (0x00020000 ∷ 0x30 ∷ [])
-    ∷ writes (or eight 0 1 2) (0x00020000 ∷ 0x_b2 ∷ [])
+    ∷ writes (or eight 0 1 2) (0x00020000 ∷ 0xB2 ∷ [])
     ∷ writes (xor eight 0 1 2) (0x00020000 ∷ 0x82 ∷ [])
     ∷ writes (and_not eight 0 1 2) (0x00020000 ∷ 0x02 ∷ [])
-    ∷ writes (not_of eight 0 2) (0x00020000 ∷ 0x_cD ∷ [])
+    ∷ writes (not_of eight 0 2) (0x00020000 ∷ 0xCD ∷ [])
     -- stretches over 96 rows
     ∷ meets Ewah 96 ((0x00000006 ∷ []) ∷ ninety_six ∷ []) 3
     ∷ meets Ewah 96 ((0x00000006 ∷ []) ∷ wasteful ∷ []) 3
@@ -143,15 +143,15 @@ readings =
     ∷ encodes Wah 62 (λ r. false) (0x80000002 ∷ [])
     ∷ encodes Wah 93 (λ r. false) (0x80000003 ∷ [])
     ∷ encodes Wah 31 (λ r. false) (0 ∷ [])
-    ∷ encodes Wah 31 (λ r. true) (0x7_fFFFFFF ∷ [])
-    ∷ encodes Wah 40 (λ r. true) (0x_c0000002 ∷ [])
+    ∷ encodes Wah 31 (λ r. true) (0x7FFFFFFF ∷ [])
+    ∷ encodes Wah 40 (λ r. true) (0xC0000002 ∷ [])
     ∷ encodes Wah 40 (is_in (0 ∷ 39 ∷ [])) (0x00000001 ∷ 0x00000100 ∷ [])
-    ∷ encodes Wah 9 (λ r. true) (0x000001_fF ∷ [])
+    ∷ encodes Wah 9 (λ r. true) (0x000001FF ∷ [])
     -- a fill of one segment is read; a full last segment as a literal, and with a pad bit
     ∷ holds Wah 31 (λ r. false) (0x80000001 ∷ [])
-    ∷ holds Wah 40 (λ r. true) (0x7_fFFFFFF ∷ 0x000001_fF ∷ [])
-    ∷ faulty Wah 40 (0x7_fFFFFFF ∷ 0x7_fFFFFFF ∷ []) 7 1
-    ∷ holds Wah 62 (λ r. true) (0x7_fFFFFFF ∷ 0x7_fFFFFFF ∷ [])
+    ∷ holds Wah 40 (λ r. true) (0x7FFFFFFF ∷ 0x000001FF ∷ [])
+    ∷ faulty Wah 40 (0x7FFFFFFF ∷ 0x7FFFFFFF ∷ []) 7 1
+    ∷ holds Wah 62 (λ r. true) (0x7FFFFFFF ∷ 0x7FFFFFFF ∷ [])
     -- a fill of no segments, with segments left and with none; a literal and a fill past the end; an early end
     ∷ faulty Wah 62 (0x80000000 ∷ 0x80000002 ∷ []) 10 0
     ∷ faulty Wah 62 (0x80000002 ∷ 0x80000000 ∷ []) 10 1
@@ -160,7 +160,7 @@ readings =
     ∷ faulty Wah 62 (0x80000001 ∷ []) 6 1
     -- the LOOPED example in WAH; stretches over fills and literals: each word is a piece, equal fills side by side too
     ∷ whole looped_wah
-    ∷ asks looped_wah three 2 (7 ∷ 7 ∷ []) (0x_a ∷ 7 ∷ []) 1 1
+    ∷ asks looped_wah three 2 (7 ∷ 7 ∷ []) (0xA ∷ 7 ∷ []) 1 1
     ∷ counts looped_wah three (0 ∷ 2 ∷ 2 ∷ 0 ∷ replicate 253 0)
     ∷ refuses looped_wah three 2 [] 9 0 1
     ∷ meets Wah 93 ((0x80000003 ∷ []) ∷ (0x80000002 ∷ 0x20 ∷ []) ∷ []) 2

@@ -53,7 +53,7 @@ fn word(op: Operation, table: &[u32], base: u32, most: u32, planes: [u32; PLANES
     match op {
         Operation::AtLeast(t) => {
             if t <= base {
-                return 0x_fFFF_FFFF;
+                return 0xFFFF_FFFF;
             }
             counters::at_least(planes, most, t - base)
         }

@@ -30,7 +30,7 @@ fn filled(on: bool) -> u32
     ensures { (j : ℕ) → j < word_bits → is_set result j ≡ on }
 {
     if on {
-        return 0x_fFFF_FFFF;
+        return 0xFFFF_FFFF;
     }
     0
 }

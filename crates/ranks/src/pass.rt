@@ -36,7 +36,7 @@ fn kept(o: u32, at: u32, low: u32) -> u32
     ensures { Kept o at low result }
 {
     if o < at {
-        return 0x_fFFF_FFFF;
+        return 0xFFFF_FFFF;
     }
     if o == at {
         return bits::low_ones(low);

@@ -65,7 +65,7 @@ pub fn count(index: &[u32], list: &[u32], value: u32) -> u32
     ensures { result ≡ count_below (row_count index.now)
         (rows_level index.now list.now value) }
 {
-    scan(index, list, value, 0x_fFFF_FFFF).count
+    scan(index, list, value, 0xFFFF_FFFF).count
 }
 
 // The row where those that exist and have the value are cut: just `take` of them come before it.

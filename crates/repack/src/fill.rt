@@ -75,7 +75,7 @@ fn put_whole(out: &mut [u32], s: Filler, value: u32, words: u32) -> Filler
     let held = s.packer;
     let done = s.done;
     let end = done + words as usize;
-    store(out, done, end, value * 0x_fFFF_FFFF);
+    store(out, done, end, value * 0xFFFF_FFFF);
     Filler {
         done: end,
         packer: held,

@@ -61,7 +61,7 @@ fn all_mixed(ws: &[u32]) -> bool
         if x == 0 {
             return false;
         }
-        if x == 0x_fFFF_FFFF {
+        if x == 0xFFFF_FFFF {
             return false;
         }
         i += 1;

@@ -15,7 +15,7 @@ fn short_bodies() {
     cases::compresses(
         Format::Ewah,
         64,
-        &[0x_fFFF_FFFF, 0x_fFFF_FFFF],
+        &[0xFFFF_FFFF, 0xFFFF_FFFF],
         1,
         &[0x0000_0005, 7, 7, 7],
     );
@@ -27,7 +27,7 @@ fn forty_rows() {
     cases::compresses(
         Format::Ewah,
         40,
-        &[0x_fFFF_FFFF, 0x_fF],
+        &[0xFFFF_FFFF, 0xFF],
         1,
         &[0x0000_0005, 7, 7, 7],
     );
@@ -37,16 +37,16 @@ fn forty_rows() {
         40,
         &[0x0000_0005],
         2,
-        &[0x_fFFF_FFFF, 0x_fF, 7, 7],
+        &[0xFFFF_FFFF, 0xFF, 7, 7],
     );
     cases::expands(
         Format::Ewah,
         40,
-        &[0x0002_0003, 0x_fF],
+        &[0x0002_0003, 0xFF],
         2,
-        &[0x_fFFF_FFFF, 0x_fF, 7, 7],
+        &[0xFFFF_FFFF, 0xFF, 7, 7],
     );
-    cases::faulty(Format::Ewah, &[0x0002_0003, 0x1_fF], 40, 7, 1);
+    cases::faulty(Format::Ewah, &[0x0002_0003, 0x1FF], 40, 7, 1);
 }
 
 // Rows 5 and 64 of 96, in canonical form and wastefully.
@@ -74,7 +74,7 @@ fn looped() {
         0x0002_0000,
         3,
         0x0002_0000,
-        0x_e,
+        0xE,
         0x0002_0000,
         8,
     ];
@@ -83,7 +83,7 @@ fn looped() {
     counts[1] = 2;
     counts[2] = 2;
     cases::sound(&index);
-    cases::threshold(&index, &list, 2, 2, 1, &[0x0002_0000, 0x_a, 7, 7]);
+    cases::threshold(&index, &list, 2, 2, 1, &[0x0002_0000, 0xA, 7, 7]);
     cases::histogram(&index, &list, &counts);
     cases::refuses(&index, &list, 4, &mut [7, 7], &[7, 7], 8, 0);
     cases::refuses(&index, &list, 2, &mut [7], &[7], 9, 2);
@@ -91,20 +91,20 @@ fn looped() {
 
 // Two bitmaps of 8 rows, of the same document.
 fn eight_rows() {
-    let index = [1, 8, 2, 7, 2, 9, 2, 0x0002_0000, 0x32, 0x0002_0000, 0x_b0];
+    let index = [1, 8, 2, 7, 2, 9, 2, 0x0002_0000, 0x32, 0x0002_0000, 0xB0];
     cases::and(&index, 0, 1, 2, &[0x0002_0000, 0x30, 7, 7]);
-    cases::or(&index, 0, 1, 2, &[0x0002_0000, 0x_b2, 7, 7]);
+    cases::or(&index, 0, 1, 2, &[0x0002_0000, 0xB2, 7, 7]);
     cases::xor(&index, 0, 1, 2, &[0x0002_0000, 0x82, 7, 7]);
     cases::and_not(&index, 0, 1, 2, &[0x0002_0000, 0x02, 7, 7]);
-    cases::not(&index, 0, 2, &[0x0002_0000, 0x_cD, 7, 7]);
+    cases::not(&index, 0, 2, &[0x0002_0000, 0xCD, 7, 7]);
 }
 
 // Their parts of the index, and that there is no third.
 fn parts() {
-    let index = [1, 8, 2, 7, 2, 9, 2, 0x0002_0000, 0x32, 0x0002_0000, 0x_b0];
+    let index = [1, 8, 2, 7, 2, 9, 2, 0x0002_0000, 0x32, 0x0002_0000, 0xB0];
     let none = [0];
     cases::bitmap(&index, 0, &[0x0002_0000, 0x32]);
-    cases::bitmap(&index, 1, &[0x0002_0000, 0x_b0]);
+    cases::bitmap(&index, 1, &[0x0002_0000, 0xB0]);
     cases::bitmap(&index, 2, &none[0..0]);
 }
 
@@ -132,23 +132,23 @@ fn stretches() {
 // past the end.
 fn wah_bodies() {
     cases::compresses(Format::Wah, 62, &[0, 0], 1, &[0x8000_0002, 7, 7, 7]);
-    cases::compresses(Format::Wah, 31, &[0x7_fFF_FFFF], 1, &[0x7_fFF_FFFF, 7, 7, 7]);
+    cases::compresses(Format::Wah, 31, &[0x7FFF_FFFF], 1, &[0x7FFF_FFFF, 7, 7, 7]);
     cases::compresses(
         Format::Wah,
         40,
-        &[0x_fFFF_FFFF, 0x_fF],
+        &[0xFFFF_FFFF, 0xFF],
         1,
-        &[0x_c000_0002, 7, 7, 7],
+        &[0xC000_0002, 7, 7, 7],
     );
     cases::expands(
         Format::Wah,
         40,
-        &[0x7_fFF_FFFF, 0x1_fF],
+        &[0x7FFF_FFFF, 0x1FF],
         2,
-        &[0x_fFFF_FFFF, 0x_fF, 7, 7],
+        &[0xFFFF_FFFF, 0xFF, 7, 7],
     );
     cases::faulty(Format::Wah, &[0x8000_0002, 0x8000_0000], 62, 10, 1);
-    cases::faulty(Format::Wah, &[0x7_fFF_FFFF, 0x7_fFF_FFFF], 40, 7, 1);
+    cases::faulty(Format::Wah, &[0x7FFF_FFFF, 0x7FFF_FFFF], 40, 7, 1);
     cases::faulty(Format::Wah, &[0x8000_0003], 62, 6, 0);
 }
 
@@ -158,7 +158,7 @@ fn rewriting() {
         Format::Wah,
         Format::Ewah,
         40,
-        &[0x7_fFF_FFFF, 0x1_fF],
+        &[0x7FFF_FFFF, 0x1FF],
         1,
         &[5, 7, 7, 7],
     );
@@ -168,24 +168,24 @@ fn rewriting() {
         40,
         &[5],
         1,
-        &[0x_c000_0002, 7, 7, 7],
+        &[0xC000_0002, 7, 7, 7],
     );
     cases::rewrites(
         Format::Wah,
         Format::Wah,
         40,
-        &[0x7_fFF_FFFF, 0x1_fF],
+        &[0x7FFF_FFFF, 0x1FF],
         1,
-        &[0x_c000_0002, 7, 7, 7],
+        &[0xC000_0002, 7, 7, 7],
     );
 }
 
 // LOOPED with WAH bodies.
 fn looped_wah() {
-    let index = [2, 4, 3, 9, 1, 10, 1, 11, 1, 3, 0x_e, 8];
+    let index = [2, 4, 3, 9, 1, 10, 1, 11, 1, 3, 0xE, 8];
     let list = [0, 1, 2];
     cases::sound(&index);
-    cases::threshold(&index, &list, 2, 1, 1, &[0x_a, 7, 7, 7]);
+    cases::threshold(&index, &list, 2, 1, 1, &[0xA, 7, 7, 7]);
 }
 
 fn main() {

@@ -26,7 +26,7 @@ pub fn read(x: u32) -> Fill
 {
     Fill {
         value: (x >> 30) & 1,
-        count: x & 0x3_fFF_FFFF,
+        count: x & 0x3FFF_FFFF,
     }
 }
 
@@ -35,7 +35,7 @@ pub fn segment(value: u32) -> u32
     requires { value < 2 }
     ensures { result ≡ fill 31 value }
 {
-    value * 0x7_fFF_FFFF
+    value * 0x7FFF_FFFF
 }
 
 // How many segments a word spells.

@@ -63,7 +63,7 @@ pub fn grow_segment(w: Writer, x: u32) -> Writer
     requires { (w.used < 2 ^ 62) × (w.last.clean < most_fill) }
     ensures { Grown w (kind 31 x ∷ []) result }
 {
-    if rows::is_clean(x, 0x7_fFF_FFFF) {
+    if rows::is_clean(x, 0x7FFF_FFFF) {
         return grow_run(w, x & 1, 1);
     }
     grow_mixed(w)
@@ -112,7 +112,7 @@ pub fn push_segment(out: &mut [u32], w: Writer, x: u32, mask: u32) -> Writer
     ensures { (real : ℕ) → mask ≡ 2 ^ real - 1
         → Pushed real out.old out.new w (kind 31 x ∷ []) result }
 {
-    if rows::is_clean(x, 0x7_fFF_FFFF) {
+    if rows::is_clean(x, 0x7FFF_FFFF) {
         return push_run(out, w, x & 1, 1, mask);
     }
     push_mixed(out, w, x)

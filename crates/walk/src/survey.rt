@@ -28,7 +28,7 @@ pub fn nothing() -> Survey
     ensures { (ns : List ℕ) → Surveyed ns 0 result }
 {
     Survey {
-        least: 0x_fFFF_FFFF,
+        least: 0xFFFF_FFFF,
         ones: 0,
         dirty: 0,
         planes: [0; PLANES],

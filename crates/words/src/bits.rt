@@ -17,7 +17,7 @@ pub fn low_ones(k: u32) -> u32
     ensures { result ≡ 2 ^ k - 1 }
 {
     if k == 32 {
-        return 0x_fFFF_FFFF;
+        return 0xFFFF_FFFF;
     }
     (1 << k) - 1
 }

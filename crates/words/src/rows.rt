@@ -51,8 +51,8 @@ pub fn full(format: Format) -> u32
     ensures { result ≡ all_set (width format) }
 {
     match format {
-        Format::Ewah => 0x_fFFF_FFFF,
-        Format::Wah => 0x7_fFF_FFFF,
+        Format::Ewah => 0xFFFF_FFFF,
+        Format::Wah => 0x7FFF_FFFF,
     }
 }
 

@@ -26,7 +26,7 @@ loop-holds : tie.Need-loop-init invariant-loop decreases-loop
 loop-holds c =
     let a = c.before.before.args in (
       omega arith,
-      carrying-none 1 _ _ 0x_fFFFFFFF one_bit,
+      carrying-none 1 _ _ 0xFFFFFFFF one_bit,
       filling-none (pair_value Difference) a.n c.exist.ensures,
     )
 
