@@ -1,6 +1,8 @@
 // A column's next segments as a block: a row of words for each place. The words of row 0 say which rows of the bitmaps exist, those of
 // row i + 1 have digit i of their values. Whole rows of words are taken into local arrays, at which nothing else points, so that the
 // machine works on many words at once.
+#![tactic(auto)]
+
 ghost use Rattle.std.specs.Prelude.{◌≡◌, ◌<◌, length};
 ghost use Rattle.meaning.specs.Limits.{most_value_column, block_words};
 ghost use Rattle.column_meaning.specs.Column.{pair_value};

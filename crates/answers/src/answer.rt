@@ -6,49 +6,49 @@ use crate::refusal::{Checked, Refusal};
 use meaning::{HISTOGRAM_COUNTS, Row};
 
 // Whether a row is set, and the first and last row of its piece.
-#[derive(Drop)]
+#[derive(Clone, Copy)]
 pub enum Flag {
     Is(Row),
     Refused(Refusal),
 }
 
 // A count, or a row number.
-#[derive(Drop)]
+#[derive(Clone, Copy)]
 pub enum Number {
     Is(u32),
     Refused(Refusal),
 }
 
 // The nth set row, or that no more than n rows are set.
-#[derive(Drop)]
+#[derive(Clone, Copy)]
 pub enum Found {
     Row(u32),
     Past,
 }
 
 // A value of a column.
-#[derive(Drop)]
+#[derive(Clone, Copy)]
 pub enum Value {
     Is(u64),
     Refused(Refusal),
 }
 
 // A value of a signed column.
-#[derive(Drop)]
+#[derive(Clone, Copy)]
 pub enum SignedValue {
     Is(i64),
     Refused(Refusal),
 }
 
 // How many words were written, at the front of the buffer.
-#[derive(Drop)]
+#[derive(Clone, Copy)]
 pub enum Written {
     Words(usize),
     Refused(Refusal),
 }
 
 // How many words were written, at the front of the buffer, and how many stretches the answer was made of.
-#[derive(Drop)]
+#[derive(Clone, Copy)]
 pub enum Answered {
     Words(usize, u32),
     Refused(Refusal),

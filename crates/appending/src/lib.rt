@@ -1,5 +1,7 @@
 // A batch for a writer whose state and buffer the caller keeps: what is refused, in order, and the step by value, which
 // gives the state's new numbers with the answer.
+#![tactic(auto)]
+
 ghost use Rattle.std.specs.Prelude.{◌≡◌, Bool, ℕ, ◌≤◌, length};
 ghost use Rattle.meaning.specs.Limits.{most_rows};
 ghost use Rattle.answers.specs.Told.{Wrote, refusal};
@@ -91,7 +93,7 @@ fn answer_batch(
 }
 
 // The answer, and the state's rows and words afterwards: as they were where it is a refusal.
-#[derive(Drop)]
+#[derive(Clone, Copy)]
 pub struct Step {
     pub rows: u64,
     pub words: u64,

@@ -1,5 +1,7 @@
 // A whole index written anew, with bodies of a format.
 // Calls here have a `requires`; the public ones of `zvonurel` test their input first.
+#![tactic(auto)]
+
 ghost use Rattle.std.specs.Prelude.{◌≡◌, true, ◌++◌, ◌+◌, ◌≤◌, ◌<◌, length, drop};
 ghost use Rattle.meaning.specs.Format.{canonical};
 ghost use Rattle.meaning.specs.Index.{row_count, bitmap_count, body_place, rows_at};

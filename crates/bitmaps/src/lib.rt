@@ -1,4 +1,6 @@
 // A bitmap of a sound index: its number, and what is asked of its body.
+#![tactic(auto)]
+
 ghost use Rattle.std.specs.Prelude.{◌≡◌, ◌≤◌, ◌<◌, length};
 ghost use Rattle.meaning.specs.Limits.{head_words};
 ghost use Rattle.meaning.specs.Rows.{count_below};

@@ -1,6 +1,8 @@
 // A count that tests the 32 bits of each dirty word one by one, as a measure of how much faster the library counts:
 // `bench` alone links it, and nothing of the library uses it. It checks the body as the library does, and its answers are
 // the same.
+#![tactic(auto)]
+
 ghost use Rattle.std.specs.Prelude.{◌≡◌};
 ghost use Rattle.meaning.specs.declared.Format.TheVariants.{Ewah};
 ghost use Rattle.meaning.specs.Answer as meaning;

@@ -1,5 +1,7 @@
 // The next segments of one body, as a row of words.
 // Calls here have a `requires`; the public ones of `zvonurel` test their input first.
+#![tactic(auto)]
+
 ghost use Rattle.std.specs.Prelude.{true, false, ◌≡◌, [], ℕ, ◌+◌, ◌≤◌, length, get_or};
 ghost use Rattle.meaning.specs.Limits.{block_segments, block_words};
 ghost use Rattle.ewah.specs.declared.cursor.Piece.TheVariants.{Clean, Dirty};

@@ -1,6 +1,8 @@
 // A row of words, or a run of alike segments, goes to the writer of one body. Mixed segments that the last EWAH
 // marker has room for go there all at once.
 // Calls here have a `requires`; the public ones of `zvonurel` test their input first.
+#![tactic(auto)]
+
 ghost use Rattle.std.specs.Prelude.{◌≡◌, true, false, map, ℕ, ◌+◌, ◌-◌, ◌<◌, ◌≤◌, ◌^◌, length, get_or, replicate};
 ghost use Rattle.std.proofs.Math.Seq.{paste};
 ghost use Rattle.meaning.specs.Limits.{most_dirty};

@@ -8,7 +8,7 @@ use meaning::BLOCK_SEGMENTS;
 use walk::survey;
 
 // So many segments, and whether all of them are alike in every place.
-#[derive(Drop)]
+#[derive(Clone, Copy)]
 pub struct Step {
     pub n: u32,
     pub even: bool,

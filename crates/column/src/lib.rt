@@ -1,5 +1,7 @@
 // One column of a sound index: rows that a slice has and that do not exist, and the value at a row, plain or signed.
 // Calls here have a `requires`; the public ones of `zvonurel` test their input first.
+#![tactic(auto)]
+
 ghost use Rattle.std.specs.Prelude.{◌≡◌, ℕ, ◌≤◌, ◌<◌, length, get_or};
 ghost use Rattle.meaning.specs.Rows.{bit};
 ghost use Rattle.meaning.specs.Index.{format_of, row_count, bitmap_count, rows_at};

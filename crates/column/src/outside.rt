@@ -18,14 +18,14 @@ use meaning::Format;
 use words::{bits, rows};
 
 // The lowest row, or that there is none.
-#[derive(Drop)]
+#[derive(Clone, Copy)]
 pub enum Found {
     Row(u32),
     Nothing,
 }
 
 // What the next segments have: the lowest row, counted from the first of them, or so many segments that have none.
-#[derive(Drop)]
+#[derive(Clone, Copy)]
 pub enum Seen {
     Row(u32),
     Clear(u32),

@@ -1,5 +1,7 @@
 // The contents of an index: its format, its rows, its number of bitmaps, and where each body lies.
 // Calls here have a `requires`; the check of `index`, and behind it the public calls, meet it.
+#![tactic(auto)]
+
 ghost use Rattle.std.specs.Prelude.{◌≡◌, ◌+◌, ◌*◌, ◌≤◌, ◌<◌, length};
 ghost use Rattle.meaning.specs.Limits.{most_bitmaps, head_words, most_contents, word_bytes};
 ghost use Rattle.meaning.specs.Format.{kind_of};

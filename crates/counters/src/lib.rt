@@ -1,5 +1,7 @@
 // A counter of a few bits for each bit of a segment's word, in planes:
 // bit k of the counter of bit j is bit j of planes[k].
+#![tactic(auto)]
+
 ghost use Rattle.std.specs.Prelude.{◌≡◌, ◌&&◌, ℕ, ◌+◌, ◌≤◌, ◌<◌, leb, eqb, length, get_or};
 ghost use Rattle.meaning.specs.Limits.{most_named, histogram_counts, counter_planes, most_counted, most_rows};
 ghost use Rattle.meaning.specs.Rows.{count_below};

@@ -11,7 +11,7 @@ use answers::refusal::{Checked, Refusal};
 use words::rows;
 
 // Past a marker and its dirty words, with so many segments left; or a fault with its number and the place of its word.
-#[derive(Drop)]
+#[derive(Clone, Copy)]
 enum Step {
     Next(usize, u32),
     Fault(u32, usize),

@@ -8,14 +8,14 @@ ghost use Rattle.ewah.specs.Cursors.{Stands};
 use crate::marker;
 
 // What is left of a clean run, with its value, 0 or 1; or a dirty word. A clean run of no segments is the end.
-#[derive(Drop)]
+#[derive(Clone, Copy)]
 pub enum Piece {
     Clean(u32, u32),
     Dirty(u32),
 }
 
 // The piece it stands on, the word behind it, and how many dirty words are due there.
-#[derive(Drop)]
+#[derive(Clone, Copy)]
 pub struct Cursor {
     pub piece: Piece,
     pub next: usize,

@@ -4,7 +4,7 @@ ghost use Rattle.meaning.specs.Segment.{fill};
 ghost use Rattle.meaning.specs.Ewah.{marker};
 ghost use Rattle.ewah.specs.Markers.{FieldsOf, InRange};
 
-#[derive(Drop)]
+#[derive(Clone, Copy)]
 pub struct Marker {
     pub value: u32,
     pub clean: u32,

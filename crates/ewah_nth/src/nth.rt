@@ -39,7 +39,7 @@ fn find(ws: &[u32], k: u32) -> u32
 
 // What the segments of one marker say of a set row that is asked for: it is this row of theirs, or so many set rows are
 // still to pass.
-#[derive(Drop)]
+#[derive(Clone, Copy)]
 pub enum Sought {
     Here(u32),
     Ahead(u32),

@@ -11,7 +11,7 @@ use meaning::{MOST_CLEAN, MOST_DIRTY};
 use words::rows;
 
 // The marker being filled, at word `at`, and how many words are in use.
-#[derive(Drop)]
+#[derive(Clone, Copy)]
 pub struct Writer {
     pub used: usize,
     pub at: usize,

@@ -2,6 +2,8 @@
 // through a packer to the body's own writer. It is measured first, unless the buffer surely has room: nothing is stored
 // before it is known to fit.
 // Calls here have a `requires`; the public ones of `zvonurel` test their input first.
+#![tactic(auto)]
+
 ghost use Rattle.std.specs.Prelude.{Bool, List, ℕ, ◌+◌, ◌≤◌, ◌<◌, length};
 ghost use Rattle.meaning.specs.Limits.{most_rows};
 ghost use Rattle.meaning.specs.declared.Format.TheVariants.{Ewah};

@@ -1,4 +1,6 @@
 // The first and the last row of the piece that a row lies in, from where its segment is written.
+#![tactic(auto)]
+
 ghost use Rattle.std.specs.Prelude.{◌≡◌, ◌+◌, ◌-◌, ◌*◌, ◌≤◌, ◌<◌, min};
 ghost use Rattle.meaning.specs.Limits.{most_rows, most_segments, word_bits};
 ghost use Rattle.meaning.specs.Extent.{extent_of, answer_with};
@@ -6,7 +8,7 @@ ghost use Rattle.meaning.specs.Extent.{extent_of, answer_with};
 use meaning::Row;
 
 // Where a segment is written: its word, and the segments of the piece that has it, `size` of them behind `from` others.
-#[derive(Drop)]
+#[derive(Clone, Copy)]
 pub struct Place {
     pub word: u32,
     pub from: u32,

@@ -1,4 +1,6 @@
 // The answer of a question over a list, into a buffer: it is measured first, unless the buffer surely has room.
+#![tactic(auto)]
+
 ghost use Rattle.std.specs.Prelude.{◌≡◌, true, List, ℕ, ◌≤◌, length};
 ghost use Rattle.meaning.specs.Limits.{most_named_words};
 ghost use Rattle.meaning.specs.Question.{total_words};

@@ -1,5 +1,7 @@
 // The next segments of every place of a list, as rows of words.
 // Calls here have a `requires`; the public ones of `zvonurel` test their input first.
+#![tactic(auto)]
+
 ghost use Rattle.std.specs.Prelude.{true, false, ◌≡◌, ℕ, ◌≤◌, ◌<◌, length};
 ghost use Rattle.meaning.specs.Limits.{most_named, most_value_column, block_segments, block_words};
 ghost use Rattle.meaning.specs.Index.{format_of, bitmap_count, body_at};

@@ -1,4 +1,6 @@
 // The histogram of a list: for each number, how many rows exactly so many of the list have, stretch by stretch.
+#![tactic(auto)]
+
 ghost use Rattle.std.specs.Prelude.{◌≡◌, map, ℕ, ◌+◌, ◌≤◌, ◌<◌, length, get_or};
 ghost use Rattle.meaning.specs.Limits.{most_rows, most_named, histogram_counts, most_segments};
 ghost use Rattle.meaning.specs.Format as format;

@@ -59,7 +59,7 @@ fn check_head(index: &[u32]) -> Checked
 }
 
 // Where the next body has to start; or the place of a wrong word of the entry.
-#[derive(Drop)]
+#[derive(Clone, Copy)]
 enum Step {
     Next(usize),
     Fault(usize),

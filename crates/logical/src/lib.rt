@@ -1,5 +1,7 @@
 // Logical questions of one or two bitmaps of a sound index: each is a question over a list, refused with 8 where a
 // bitmap is not there.
+#![tactic(auto)]
+
 ghost use Rattle.std.specs.Prelude.{◌≡◌, Bool, List, [], ℕ, ◌≤◌, length};
 ghost use Rattle.meaning.specs.Limits.{most_named};
 ghost use Rattle.meaning.specs.Refusal.{Outcome, refuse_if};

@@ -13,7 +13,7 @@ use walk::survey;
 use words::rows;
 
 // How many words the answer has, and how many stretches were passed.
-#[derive(Drop)]
+#[derive(Clone, Copy)]
 pub struct Merged {
     pub words: usize,
     pub stretches: u32,

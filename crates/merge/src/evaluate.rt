@@ -14,7 +14,7 @@ use words::rows;
 
 // A row is in the answer where at least so many of the list have it; where exactly so many have it; where the table
 // has a 1 at the number that have it.
-#[derive(Drop)]
+#[derive(Clone, Copy)]
 pub enum Operation {
     AtLeast(u32),
     Exactly(u32),
@@ -68,7 +68,7 @@ fn word(op: Operation, table: &[u32], base: u32, most: u32, planes: [u32; PLANES
 }
 
 // The segments of the answer in one stretch: a clean run, with its value and its length; or one word.
-#[derive(Drop)]
+#[derive(Clone, Copy)]
 pub enum Part {
     Run(u32, u32),
     Word(u32),

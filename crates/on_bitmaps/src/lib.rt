@@ -1,5 +1,7 @@
 // The public calls on an index and on one bitmap of it, of bodies of the format that word 0 states: the whole index is
 // checked, whatever is asked. `zvonurel` passes them on, and says what every `ensures` settles.
+#![tactic(auto)]
+
 ghost use Rattle.std.specs.Prelude.{◌≡◌, ◌+◌, ◌*◌, length};
 ghost use Rattle.meaning.specs.Limits.{word_bytes};
 ghost use Rattle.meaning.specs.Refusal.{sound};

@@ -1,5 +1,7 @@
 // The public calls on one body alone, of a format: bitmap 0, with places counted in the body; too many rows are refused
 // first. `zvonurel` passes them on, and says what every `ensures` settles.
+#![tactic(auto)]
+
 ghost use Rattle.std.specs.Prelude.{◌≡◌, length};
 ghost use Rattle.meaning.specs.Answer as meaning;
 ghost use Rattle.meaning.specs.Rewriting as rewriting;

@@ -1,5 +1,7 @@
 // The public calls on columns: a list names existence first, then the slices, the lowest first; a number may be named
 // twice. `zvonurel` passes them on, and says what every `ensures` settles.
+#![tactic(auto)]
+
 ghost use Rattle.std.specs.Prelude.{◌≡◌, length};
 ghost use Rattle.column_meaning.specs.Columns as columns;
 ghost use Rattle.meaning.specs.declared.Ranking.TheVariants.{Largest, Smallest};

@@ -1,5 +1,7 @@
 // The public calls on a list of 1 to `MOST_NAMED` bitmap numbers, repeats included, each counted as often as it is named.
 // `zvonurel` passes them on, and says what every `ensures` settles.
+#![tactic(auto)]
+
 ghost use Rattle.std.specs.Prelude.{length};
 ghost use Rattle.meaning.specs.Answer as meaning;
 ghost use Rattle.laws.specs.Demands.{Asked, ThresholdDemand};

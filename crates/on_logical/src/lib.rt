@@ -1,5 +1,7 @@
 // The public calls on two bitmaps of an index, or on one, as a body in canonical form, of the index's format.
 // `zvonurel` passes them on, and says what every `ensures` settles.
+#![tactic(auto)]
+
 ghost use Rattle.std.specs.Prelude.{length};
 ghost use Rattle.meaning.specs.Answer as meaning;
 ghost use Rattle.answers.specs.Told.{Wrote};

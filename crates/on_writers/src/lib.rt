@@ -1,5 +1,7 @@
 // The public calls of a writer that takes rows in batches, whose state and buffer the caller keeps. `zvonurel` passes
 // them on, and says what every `ensures` settles.
+#![tactic(auto)]
+
 ghost use Rattle.std.specs.Prelude.{◌≡◌};
 ghost use Rattle.answers.specs.Told.{Wrote};
 ghost use Rattle.batches.specs.Append as batches;

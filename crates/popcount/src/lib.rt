@@ -1,6 +1,8 @@
 // How many bits of words are set: their population count. The target has no instruction for it, and to count a word by
 // shifts and sums takes many. So blocks of 64 words go through carry-save adders, which leave one word in 16 to be
 // counted; what is behind the last whole block is counted word by word.
+#![tactic(auto)]
+
 ghost use Rattle.std.specs.Prelude.{◌≡◌, ◌+◌, ◌-◌, ◌%◌, ◌≤◌, length, take, drop};
 ghost use Rattle.meaning.specs.Limits.{most_segments};
 ghost use Rattle.meaning.specs.Segment.{ones};

@@ -10,7 +10,7 @@ use meaning::Format;
 use words::rows;
 
 // The format, the rows of a segment, how many segments there are, the word of one with all rows set, and the rows of the last.
-#[derive(Drop)]
+#[derive(Clone, Copy)]
 pub struct Frame {
     pub format: Format,
     pub width: u32,

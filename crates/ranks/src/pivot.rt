@@ -14,7 +14,7 @@ use meaning::{MOST_COLUMN, Ranking};
 use pivots::compare;
 
 // The value, and how many rows that have it are taken.
-#[derive(Drop)]
+#[derive(Clone, Copy)]
 pub struct Pivot {
     pub value: u32,
     pub take: u32,

@@ -13,7 +13,7 @@ use pivots::{compare, count, place};
 use walk::survey;
 
 // How many rows were counted, and, if these are at least as many as were to be found, the row behind the last of those.
-#[derive(Drop)]
+#[derive(Clone, Copy)]
 struct Found {
     count: u32,
     row: u32,

@@ -1,5 +1,7 @@
 // The readings of paper 01 without a star. Their bodies are too long for the prover to compute, so the compiled calls
 // write them, and what they are is printed. The file `stdout` has what the paper says, and the gate compares.
+#![tactic(auto)]
+
 ghost use Rattle.std.specs.Prelude.{◌≤◌, ◌≡◌, length};
 
 use zvonurel::{Format, Number, Refusal, Written};

@@ -7,7 +7,7 @@ use crate::packer;
 use words::bits;
 
 // How many words are whole, and the rows behind them.
-#[derive(Drop)]
+#[derive(Clone, Copy)]
 pub struct Filler {
     pub done: usize,
     pub packer: packer::Packer,

@@ -3,14 +3,14 @@ ghost use Rattle.std.specs.Prelude.{◌≡◌, ◌≤◌, ◌<◌, ◌^◌, ◌%
 ghost use Rattle.repack.specs.Packing.{Added, Split};
 
 // So many rows, as the lowest bits of a word, the first row lowest.
-#[derive(Drop)]
+#[derive(Clone, Copy)]
 pub struct Packer {
     pub word: u64,
     pub have: u32,
 }
 
 // A segment's word, and the packer with the rows behind it.
-#[derive(Drop)]
+#[derive(Clone, Copy)]
 pub struct Taken {
     pub segment: u32,
     pub rest: Packer,

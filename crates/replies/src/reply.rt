@@ -9,7 +9,7 @@ use answers::refusal::{Checked, Refusal};
 use meaning::HISTOGRAM_COUNTS;
 
 #[repr(C)]
-#[derive(Drop)]
+#[derive(Clone, Copy)]
 pub struct ZvChecked {
     pub number: u32,
     pub bitmap: u32,
@@ -18,7 +18,7 @@ pub struct ZvChecked {
 
 // `value` is 1 for a set row and 0 for another; `first` and `last` are the first and last row of its piece.
 #[repr(C)]
-#[derive(Drop)]
+#[derive(Clone, Copy)]
 pub struct ZvFlag {
     pub number: u32,
     pub bitmap: u32,
@@ -29,7 +29,7 @@ pub struct ZvFlag {
 }
 
 #[repr(C)]
-#[derive(Drop)]
+#[derive(Clone, Copy)]
 pub struct ZvNumber {
     pub number: u32,
     pub bitmap: u32,
@@ -38,7 +38,7 @@ pub struct ZvNumber {
 }
 
 #[repr(C)]
-#[derive(Drop)]
+#[derive(Clone, Copy)]
 pub struct ZvValue {
     pub number: u32,
     pub bitmap: u32,
@@ -47,7 +47,7 @@ pub struct ZvValue {
 }
 
 #[repr(C)]
-#[derive(Drop)]
+#[derive(Clone, Copy)]
 pub struct ZvSignedValue {
     pub number: u32,
     pub bitmap: u32,
@@ -56,7 +56,7 @@ pub struct ZvSignedValue {
 }
 
 #[repr(C)]
-#[derive(Drop)]
+#[derive(Clone, Copy)]
 pub struct ZvWritten {
     pub number: u32,
     pub bitmap: u32,
@@ -65,7 +65,7 @@ pub struct ZvWritten {
 }
 
 #[repr(C)]
-#[derive(Drop)]
+#[derive(Clone, Copy)]
 pub struct ZvAnswered {
     pub number: u32,
     pub bitmap: u32,
@@ -76,7 +76,7 @@ pub struct ZvAnswered {
 
 // The part of an index that begins at word `start` and has `length` words.
 #[repr(C)]
-#[derive(Drop)]
+#[derive(Clone, Copy)]
 pub struct ZvPart {
     pub number: u32,
     pub bitmap: u32,

@@ -1,6 +1,8 @@
 // The writer found again in an EWAH body: whether the body is in canonical form, and then the writer as it was before
 // the segment that is not whole, with that segment's rows.
 // Calls here have a `requires`; the public ones of `zvonurel` test their input first.
+#![tactic(auto)]
+
 ghost use Rattle.std.specs.Prelude.{◌≡◌, List, ℕ, ◌-◌, ◌≤◌};
 ghost use Rattle.meaning.specs.Limits.{most_rows};
 ghost use Rattle.laws.specs.Laws.{EwahFacts};
@@ -16,13 +18,13 @@ use words::bits;
 
 // The writer of the segments that are whole, and the rows behind them, fewer than a segment's, as the lowest bits of a
 // word.
-#[derive(Drop)]
+#[derive(Clone, Copy)]
 pub struct Place {
     pub writer: Writer,
     pub part: u32,
 }
 
-#[derive(Drop)]
+#[derive(Clone, Copy)]
 pub enum Resumed {
     Not,
     At(Place),

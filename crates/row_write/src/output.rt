@@ -16,7 +16,7 @@ use repack::packer;
 use repack::packer::Packer;
 use words::{bits, rows};
 
-#[derive(Drop)]
+#[derive(Clone, Copy)]
 pub struct Output {
     pub writer: Writer,
     pub packer: Packer,

@@ -1,6 +1,8 @@
 // The starred readings of paper 01 ("Readings to test by"), asked of the public calls. What a reading expects is
 // computed from the definitions; that the call gives it is proved of the call's contract alone; and the run tries it
 // on the compiled code.
+#![tactic(auto)]
+
 use meaning::HISTOGRAM_COUNTS;
 use zvonurel::Format;
 

@@ -13,7 +13,7 @@ use meaning::Format;
 use words::{bits, rows};
 
 // Where the listing stands: the next row, which bit of its segment that is, and the cursor at the segment.
-#[derive(Drop)]
+#[derive(Clone, Copy)]
 pub struct Listing {
     pub cursor: Cursor,
     pub row: u32,
@@ -21,7 +21,7 @@ pub struct Listing {
 }
 
 // Where it stands after a chunk of so many bytes.
-#[derive(Drop)]
+#[derive(Clone, Copy)]
 pub struct Filled {
     pub state: Listing,
     pub bytes: usize,

@@ -1,4 +1,6 @@
 // The program of paper 01: T and an index on standard input, and the rows that at least T of its bitmaps have on standard output.
+#![tactic(auto)]
+
 ghost use Rattle.std.specs.Prelude.{◌+◌, ◌≤◌, ◌≡◌, length};
 ghost use Rattle.threshold.specs.Output.{most_bytes};
 ghost use Rattle.text.specs.Listings.{Covers};

@@ -12,7 +12,7 @@ use answers::answer::Answered;
 use meaning::{Format, MOST_BITMAPS, MOST_NAMED};
 
 // The chunk's bytes; the body's words, at the front of the answer buffer; its rows, none on a refusal; and its format.
-#[derive(Drop)]
+#[derive(Clone, Copy)]
 pub struct Begun {
     pub bytes: usize,
     pub words: usize,

@@ -12,7 +12,7 @@ use meaning::Format;
 use words::rows;
 
 // Past a word, with so many segments left; or a fault at it, with its number.
-#[derive(Drop)]
+#[derive(Clone, Copy)]
 enum Step {
     Next(u32),
     Fault(u32),

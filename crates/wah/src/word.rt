@@ -7,7 +7,7 @@ ghost use Rattle.meaning.specs.Piece.{piece_size};
 ghost use Rattle.meaning.specs.Wah.{is_fill, fill_word, piece_of};
 ghost use Rattle.wah.specs.Words.{FieldsOf};
 
-#[derive(Drop)]
+#[derive(Clone, Copy)]
 pub struct Fill {
     pub value: u32,
     pub count: u32,

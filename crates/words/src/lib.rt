@@ -1,3 +1,5 @@
 // Single words: the bits of one, and how rows fill words of 32 bits.
+#![tactic(auto)]
+
 pub mod bits;
 pub mod rows;

@@ -6,6 +6,8 @@
 // outcomes that they name are defined in `meaning`'s `specs/Answer.antt` and `specs/Rewriting.antt`, in `column_meaning`'s
 // `specs/Columns.antt` and in `batches`' `specs/Append.antt`; `answers`' `specs/Told.antt` says which outcome an answer
 // tells.
+#![tactic(auto)]
+
 pub use answers::answer::{Answered, Flag, Histogram, Number, SignedValue, Value, Written};
 pub use answers::refusal::{Checked, Refusal};
 pub use batches::AppendState;

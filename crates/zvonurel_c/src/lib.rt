@@ -5,6 +5,8 @@
 // A slice is a pointer and a number of words. Each `ensures` cites the same outcome as the public call's, and settles
 // every field of what is returned and every word of a lent buffer; `specs/Exported.antt` of the crate `replies` says
 // how an outcome is told in numbers.
+#![tactic(auto)]
+
 ghost use Rattle.std.specs.Prelude.{length};
 ghost use Rattle.meaning.specs.declared.Format.TheVariants.{Ewah};
 ghost use Rattle.meaning.specs.Answer as meaning;
