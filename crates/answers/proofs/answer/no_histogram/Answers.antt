@@ -2,12 +2,8 @@
 use mathlib.Core.Path.{refl}
 use Rattle.answers.specs.Told.{histogram_told}
 use Rattle.meaning.specs.Answer.{histogram_reported}
-use Rattle.answers.proofs.answer.no_histogram.Statement.{statement}
-use Rattle.answers.proofs.answer.no_histogram.Tie as tie
+use Rattle.answers.proofs.answer.no_histogram.Goals as goal
 
-returns : tie.Need-returns
+pub returns : goal.returns
 unfolding histogram_told histogram_reported
 returns c = record { told = refl; counts-are = refl }
-
-pub no-histogram-spec : {M : Type 1} → statement M
-no-histogram-spec = tie.close (tie.spec returns)
