@@ -10,7 +10,7 @@ use crate::rows;
 use meaning::{BLOCK_SEGMENTS, BLOCK_WORDS};
 
 // One digit of the sums, and the carries to the next.
-#[derive(Drop)]
+#[derive(Clone, Copy)]
 struct Sums {
     digits: [u32; BLOCK_SEGMENTS],
     carries: [u32; BLOCK_SEGMENTS],

@@ -55,7 +55,7 @@ pub enum Answered {
 }
 
 // For each c from 0 to the most that a list can name the number of rows that exactly c of the list have; all zeros where it was refused, and why.
-#[derive(Drop)]
+#[derive(Clone, Copy)]
 pub struct Histogram {
     pub checked: Checked,
     pub counts: [u32; HISTOGRAM_COUNTS],

@@ -17,7 +17,7 @@ use meaning::{
 
 // Five numbers for each writer: the words in use, the last marker's place, and its three fields; in WAH those of the
 // run that the words end with.
-#[derive(Drop)]
+#[derive(Clone, Copy)]
 pub struct Writers {
     pub numbers: [usize; WRITERS_NUMBERS],
 }

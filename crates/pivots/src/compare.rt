@@ -9,7 +9,7 @@ use adder::rows;
 use meaning::{BLOCK_SEGMENTS, BLOCK_WORDS, Ranking};
 
 // Of the rows of a block those whose value comes before the pivot's, and those that have it.
-#[derive(Drop)]
+#[derive(Clone, Copy)]
 pub struct Compared {
     pub ahead: [u32; BLOCK_SEGMENTS],
     pub same: [u32; BLOCK_SEGMENTS],

@@ -12,7 +12,7 @@ use crate::vector::{LANES, Sums};
 const PAIR: usize = 2 * LANES;
 
 // The planes by the weight of their digits; `sixteens` are the carries of the last block, and no plane.
-#[derive(Drop)]
+#[derive(Clone, Copy)]
 pub struct Planes {
     pub ones: [u32; LANES],
     pub twos: [u32; LANES],

@@ -23,7 +23,7 @@ pub fn load(ws: &[u32], at: usize) -> [u32; LANES]
 }
 
 // At each place the sum of three bits, as two digits.
-#[derive(Drop)]
+#[derive(Clone, Copy)]
 pub struct Sums {
     pub digits: [u32; LANES],
     pub carries: [u32; LANES],

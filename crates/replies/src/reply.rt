@@ -87,7 +87,7 @@ pub struct ZvPart {
 
 // `counts` has for each c from 0 to the most that a list can name how many rows exactly c of the list have; all 0 on a refusal.
 #[repr(C)]
-#[derive(Drop)]
+#[derive(Clone, Copy)]
 pub struct ZvHistogram {
     pub number: u32,
     pub bitmap: u32,

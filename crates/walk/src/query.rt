@@ -10,14 +10,14 @@ use meaning::{PLACE_NUMBERS, QUERY_NUMBERS, SHORT_NUMBERS};
 // Four numbers for each place of a list: what the cursor's piece is (its clean value, or 2 for a dirty word), what is left of
 // the run or the word, the next word, and the dirty words due there. The functions over them are lent the array as a slice, so
 // that they serve a query of any length.
-#[derive(Drop)]
+#[derive(Clone, Copy)]
 pub struct Query {
     pub numbers: [u32; QUERY_NUMBERS],
     pub len: usize,
 }
 
 // The same for a short list: less is cleared for it.
-#[derive(Drop)]
+#[derive(Clone, Copy)]
 pub struct ShortQuery {
     pub numbers: [u32; SHORT_NUMBERS],
     pub len: usize,

@@ -15,7 +15,7 @@ use meaning::{Format, PLANES};
 
 // The fewest segments that a piece has left, the places in a run of ones, those on a dirty word, and for each row the
 // dirty words that have it, as counters.
-#[derive(Drop)]
+#[derive(Clone, Copy)]
 pub struct Survey {
     pub least: u32,
     pub ones: u32,
