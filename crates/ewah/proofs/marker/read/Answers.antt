@@ -3,10 +3,9 @@ use Prim.Native.Nat.{◌/◌}
 use lib.Bits.{and_mask}
 use native.Mathlib.Omega.{arith}
 use Rattle.meaning.specs.Ewah.{value_of, clean_of, dirty_of}
-use Rattle.ewah.proofs.marker.read.Statement.{statement}
-use Rattle.ewah.proofs.marker.read.Tie as tie
+use Rattle.ewah.proofs.marker.read.Goals as goal
 
-returns : tie.Need-returns
+pub returns : goal.returns
 unfolding value_of clean_of dirty_of
 returns c =
     let m = c.args.m in
@@ -19,6 +18,3 @@ returns c =
       dirty-is = omega arith;
       in-range = record { value_low = omega arith; clean-low = omega arith; dirty-low = omega arith };
     }
-
-pub read_spec : {M : Type 1} → statement M
-read_spec = tie.close (tie.spec returns)

@@ -1,0 +1,12 @@
+-- `adder::rows::exist` meets its contract: by `existing`, the row put is what exists in both.
+-- Assumes nothing.
+use Rattle.adder.proofs.Filling.{existing}
+use borrow.Author.Rules.{rules}
+use Rattle.adder.proofs.rows.exist.Goals as goal
+
+pub returns : goal.returns
+returns c =
+    let put = c.put_both in
+    let second = c.row-2 in
+    let first = c.row in
+    existing first.ensures second.ensures put.ensures c.requires.2 c.row-3.ensures

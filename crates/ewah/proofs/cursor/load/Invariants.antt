@@ -1,0 +1,18 @@
+-- `ewah::cursor::load` meets its contract. The loop's invariant: the pieces from the marker at word `at` on are those that
+-- were asked for.
+-- Assumes nothing.
+use Prim.Native.Nat.{◌-◌, ◌≤◌}
+use mathlib.Core.Path.{◌≡◌, refl}
+use lib.ListN.{length, drop}
+use Rattle.meaning.specs.Ewah.{pieces}
+use Rattle.meaning.specs.declared.Format.TheVariants.{Ewah}
+use Rattle.ewah.proofs.Pieces.{at-end, on-run, on_none, on-idle}
+use borrow.Author.Rules.{rules}
+use native.Mathlib.Omega.{arith}
+use Rattle.ewah.proofs.cursor.load.Given as goal
+
+abbrev pub invariant-loop-at : goal.invariant-loop-at
+invariant-loop-at l = (l.at ≤ length l.body) × (pieces 0 (drop l.at l.body) ≡ pieces 0 (drop l.next l.body))
+
+abbrev pub decreases-loop-at : goal.decreases-loop-at
+decreases-loop-at l = length l.body - l.at
