@@ -1,0 +1,15 @@
+-- `repack::fill::store` meets its contract. The invariant: the words before i are as they are to be. Assumes nothing.
+use Prim.Native.Nat.{ℕ, ◌-◌, ◌≤◌}
+use mathlib.Core.Path.{◌≡◌, subst}
+use lib.ListN.{length, length-set}
+use native.Mathlib.Omega.{arith}
+use borrow.Author.Rules.{rules}
+use Rattle.repack.specs.Filling.{Stored}
+use Rattle.repack.proofs.RowsPut.{stored-none, stored_next}
+use Rattle.repack.proofs.fill.store.Given as goal
+
+abbrev pub invariant-loop-i : goal.invariant-loop-i
+invariant-loop-i l = (l.from ≤ l.i) × (l.i ≤ l.to) × (length l.out ≡ length l.initial.out) × Stored l.x l.from l.initial.out l.out l.i
+
+abbrev pub decreases-loop-i : goal.decreases-loop-i
+decreases-loop-i l = l.to - l.i
