@@ -113,21 +113,21 @@ module _ (index : List ℕ) (G : Format) (f : IndexFacts index) where
 
 module _ (index : List ℕ) (f : IndexFacts index) (k : ℕ) (h : k < bitmap_count index)
     (F : Format) (R : ℕ) (b : List ℕ)
-    (is-format : F ≡ format_of index) (is-rows : R ≡ row_count index) (is_Is_body : b ≡ body_at index k) where
+    (is-format : F ≡ format_of index) (is-rows : R ≡ row_count index) (is-body : b ≡ body_at index k) where
   -- a body is sound
   pub read-sound : (R ≤ most_rows) × SoundFacts F R b
-  read-sound = rw (is-format, is-rows, is_Is_body) (f.head.few-rows, f.bodies k h)
+  read-sound = rw (is-format, is-rows, is-body) (f.head.few-rows, f.bodies k h)
 
   -- and has the rows of its bitmap
   pub read-rows : (G : Format) → canonical G R (rows_of F b) ≡ canonical G (row_count index) (rows_at index k)
   unfolding rows_at
-  read-rows G = rw (is-format, is-rows, is_Is_body)
+  read-rows G = rw (is-format, is-rows, is-body)
 
   pub read-rewritten : (G : Format) (old out : List ℕ) (store : Bool) (n : ℕ)
       → Rewritten G R (rows_of F b) old store out n
       → Rewritten G (row_count index) (rows_at index k) old store out n
   unfolding rows_at
-  read-rewritten G old out store n w = rw (is-format, is-rows, is_Is_body) at w
+  read-rewritten G old out store n w = rw (is-format, is-rows, is-body) at w
 
 -- ---- what is told
 

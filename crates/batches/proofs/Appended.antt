@@ -22,7 +22,7 @@ use Rattle.batches.specs.Append.{in_use, Batch, followed, rows_with, state_after
 use Rattle.batches.specs.AppendLaws.{Matches, body_with, kept_words, kept_rows, NoneRefused, AllPlain, Holds, AppendLaws}
 use Rattle.batches.proofs.Following.{follow-old, follow-ext, follow-none, follow-assoc, tests-canonical, not-canonical, matches, not-mismatched}
 use Rattle.batches.proofs.Ordered.{order, only, numbered, begun-matches, first-is-compress}
-use Rattle.batches.proofs.OneBatch.{used-words, laid-length, laid-match, taken-batch, accepted, kept_with, left_by, refused-keeps, by-outcome, none-keeps, batch-grows}
+use Rattle.batches.proofs.OneBatch.{used-words, laid-length, laid-match, taken-batch, accepted, kept_with, left_by_lem, refused-keeps, by-outcome, none-keeps, batch-grows}
 
 -- ---- a chain never gets shorter
 
@@ -132,7 +132,7 @@ module _ (old : List ℕ) (R : ℕ) (p : ℕ → Bool) (few : R ≤ most_rows) (
         let t = taken-batch K.state K.buffer b words e in
         let l : length C ≤ length words = omega (arith, longer, ap length (t.is ∙ body_is)) in
         let left : after_batch K b ≡ kept_as old (R + b.rows) words =
-        left_by K b (answer words) e ∙ ap (λ (d : List ℕ). kept_with (length old) (R + b.rows) (length words) (words ++ d)) (behind words l) in
+        left_by_lem K b (answer words) e ∙ ap (λ (d : List ℕ). kept_with (length old) (R + b.rows) (length words) (words ++ d)) (behind words l) in
         holds_as old (R + b.rows) q words (after_batch K b) t.few (omega (arith, t.fits, whole)) (t.is ∙ body_is) left
 
     -- valid rows whose body fits are accepted

@@ -6,8 +6,7 @@ use lib.Dec.{lit≤}
 use lib.Bits.{bit_or, or_shifted}
 use lib.Pow.{shl_exact}
 use Rattle.meaning.specs.Wah.{fill_word}
-use Rattle.wah.proofs.word.fill_word.Statement.{statement}
-use Rattle.wah.proofs.word.fill_word.Tie as tie
+use Rattle.wah.proofs.word.fill_word.Goals as goal
 
 joined : (v n : ℕ) → v < 2 ^ 1 → n < 2 ^ 30 → bit_or (bit_or 2147483648 (v * 2 ^ 30 % 2 ^ 32)) n ≡ fill_word v n
 unfolding fill_word
@@ -19,8 +18,5 @@ joined v n hv hn =
     ∙ or_shifted (2 + v) 30 n hn
     ∙ all
 
-returns : tie.Need-returns
+pub returns : goal.returns
 returns c = joined c.args.value c.args.count (omega arith) (omega arith)
-
-pub fill-word-spec : {M : Type 1} → statement M
-fill-word-spec = tie.close (tie.spec returns)

@@ -7,26 +7,16 @@ use mir.Syntax.{w64}
 use mir.Val.{SFits}
 use mir.ValLaws.{to_z-of_z}
 use borrow.Author.Rules.{rules}
-use Rattle.replies.proofs.reply.signed_value.Statement.{statement}
-use Rattle.replies.proofs.reply.signed_value.Tie as tie
+use Rattle.replies.proofs.reply.signed_value.Goals as goal
 
-enum-known-told : tie.Need-enum-known-told
-enum-known-told c = search rules
-
-enum-known-told-2 : tie.Need-enum-known-told-2
-enum-known-told-2 c = search rules
-
-returns : tie.Need-returns
+pub returns-in-Refused : goal.returns-in-Refused
 unfolding signed_told number_in bitmap_in word_in signed_in
-returns c = rw c.before.told.given.1
+returns-in-Refused c = rw c.in-Refused.is
 
-returns-2 : tie.Need-returns-2
+pub returns-in-Is : goal.returns-in-Is
 unfolding signed_told number_in bitmap_in word_in signed_in
-returns-2 c =
-    let n = c.before.told2.given.0.0 in
+returns-in-Is c =
+    let n = c.in-Is.z in
     let low : SFits w64 n = search rules in
-    rw c.before.told2.given.1
+    rw c.in-Is.is
     (ap (λ (z : ℤ). record { number = 0; bitmap = 0; word = 0; value = z }) (to_z-of_z w64 n low))
-
-pub signed-value-spec : {M : Type 1} → statement M
-signed-value-spec = tie.close (tie.spec enum-known-told enum-known-told-2 returns returns-2)
