@@ -7,20 +7,13 @@ use mathlib.Core.Path.{sym, ap, ◌∙◌}
 use native.Mathlib.Nat.{mul-le-mul_left}
 use Rattle.meaning.specs.Segment.{fill}
 use Rattle.laws.proofs.Counting.{fill-count, ones-replicate}
-use Rattle.ewah_count.proofs.count.count_run.Statement.{statement}
-use Rattle.ewah_count.proofs.count.count_run.Tie as tie
+use Rattle.ewah_count.proofs.count.count_run.Goals as goal
 
-mul-result : tie.Need-overflow-mul-result
-mul-result c = search rules
+pub overflow_mul-result-2 : goal.overflow_mul-result-2
+overflow_mul-result-2 c = let l : c.args.value * 32 ≤ 32 = omega arith in omega (arith, mul-le-mul_left c.args.clean l)
 
-mul-result-2 : tie.Need-overflow-mul-result-2
-mul-result-2 c = let l : c.args.value * 32 ≤ 32 = omega arith in omega (arith, mul-le-mul_left c.args.clean l)
-
-returns : tie.Need-returns
+pub returns : goal.returns
 returns c =
     let v = c.args.value in
     let n = c.args.clean in
     ap (λ (k : ℕ). n * k) (sym (fill-count 32 v c.requires.0)) ∙ sym (ones-replicate 32 n (fill 32 v))
-
-pub count-run-spec : {M : Type 1} → statement M
-count-run-spec = tie.close (tie.spec mul-result mul-result-2 returns)
