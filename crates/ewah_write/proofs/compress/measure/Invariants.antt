@@ -1,0 +1,19 @@
+-- `ewah_write::compress::measure` meets its contract: the writer tracks the draft so far. Assumes nothing.
+use Prim.Native.Nat.{◌-◌, ◌≤◌, ◌<◌, ◌^◌}
+use mathlib.Core.Path.{ap, ◌∙◌}
+use native.Mathlib.Omega.{arith}
+use lib.ListN.{length}
+use borrow.Author.Rules.{rules}
+use Rattle.meaning.specs.Segment.{kinds}
+use Rattle.meaning.specs.Canonical.{Draft}
+use Rattle.laws.proofs.Prefixes.{up_to, up_to-low}
+use Rattle.ewah_write.specs.Drafts.{Tracks}
+use Rattle.ewah_write.proofs.Growing.{used-is}
+use Rattle.ewah_write.proofs.WordByWord.{no_words, word-inside, word-last}
+use Rattle.ewah_write.proofs.compress.measure.Given as goal
+
+abbrev pub invariant-loop-i : goal.invariant-loop-i
+invariant-loop-i l = (l.i ≤ l.last) × Tracks l.w (up_to (kinds 32 l.rows l.plain) l.i)
+
+abbrev pub decreases-loop-i : goal.decreases-loop-i
+decreases-loop-i l = l.last - l.i

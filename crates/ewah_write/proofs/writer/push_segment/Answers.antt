@@ -1,0 +1,35 @@
+-- `ewah_write::writer::push_segment` meets its contract: `kind-clean` and `kind-other` carry the room and the push between
+-- the word and its kind. Assumes nothing.
+use native.Mathlib.Omega.{arith}
+use mathlib.Core.Path.{refl}
+use borrow.Author.Rules.{rules}
+use lib.Bits.{and_mask}
+use Rattle.meaning.specs.Segment.{all_set}
+use Rattle.ewah_write.proofs.Growing.{kind-clean, kind-other}
+use Rattle.ewah_write.proofs.writer.push_segment.Goals as goal
+
+pub push_run-requires : goal.push_run-requires
+unfolding all_set
+push_run-requires c =
+    let k = c.is_clean in record {
+      room_for = rw (kind-clean 32 c.args.x _ (k.ensures 32 (omega arith) refl) c.if-is_clean.true) at c.requires;
+      value_bound = (omega (arith, and_mask c.args.x 1), omega arith);
+    }
+
+pub returns-then-is_clean : goal.returns-then-is_clean
+unfolding all_set
+returns-then-is_clean c =
+    let x = c.args.x in
+    rw (kind-clean 32 x _ (c.is_clean.ensures 32 (omega arith) refl) c.if-is_clean.true) c.push_run.ensures
+
+pub push_mixed-requires : goal.push_mixed-requires
+unfolding all_set
+push_mixed-requires c =
+    let k = c.is_clean in
+    rw (kind-other 32 c.args.x _ (k.ensures 32 (omega arith) refl) c.if-is_clean.false) at c.requires
+
+pub returns : goal.returns
+unfolding all_set
+returns c =
+    let x = c.args.x in
+    rw (kind-other 32 x _ (c.is_clean.ensures 32 (omega arith) refl) c.if-is_clean.false) c.push_mixed.ensures
