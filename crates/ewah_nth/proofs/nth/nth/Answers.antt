@@ -91,7 +91,7 @@ overflow_mul-row c =
     omega (arith, (over c.before.before.before.before).counts, few c.before.before.before.before.before.before.before)
 
 pub overflow_add-row : goal.overflow_add-row
-overflow_add-row c = omega (arith, (here c.before).below, few c.before.before.before.before.before.before)
+overflow_add-row c = omega (arith, (here c.before).below, few c.before.before.before.before.before.before.before)
 
 pub returns-then-row-rows : goal.returns-then-row-rows
 unfolding found_of rows_of ewah_rows
@@ -121,9 +121,9 @@ loop-at-preserved c =
     let e : c.seek.result ≡ Ahead c.in-Ahead.k = c.in-Ahead.is in
     let words = take m.dirty (drop (c.loop-at.at + 1) b) in
     let left_over : ones 32 (replicate m.clean (fill 32 m.value) ++ words) + c.in-Ahead.k ≡ c.loop-at.ahead =
-    rw e at (told c.before.before.before.before.before) in
-    let more = ones_step b c.loop-at.at c.loop-at.behind m.value m.clean m.dirty (over c.before.before.before.before.before.before.before) in
-    ((over c.before.before.before.before.before.before.before).next, omega (arith, c.loop-at.invariant.1, more))
+    rw e at (told c.before.before.before.before) in
+    let more = ones_step b c.loop-at.at c.loop-at.behind m.value m.clean m.dirty (over c.before.before.before.before.before.before) in
+    ((over c.before.before.before.before.before.before).next, omega (arith, c.loop-at.invariant.1, more))
 
 pub returns : goal.returns
 unfolding found_of rows_of ewah_rows
