@@ -9,26 +9,17 @@ use Rattle.laws.proofs.Formats.{width-pos}
 use Rattle.laws.proofs.Cut.{rows-some, rows-le}
 use Rattle.repack.proofs.PlainSegments.{segment-is}
 use Rattle.row_write.proofs.Sending.{word-short}
-use Rattle.rewrite.proofs.compress.word_at.Statement.{statement}
-use Rattle.rewrite.proofs.compress.word_at.Tie as tie
+use Rattle.rewrite.proofs.compress.word_at.Goals as goal
 
-segment-at-requires : tie.Need-segment-at-requires
-segment-at-requires c κs = search rules
-
-spelled-requires : tie.Need-spelled-requires
-spelled-requires c κs = search rules
-
-returns : tie.Need-returns
-returns c = λ R g h full mask.
-    let a = c.before.before.before.args in
+pub returns : goal.returns
+returns c =
+    λ R g h full mask.
+    let a = c.args in
     let w = width a.format in
     let pos = width-pos a.format in
     let real = rows_in w R a.i in
-    let is = c.before.segment-at.ensures ∙ segment-is w g a.i h in
+    let is = c.segment_at.ensures ∙ segment-is w g a.i h in
     let low = word-short a.format R (has_row 32 a.plain.now) a.i h in
     (c.spelled.ensures w real (rows-some w pos R a.i h) (rows-le w pos R a.i) full mask).0
     ∙ ap (λ (x : ℕ). kind real (x % 2 ^ real)) is
     ∙ ap (kind real) (mod-eq_of_lt low)
-
-pub word-at-spec : {M : Type 1} → statement M
-word-at-spec = tie.close (tie.spec segment-at-requires spelled-requires returns)
