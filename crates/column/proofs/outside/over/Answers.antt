@@ -2,11 +2,7 @@
 -- Assumes nothing.
 use Rattle.column.proofs.Lowering.{over-bits}
 use borrow.Author.Rules.{rules}
-use Rattle.column.proofs.outside.over.Statement.{statement}
-use Rattle.column.proofs.outside.over.Tie as tie
+use Rattle.column.proofs.outside.over.Goals as goal
 
-returns : tie.Need-returns
+pub returns : goal.returns
 returns c = over-bits c.args.x c.args.e (search rules)
-
-pub over-spec : {M : Type 1} → statement M
-over-spec = tie.close (tie.spec returns)
