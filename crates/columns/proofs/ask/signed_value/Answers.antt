@@ -1,0 +1,40 @@
+-- `columns::ask::signed_value` meets its contract: what `check_row` refuses, and then the value.
+-- Assumes nothing.
+use mathlib.Core.Path.{ap, ◌∙◌}
+use mir.Syntax.{w64}
+use mir.Val.{SFits}
+use mir.ValLaws.{to_z-of_z}
+use Rattle.meaning.specs.Refusal.{answer, Verdict}
+use Rattle.column_meaning.specs.Columns.{signed_at, ask_signed_value}
+use Rattle.answers.specs.Told.{signed_told}
+use Rattle.answers.proofs.Checks.{sound-is, refuses, answers}
+use Rattle.columns.proofs.Asking.{row_verdict, asked-then, row-passed, good-column, good-row}
+use borrow.Author.Rules.{rules}
+use Rattle.columns.proofs.ask.signed_value.Goals as goal
+
+pub signed_value-requires : goal.signed_value-requires
+signed_value-requires c =
+    let a = c.args in
+    let v : Verdict = row_verdict a.index.now a.list.now a.row in
+    let p = row-passed _ _ _ (sound-is c.check_row-checked.result v c.check_row-checked.ensures c.in-Sound.is) in
+    let g = good-column _ _ _ p.0 in record {
+      index_facts = c.requires;
+      least_column_in_bounds = (g.0, g.1, g.2, good-row _ _ _ p.1);
+    }
+
+pub returns-in-Refused : goal.returns-in-Refused
+unfolding signed_told ask_signed_value
+returns-in-Refused c =
+    let a = c.args in
+    refuses c.check_row-checked.result (row_verdict a.index.now a.list.now a.row) c.check_row-checked.ensures
+    (answer (signed_at a.index.now a.list.now a.row)) _ c.in-Refused.is
+    ∙ asked-then a.index.now a.list.now a.row _
+
+pub returns-in-Sound : goal.returns-in-Sound
+unfolding signed_told ask_signed_value
+returns-in-Sound c =
+    let a = c.args in
+    let low : SFits w64 c.signed_value.result = search rules in
+    answers c.check_row-checked.result (row_verdict a.index.now a.list.now a.row) c.check_row-checked.ensures
+    _ _ c.in-Sound.is (ap answer (to_z-of_z w64 c.signed_value.result low ∙ c.signed_value.ensures))
+    ∙ asked-then a.index.now a.list.now a.row _
