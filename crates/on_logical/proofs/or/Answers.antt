@@ -1,0 +1,23 @@
+-- `on_logical::or` meets its contract: the check, and then `logical::or`. Assumes nothing.
+use lib.ListN.{length}
+use borrow.Author.Rules.{rules}
+use Rattle.meaning.specs.Answer.{check, ask_logical, logical, or}
+use Rattle.meaning.specs.Question.{union}
+use Rattle.answers.proofs.Checks.{refuses, checked-index}
+use Rattle.answers.proofs.Tells.{wrote-refused, wrote_then}
+use Rattle.on_logical.proofs.or.Goals as goal
+
+pub or-requires : goal.or-requires
+or-requires c = checked-index c.check-checked.result c.args.index.now c.check-checked.ensures c.in-Sound.is
+
+pub returns-in-Refused : goal.returns-in-Refused
+unfolding logical or
+returns-in-Refused c =
+    let a = c.args in
+    wrote-refused a.out.now _ _ (refuses c.check-checked.result (check a.index.now) c.check-checked.ensures (ask_logical a.index.now union a.j a.k (length a.out.now)) _ c.in-Refused.is)
+
+pub returns-in-Sound : goal.returns-in-Sound
+unfolding logical or
+returns-in-Sound c =
+    let a = c.args in
+    wrote_then c.check-checked.result (check a.index.now) (ask_logical a.index.now union a.j a.k (length a.out.now)) c.or.result a.out.now c.or.new.out c.check-checked.ensures c.in-Sound.is c.or.ensures
