@@ -11,8 +11,10 @@ use std::process::Stdio;
 use common::{run, Told};
 use mock::Mock;
 
-const WARM: [&str; 2] = ["rt version", "rt check threshold"];
-const WHOLE: [&str; 4] = ["rt version", "rt check threshold", "rt staticlib zvonurel_c", "rt version"];
+const WARM: [&str; 1] = ["rt version"];
+const WHOLE: [&str; 4] =
+    ["rt version", "rt run threshold --cpu x86-64", "rt lib zvonurel_c --cpu x86-64", "rt version"];
+const FAILED: [&str; 2] = ["rt version", "rt run threshold --cpu x86-64"];
 const ARCHIVE: &str = "target/staticlib/libzvonurel_c.a";
 const PROGRAM: &str = "target/bin/threshold";
 
@@ -41,15 +43,21 @@ fn what_has_not_changed_is_not_proved_again() {
     calls_again(&mock, &WARM, "nothing changed");
     mock.folder.write("crates/one/must-fail/wrong.edit", "an edit");
     mock.folder.write("docs/PAGE.md", "a page");
+    mock.folder.write("crates/one/out/rlib/stamp", "what rt keeps");
     calls_again(&mock, &WARM, "only what is not proved changed");
+    fs::remove_dir_all(mock.path("crates/zvonurel_c/out")).expect("it was there");
+    fs::remove_dir_all(mock.path("crates/threshold/out")).expect("it was there");
+    calls_again(&mock, &WARM, "rt ci was run");
 }
 
 #[test]
 fn what_has_changed_is_proved_again() {
     type Change = (&'static str, fn(&Mock));
-    let changes: [Change; 9] = [
+    let changes: [Change; 11] = [
         ("a source", |mock| drop(mock.folder.write("crates/one/src/lib.rt", "// two\n"))),
         ("a new file", |mock| drop(mock.folder.write("crates/one/proofs/deep/er/Proof.antt", ""))),
+        ("a folder of that name deeper down", |mock| drop(mock.folder.write("crates/one/src/out/more.rt", ""))),
+        ("a program's input", |mock| drop(mock.folder.write("crates/threshold/stdin", "another index\n"))),
         ("a hidden file", |mock| drop(mock.folder.write("crates/one/.hidden", ""))),
         ("an edit's neighbour", |mock| drop(mock.folder.write("crates/one/must-fail/README", ""))),
         ("the crates", |mock| drop(mock.folder.write("crates.txt", "one: two\n"))),
@@ -101,7 +109,7 @@ fn a_change_meanwhile_is_no_proof() {
     let first = mock.path("crates/one/src/lib.rt");
     let rt = fs::read_to_string(mock.path("tools/rt")).expect("the stand-in");
     mock.folder.write("crates/one/src/lib.rt", "// two\n");
-    let edit = format!("[ $1 != staticlib ] || echo '// three' >'{}'", first.display());
+    let edit = format!("[ $1 != lib ] || echo '// three' >'{}'", first.display());
     mock.folder.script("tools/rt", &format!("{edit}\n{}", rt.split_once('\n').expect("a first line").1));
     let told = build(&mock);
     assert_eq!((told.status, told.out.as_str()), (Some(1), ""));
@@ -129,11 +137,11 @@ fn a_failure_is_shown_whole_and_leaves_no_stamp() {
     for _ in 0..2 {
         let told = run(mock.command(mock.path("build")).env("FAILING", "1"));
         assert_eq!((told.status, told.out.as_str()), (Some(1), ""));
-        let end = "fn one: proved\nrt: one proved (1 s)\nwhat is wrong\nFAILED: rt check threshold\n";
+        let end = "rt: chose --jobs 2 for one\nfn one: proved\nwhat is wrong\nFAILED: rt run threshold\n";
         assert!(told.err.ends_with(end), "{}", told.err);
         let left = [ARCHIVE, PROGRAM].map(|name| mock.path(name).exists());
         assert_eq!(left, [false; 2], "nothing is left that could be taken for proved");
-        assert_eq!(mock.calls(), WARM);
+        assert_eq!(mock.calls(), FAILED);
     }
     mock.folder.write("crates/one/src/lib.rt", "// one\n");
     calls_again(&mock, &WHOLE, "the sources are those of the first build");
@@ -143,17 +151,17 @@ fn a_failure_is_shown_whole_and_leaves_no_stamp() {
 fn progress_is_shown_line_by_line() {
     let mock = Mock::new();
     // once its line was seen the prover goes on, and else it says so after a while
-    let rt = "[ $1 = check ] || exit 0\necho 'fn one: proved'; echo 'rt: one proved (1 s)'\n\
+    let rt = "[ $1 = run ] || exit 0\necho 'fn one: proved'; echo 'rt: chose --jobs 2 for one'\n\
               for i in 1 2 3 4 5 6 7 8 9 10; do [ -f \"$CALLS\" ] && exit 1; sleep 0.5; done\n\
               echo 'rt: nobody saw that'; exit 1";
     mock.folder.script("tools/rt", rt);
     let mut child = mock.command(mock.path("build")).stderr(Stdio::piped()).spawn().expect("it runs");
     let mut lines = BufReader::new(child.stderr.take().expect("its errors")).lines().map(|line| line.expect("text"));
     assert_eq!(lines.next().as_deref(), Some("proving and building; from nothing this takes some minutes"));
-    assert_eq!(lines.next().as_deref(), Some("rt: one proved (1 s)"));
+    assert_eq!(lines.next().as_deref(), Some("rt: chose --jobs 2 for one"));
     mock.folder.write("calls", "");
     let rest: Vec<String> = lines.collect();
-    assert_eq!(rest, ["fn one: proved", "rt: one proved (1 s)", "FAILED: rt check threshold"]);
+    assert_eq!(rest, ["fn one: proved", "rt: chose --jobs 2 for one", "FAILED: rt run threshold"]);
     assert_eq!(child.wait().expect("it ends").code(), Some(1));
 }
 

@@ -14,6 +14,9 @@ use common::{log_text, readings_text, repository, run, Folder, Told};
 use common::{AMMONIA, ARCHIVE, LOG, MOMENT, RISE, TANKS, WORST};
 use mock::Mock;
 
+/// The call that builds the library.
+const LIBRARY: &str = "rt lib zvonurel_c --cpu x86-64";
+
 fn unbuilt(folder: &Folder, arguments: &[&str]) -> Told {
     unbuilt_script(folder, "example/run", arguments)
 }
@@ -301,14 +304,14 @@ fn the_answer_stands_alone_on_standard_output() {
     listing(&mock);
     let told = run(mock.command(mock.path("example/run")).env("ZVONUREL_LIB", "elsewhere"));
     assert_eq!((told.status, told.out), (Some(0), expected()));
-    assert!(told.err.contains("rt: one proved (1 s)\n"), "{}", told.err);
+    assert!(told.err.contains("rt: chose --jobs 2 for one\n"), "{}", told.err);
     let calls = mock.calls();
     let cargo =
         "cargo build --quiet --release --package tanks --target x86_64-unknown-linux-gnu --target-dir target/cargo";
-    assert_eq!(calls[..4], ["rt version", "rt check threshold", "rt staticlib zvonurel_c", "rt version"]);
+    assert_eq!(calls[..4], ["rt version", "rt run threshold --cpu x86-64", LIBRARY, "rt version"]);
     assert_eq!(calls[4..], [cargo, "ZVONUREL_LIB=target/staticlib"]);
     run(&mut mock.command(mock.path("example/run")));
-    assert!(!mock.calls().contains(&"rt staticlib zvonurel_c".to_string()), "it is proved once");
+    assert!(!mock.calls().contains(&LIBRARY.to_string()), "it is proved once");
 }
 
 /// Where neither a log nor a time is named the example is asked, and else what is named.
@@ -321,7 +324,7 @@ fn readings_stand_alone_on_standard_output() {
     let told = run(mock.command(mock.path("example/ammonia")).env("ZVONUREL_LIB", "elsewhere"));
     assert_eq!((told.status, told.out.as_str()), (Some(0), expected.as_str()), "{}", told.err);
     let calls = mock.calls();
-    assert!(calls.contains(&"rt staticlib zvonurel_c".to_string()), "{calls:?}");
+    assert!(calls.contains(&LIBRARY.to_string()), "{calls:?}");
     assert_eq!(calls.last().map(String::as_str), Some("ZVONUREL_LIB=target/staticlib"));
     let (folder, script) = (log.parent().expect("a folder"), mock.path("example/ammonia"));
     for words in [&["2026-03-15", "23:30"][..], &["2026-03-12", "22:00", "tank 12", "tank 7"]] {

@@ -1,4 +1,4 @@
-//! A repository with the script `build`, those of the example and one crate, and stand-ins for `rt` and `cargo` that
+//! A repository with the script `build`, those of the example and three crates, and stand-ins for `rt` and `cargo` that
 //! note each call and build nothing that is proved.
 
 use std::path::{Path, PathBuf};
@@ -7,24 +7,23 @@ use std::{env, fs};
 
 use crate::common::{repository, Folder, AMMONIA, ARCHIVE, LOG, MOMENT, RISE, TANKS, WORST};
 
-/// As rt does, it leaves a program that has its mark, and writes an archive each time.
+/// As rt does, it is run in a crate's folder, leaves a program that has its mark, and writes an archive each time.
 const RT: &str = r#"
 echo "rt $*" >>"$CALLS"
+[ "$1" = version ] && { echo "kit ${KIT:-1}"; exit; }
+[ "${PWD##*/}" = "$2" ] || { echo "rt: the repository does not name this crate $2"; exit 2; }
+echo "rt: chose --jobs 2 for one"
+echo "fn one: proved"
+[ -z "${FAILING:-}" ] || { echo "what is wrong"; exit 1; }
+mkdir -p out
 case $1 in
-version) echo "kit ${KIT:-1}" ;;
-check)
-    echo "fn one: proved"
-    echo "rt: one proved (1 s)"
-    [ -z "${FAILING:-}" ] || { echo "what is wrong"; exit 1; }
-    mkdir -p target/bin target/stamp
-    [ -f target/stamp/threshold ] || cp "$THRESHOLD" target/bin/threshold
-    echo proved >target/stamp/threshold
+run)
+    [ -f out/threshold.stamp ] || cp "$THRESHOLD" out/threshold
+    echo proved >out/threshold.stamp
+    echo "rt: running out/threshold"
+    cat
     ;;
-staticlib)
-    mkdir -p target/staticlib
-    echo archive >target/staticlib/libzvonurel_c.a
-    echo "rt: written" >&2
-    ;;
+lib) echo archive >out/libzvonurel_c.a ;;
 esac"#;
 
 const CARGO: &str = r#"
@@ -53,7 +52,14 @@ impl Mock {
             let copied = Command::new("cp").arg(repository(name)).arg(folder.path(name)).status();
             assert!(copied.expect("cp").success());
         }
-        for (name, text) in [("crates.txt", "one:\n"), ("crates/one/src/lib.rt", "// one\n")] {
+        let sources = [
+            ("crates.txt", "one:\n"),
+            ("crates/one/src/lib.rt", "// one\n"),
+            ("crates/zvonurel_c/src/lib.rt", "// the exports\n"),
+            ("crates/threshold/src/main.rt", "// the program\n"),
+            ("crates/threshold/stdin", "an index\n"),
+        ];
+        for (name, text) in sources {
             folder.write(name, text);
         }
         for (name, text) in [("tools/rt", RT), ("tools/cargo", CARGO), ("tools/threshold", THRESHOLD)] {

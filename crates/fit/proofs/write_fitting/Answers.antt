@@ -1,0 +1,16 @@
+-- `fit::write_fitting` meets its contract: what the engine stored is what is reported. Assumes nothing.
+use Rattle.fit.proofs.Listing.{reported-words}
+use borrow.Author.Rules.{rules}
+use Rattle.fit.proofs.write_fitting.Goals as goal
+
+pub merge-m-requires : goal.merge-m-requires
+merge-m-requires c =
+    record {
+      mergeable = c.requires.mergeable;
+      table_in_bounds = λ e. c.requires.table_in_bounds;
+    }
+
+pub returns : goal.returns
+returns c =
+    let a = c.args in
+    reported-words a.index.now a.list.now a.out.now a.op a.table.now c.merge-m.new.out c.merge-m.result c.requires.table_in_bounds c.merge-m.ensures

@@ -1,0 +1,17 @@
+-- `pivots::compare::refine` meets its contract. The invariant: the first w words are refined.
+-- Assumes nothing.
+use mathlib.Core.Path.{◌≡◌, refl}
+use Prim.Native.Nat.{◌-◌, ◌≤◌}
+use lib.ListN.{replicate}
+use Rattle.meaning.specs.Limits.{block_segments}
+use Rattle.words.proofs.Entries.{Filled, filled-from, filled_more}
+use Rattle.pivots.proofs.Refining.{ahead_at, same_at, refined-all}
+use borrow.Author.Rules.{rules}
+use native.Mathlib.Omega.{arith}
+use Rattle.pivots.proofs.compare.refine.Given as goal
+
+abbrev pub invariant-loop-w : goal.invariant-loop-w
+invariant-loop-w l = (l.w ≤ block_segments) × Filled (ahead_at l.before l.agreed l.x l.flip l.gain) l.initial.ahead l.ahead l.w × Filled (same_at l.agreed l.x l.flip) l.initial.same l.same l.w
+
+abbrev pub decreases-loop-w : goal.decreases-loop-w
+decreases-loop-w l = block_segments - l.w

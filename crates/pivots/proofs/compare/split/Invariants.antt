@@ -1,0 +1,16 @@
+-- `pivots::compare::split` meets its contract. The invariant: the digits from place i on are compared.
+-- Assumes nothing.
+use mathlib.Core.Path.{◌≡◌, sym, subst}
+use Prim.Native.Nat.{ℕ, suc, ◌-◌, ◌/◌, ◌^◌, ◌≤◌}
+use Rattle.meaning.specs.declared.Ranking.{Ranking}
+use Rattle.laws.specs.Pivot.{lead}
+use Rattle.pivots.proofs.Refining.{SplitFrom, digit_low, digit-is, split-none, split-more, split-all}
+use borrow.Author.Rules.{rules}
+use native.Mathlib.Omega.{arith}
+use Rattle.pivots.proofs.compare.split.Given as goal
+
+abbrev pub invariant-loop-i : goal.invariant-loop-i
+invariant-loop-i l = (l.i ≤ l.n) × ((op : Ranking) → lead op ≡ l.first → SplitFrom op l.x l.n l.pivot l.i l.s.ahead l.s.same)
+
+abbrev pub decreases-loop-i : goal.decreases-loop-i
+decreases-loop-i l = l.i
