@@ -38,8 +38,7 @@ returns-then-rows-more c q g =
 pub extend-requires : goal.extend-requires
 extend-requires c =
     let a = c.args in
-    let words = c.shared_slice_known-1.given in
-    let valid = plain_rows a.more a.plain.now (λ i. (words i).fits)
+    let valid = plain_rows a.more a.plain.now (λ i. (c.type_inv.plain i).fits)
     (sound-is c.check_plain-checked.result (plain_fault a.more a.plain.now) c.check_plain-checked.ensures c.in-Sound.is) in record {
       plain_rows = (valid, few c.before.before.before.before);
       by_index = c.requires.by_index;
