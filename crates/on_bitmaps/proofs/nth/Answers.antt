@@ -1,0 +1,28 @@
+-- `on_bitmaps::nth` meets its contract: the bitmap's refusal; or, by `known-index`, a bitmap of a sound index, and then
+-- `bitmaps::nth`. Assumes nothing.
+use borrow.Author.Rules.{rules}
+use Rattle.meaning.specs.Index.{row_count, rows_at}
+use Rattle.meaning.specs.Answer.{bitmap_refusal, ask_nth, nth}
+use Rattle.answers.specs.Told.{number_of}
+use Rattle.answers.proofs.Checks.{refuses, answers}
+use Rattle.on_bitmaps.proofs.Guards.{known-index}
+use Rattle.on_bitmaps.proofs.nth.Goals as goal
+
+pub nth-requires : goal.nth-requires
+nth-requires c =
+    let k = c.bitmap_refusal-checked in let both = known-index k.result _ _ k.ensures c.in-Sound.is in record { index_facts = both.0; k_bound = both.1 }
+
+pub returns-in-Refused : goal.returns-in-Refused
+unfolding number_of nth
+returns-in-Refused c =
+    let a = c.args in
+    refuses c.bitmap_refusal-checked.result (bitmap_refusal a.index.now a.k) c.bitmap_refusal-checked.ensures
+    (ask_nth (row_count a.index.now) (rows_at a.index.now a.k) a.n) _ c.in-Refused.is
+
+pub returns-in-Sound : goal.returns-in-Sound
+unfolding nth
+returns-in-Sound c =
+    let a = c.args in
+    answers c.bitmap_refusal-checked.result (bitmap_refusal a.index.now a.k) c.bitmap_refusal-checked.ensures
+    (ask_nth (row_count a.index.now) (rows_at a.index.now a.k) a.n) (number_of c.nth.result) c.in-Sound.is
+    c.nth.ensures

@@ -1,0 +1,7 @@
+-- `ranks::scan::cut` meets its contract.
+-- Assumes nothing.
+use borrow.Author.Rules.{rules}
+use Rattle.ranks.proofs.scan.cut.Goals as goal
+
+pub returns : goal.returns
+returns c = c.scan.ensures.found c.requires.value_bound.1
