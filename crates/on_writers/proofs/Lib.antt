@@ -1,3 +1,1 @@
 pub mod StateAfter
-pub mod Walking
-pub mod Lent
