@@ -1,0 +1,19 @@
+-- `bitwise::body_count` meets its contract: the check's refusal, by `count-refused`; or, by `count-answered`, a sound
+-- body that `count::count` counts. Assumes nothing.
+use borrow.Author.Rules.{rules}
+use Rattle.meaning.specs.Ewah.{ewah_rows}
+use Rattle.meaning.specs.Format.{rows_of}
+use Rattle.on_bodies.proofs.Alone.{count-refused, countable, count-answered}
+use Rattle.bitwise.proofs.body_count.Goals as goal
+
+pub count-requires : goal.count-requires
+count-requires c = countable _ _ _ _ c.check_body-checked.ensures c.in-Sound.is
+
+pub returns-in-Refused : goal.returns-in-Refused
+returns-in-Refused c = count-refused _ _ _ _ c.check_body-checked.ensures _ c.in-Refused.is
+
+pub returns-in-Sound : goal.returns-in-Sound
+unfolding rows_of ewah_rows
+returns-in-Sound c =
+    let e = c.check_body-checked.ensures in
+    count-answered _ _ _ _ e c.in-Sound.is _ c.count.ensures
