@@ -22,9 +22,8 @@ pub fn number(out: &mut [u8], at: usize, n: u64) -> usize
     ensures appended { Appended out.old at (ascii.decimal n) out.new result }
     ensures upper_bound { result ≤ at + 20 }
 {
-    let mut digits = [0u8; 20];
-    let k = io::decimal(n, &mut digits);
-    put(out, at, &digits[..k])
+    let mut digits = itoa::Buffer::new();
+    put(out, at, digits.format(n).as_bytes())
 }
 
 // A number and a line feed.
