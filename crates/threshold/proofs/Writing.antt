@@ -1,6 +1,6 @@
 -- What a writer has been given of a listing, chunk by chunk.
 -- Assumes nothing.
-use Rattle.std.proofs.Common.{◌≡◌, ℕ, List, [], ◌++◌, Option, refl, sym, ap, ◌∙◌, append_assoc, append-nil, subst}
+use Rattle.std.proofs.Common.{◌≡◌, ℕ, List, [], ◌++◌, Option, sym, ap, ◌∙◌, append_assoc, append-nil, subst}
 use Rattle.std.specs.Io.KnownBytes.{Appends}
 use Rattle.std.proofs.KnownBytes.{Appends-nil, Appends-trans}
 
@@ -10,8 +10,8 @@ pub record Partly (text : List ℕ) (old new : Option (List ℕ)) (left : List �
   pub wrote : Appends old new part
   pub all : text ≡ part ++ left
 
-pub partly-none : (text : List ℕ) (w : Option (List ℕ)) → Partly text w w text
-partly-none text w = record { part = []; wrote = Appends-nil w; all = refl }
+pub partly-none : (text left : List ℕ) (w : Option (List ℕ)) → text ≡ left → Partly text w w left
+partly-none text left w e = record { part = []; wrote = Appends-nil w; all = e }
 
 module _ {text : List ℕ} {old new : Option (List ℕ)} {left : List ℕ} (p : Partly text old new left) where
   -- a chunk more
