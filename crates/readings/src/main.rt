@@ -25,11 +25,8 @@ fn refusal(rt: &impl Print, r: Refusal) -> io::Result<()> {
 
 // A body's words from one place to another, or to its end.
 fn words(rt: &impl Print, body: &[u32], from: usize, to: usize) -> io::Result<()> {
-    let mut i = from;
-    while i < to && i < body.len() {
-        let word = body[i];
+    for word in body.iter().take(to).skip(from) {
         print!(rt; " {word:08x}")?;
-        i += 1;
     }
     Ok(())
 }
