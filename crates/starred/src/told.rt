@@ -10,17 +10,7 @@ use zvonurel::{Answered, Checked, Refusal, Written};
 pub fn same(a: &[u32], b: &[u32]) -> bool
     ensures { result ≡ readings.same a.now b.now }
 {
-    if a.len() != b.len() {
-        return false;
-    }
-    let mut i: usize = 0;
-    while i < a.len() {
-        if a[i] != b[i] {
-            return false;
-        }
-        i += 1;
-    }
-    true
+    a == b
 }
 
 // So many words written.

@@ -8,12 +8,9 @@ pub fn put(out: &mut [u8], at: usize, text: &[u8]) -> usize
     requires { at + length text.now ≤ length out.old }
     ensures { Appended out.old at text.now out.new result }
 {
-    let mut i = 0;
-    while i < text.len() {
-        out[at + i] = text[i];
-        i += 1;
-    }
-    at + i
+    let end = at + text.len();
+    out[at..end].copy_from_slice(text);
+    end
 }
 
 // A number in decimal: at most 20 bytes.
@@ -22,9 +19,8 @@ pub fn number(out: &mut [u8], at: usize, n: u64) -> usize
     ensures appended { Appended out.old at (ascii.decimal n) out.new result }
     ensures upper_bound { result ≤ at + 20 }
 {
-    let mut digits = [0u8; 20];
-    let k = io::decimal(n, &mut digits);
-    put(out, at, &digits[..k])
+    let mut digits = itoa::Buffer::new();
+    put(out, at, digits.format(n).as_bytes())
 }
 
 // A number and a line feed.
