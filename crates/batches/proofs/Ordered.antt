@@ -10,7 +10,7 @@ use native.Mathlib.Omega.{arith}
 use borrow.Author.Tests.{lt-ltb, le-ltb, le-leb, lt-leb, eq-eqb, ne_eqb}
 use Rattle.meaning.specs.Limits.{most_rows}
 use Rattle.meaning.specs.Segment.{has_row, segment_count, last_limit, last_of}
-use Rattle.meaning.specs.Refusal.{Outcome, refused, answer, Verdict, sound, refuse_if, ◌then◌, IsNumber, Numbered}
+use Rattle.meaning.specs.Refusal.{Outcome, refused, answer, Verdict, sound, refuse_if, ◌then◌}
 use Rattle.meaning.specs.Format.{rows_of, canonical}
 use Rattle.meaning.specs.declared.Format.TheVariants.{Ewah}
 use Rattle.meaning.specs.Question.{is_in}
@@ -19,7 +19,7 @@ use Rattle.laws.proofs.Outcomes.{refuse-no, refuse-yes, then-sound, then-refused
 use Rattle.laws.proofs.Formats.{canonical-ext, canonical-none}
 use Rattle.batches.specs.declared.AppendState.{AppendState}
 use Rattle.batches.specs.Append.{begun, mismatched, Batch, rows_with, append}
-use Rattle.batches.specs.AppendLaws.{Matches, body_with, Admitted, BatchOrder, numbers_given}
+use Rattle.batches.specs.AppendLaws.{most_batch_number, BatchNumbered, Matches, body_with, Admitted, BatchOrder, numbers_given}
 use Rattle.batches.proofs.Following.{follow-none, matches, not-mismatched}
 
 -- ---- the numbers that an outcome may be refused with
@@ -43,8 +43,11 @@ module _ {A : Type 0} (P : ℕ → Type 0) where
   number_is : (o : Outcome A) (n b w : ℕ) → Given P o → o ≡ refused n b w → P n
   number_is o n b w h e = subst (Given P) e h
 
-as-numbered : {A : Type 0} (o : Outcome A) → Given IsNumber o → Numbered o
-unfolding Numbered
+abbrev IsNumber : ℕ → Type 0
+IsNumber n = (1 ≤ n) × (n ≤ most_batch_number)
+
+as-numbered : {A : Type 0} (o : Outcome A) → Given IsNumber o → BatchNumbered o
+unfolding BatchNumbered
 as-numbered (refused number bitmap word) h = h
 as-numbered (answer a) h = tt
 
@@ -118,7 +121,7 @@ module _ (s : AppendState) (buffer : List ℕ) (b : Batch) where
   unfolding append
   all-given P h12 h3 h8 h7 h9 = refuse P (mismatched s buffer) 12 0 0 _ h12 (rest-given P h3 h8 h7 h9)
 
-  pub numbered : Numbered (append s buffer b)
+  pub numbered : BatchNumbered (append s buffer b)
   numbered =
       as-numbered (append s buffer b)
       (all-given IsNumber (omega arith, omega arith) (omega arith, omega arith) (omega arith, omega arith) (omega arith, omega arith)

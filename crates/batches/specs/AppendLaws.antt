@@ -4,7 +4,7 @@
 use Rattle.std.specs.Prelude.{ℕ, ◌+◌, ◌-◌, ◌≤◌, ◌<◌, Bool, true, false, ◌≡◌, ◌↔◌, List, [], ◌∷◌, ◌++◌, length, drop}
 use Rattle.meaning.specs.Limits.{most_rows}
 use Rattle.meaning.specs.Segment.{has_row, segment_count, last_limit, last_of}
-use Rattle.meaning.specs.Refusal.{refused, answer, Numbered}
+use Rattle.meaning.specs.Refusal.{Outcome, refused, answer}
 use Rattle.meaning.specs.Format.{rows_of, Canonical, canonical}
 use Rattle.meaning.specs.declared.Format.TheVariants.{Ewah}
 use Rattle.meaning.specs.Question.{is_in}
@@ -12,6 +12,15 @@ use Rattle.meaning.specs.Answer.{compress, buffer_after}
 use Rattle.laws.specs.Demands.{PlainRows, BodyOf}
 use Rattle.batches.specs.declared.AppendState.{AppendState}
 use Rattle.batches.specs.Append.{begun, is_canonical, in_use, mismatched, Batch, followed, rows_with, append, state_after, Kept, start_on, outcome_of, after_batch, after_all, accepted_of, all_rows, rows_across}
+
+-- the greatest number that a batch can be refused with: 12 is given of nothing else
+abbrev pub most_batch_number : ℕ
+most_batch_number = 12
+
+-- a refusal has one of the numbers, so that 0 can say that there is none
+unfoldable pub BatchNumbered : {A : Type 0} → Outcome A → Type 0
+BatchNumbered (refused number bitmap word) = (1 ≤ number) × (number ≤ most_batch_number)
+BatchNumbered (answer a) = Unit {0}
 
 -- this state and this buffer belong together, as paper 02 says it of 12
 pub record Matches (s : AppendState) (buffer : List ℕ) : Type 0 where
@@ -141,5 +150,5 @@ pub record AppendLaws : Type 0 where
   pub none-refused : (buffer : List ℕ) (bs : List Batch) → AllPlain bs → all_rows bs ≤ most_rows
       → length (canonical Ewah (all_rows bs) (rows_across bs)) ≤ length buffer
       → NoneRefused (start_on buffer) bs
-  -- a refusal has one of the numbers
-  pub numbered : (s : AppendState) (buffer : List ℕ) (b : Batch) → Numbered (append s buffer b)
+  -- a refusal has one of the numbers, or 12
+  pub numbered : (s : AppendState) (buffer : List ℕ) (b : Batch) → BatchNumbered (append s buffer b)

@@ -13,7 +13,7 @@ word_bits = 32
 
 -- Numbers of refusal: the greatest
 abbrev pub most_number : ℕ
-most_number = 12
+most_number = 11
 
 -- The index: the greatest number of rows
 abbrev pub most_rows : ℕ

@@ -40,11 +40,18 @@ unfolding told
 told-refused zero b w a h = absurd (omega arith)
 told-refused (suc n) b w a h = refl
 
+-- it is no refusal with number 0, which would say that there is none
+abbrev pub NotZero : {A : Type 0} → Outcome A → Type 0
+NotZero o = (n b w : ℕ) → o ≡ refused n b w → 1 ≤ n
+
 -- a value that is the answer's where there is one
-told_is : {A : Type 0} (o : Outcome A) (a : A) → Numbered o → ((x : A) → o ≡ answer x → a ≡ x) → told (number_in o) (bitmap_in o) (word_in o) a ≡ o
+told-some : {A : Type 0} (o : Outcome A) (a : A) → NotZero o → ((x : A) → o ≡ answer x → a ≡ x) → told (number_in o) (bitmap_in o) (word_in o) a ≡ o
 unfolding told number_in bitmap_in word_in
-told_is (refused n b w) a h f = told-refused n b w a (number_of _ n b w h)
-told_is (answer x) a h f = ap answer (f x refl)
+told-some (refused n b w) a h f = told-refused n b w a (h n b w refl)
+told-some (answer x) a h f = ap answer (f x refl)
+
+told_is : {A : Type 0} (o : Outcome A) (a : A) → Numbered o → ((x : A) → o ≡ answer x → a ≡ x) → told (number_in o) (bitmap_in o) (word_in o) a ≡ o
+told_is {A = A} o a h f = told-some o a (λ n b w e. number_of A n b w (subst Numbered e h)) f
 
 pub checks : (o : Verdict) (r : ZvChecked) → Numbered o → r ≡ checked_code o → Checks o r
 checks o r n e = record { code = e; tells = ap verdict_told e ∙ told_is o tt n (λ x p. refl) }
@@ -92,14 +99,18 @@ written-code o (written.Words n) out out' w =
     w.words
 written-code o (written.Refused r) out out' w = subst (λ (p : Outcome (List ℕ)). written_reply (written.Refused r) ≡ written_code p) w.told refl
 
-pub writes : (o : Outcome (List ℕ)) (r : Written) (s : ZvWritten) (out out' : List ℕ) → Numbered o → s ≡ written_reply r → Wrote o r out out' → Writes o s out out'
-writes o r s out out' n e w =
+-- of an outcome whose numbers are not those of every call, too
+pub writes-some : (o : Outcome (List ℕ)) (r : Written) (s : ZvWritten) (out out' : List ℕ) → NotZero o → s ≡ written_reply r → Wrote o r out out' → Writes o s out out'
+writes-some o r s out out' n e w =
     let code = e ∙ written-code o r out out' w in
     record {
       code = code;
-      tells = ap (λ (t : ZvWritten). written_told t out') code ∙ told_is o (take (words_reported o) out') n (words-front o out out' w.left);
+      tells = ap (λ (t : ZvWritten). written_told t out') code ∙ told-some o (take (words_reported o) out') n (words-front o out out' w.left);
       left = w.left;
     }
+
+pub writes : (o : Outcome (List ℕ)) (r : Written) (s : ZvWritten) (out out' : List ℕ) → Numbered o → s ≡ written_reply r → Wrote o r out out' → Writes o s out out'
+writes o r s out out' n e w = writes-some o r s out out' (λ m b k p. number_of (List ℕ) m b k (subst Numbered p n)) e w
 
 -- ---- an answer over a list
 
