@@ -1,0 +1,14 @@
+-- `zvonurel_c::alone::zv_wah_body_row` meets its contract: `flags` of what `zvonurel::body_row` told; no refusal of it has number 0. Assumes nothing.
+use mathlib.Core.Path.{ap, ◌∙◌}
+use Rattle.meaning.specs.declared.Format.TheVariants.{Wah}
+use Rattle.meaning.specs.Answer as meaning
+use Rattle.replies.specs.Exported.{flag_code}
+use Rattle.laws.proofs.Numbered as numbered
+use Rattle.replies.proofs.Codes.{flags}
+use borrow.Author.Rules.{rules}
+use Rattle.zvonurel_c.proofs.alone.zv_wah_body_row.Goals as goal
+
+pub returns : goal.returns
+returns c =
+    let a = c.args in
+    flags (meaning.body_row Wah a.rows a.body.now a.row) c.flag.result (numbered.body-row Wah a.rows a.body.now a.row) (c.flag.ensures ∙ ap flag_code c.body_row.ensures)

@@ -1,0 +1,16 @@
+-- `zvonurel_c::rewriting::zv_bitmap_to_wah` meets its contract: `writes` of what `zvonurel::rewrite_bitmap` told; no refusal of it has number 0.
+-- Assumes nothing.
+use lib.ListN.{length}
+use borrow.Author.Rules.{rules}
+use Rattle.meaning.specs.declared.Format.TheVariants.{Wah}
+use Rattle.meaning.specs.Rewriting as rewriting
+use Rattle.laws.proofs.Numbered as numbered
+use Rattle.replies.proofs.Codes.{writes}
+use Rattle.zvonurel_c.proofs.rewriting.zv_bitmap_to_wah.Goals as goal
+
+pub returns : goal.returns
+returns c =
+    let x = c.rewrite_bitmap in
+    let a = c.args in
+    writes (rewriting.rewrite_bitmap a.index.now a.k Wah (length a.out.now)) x.result c.written.result a.out.now x.new.out
+    (numbered.rewrite-bitmap a.index.now a.k Wah (length a.out.now)) c.written.ensures x.ensures

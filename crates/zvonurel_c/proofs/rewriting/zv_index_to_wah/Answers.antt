@@ -1,0 +1,16 @@
+-- `zvonurel_c::rewriting::zv_index_to_wah` meets its contract: `writes` of what `zvonurel::rewrite_index` told; no refusal of it has number 0.
+-- Assumes nothing.
+use lib.ListN.{length}
+use borrow.Author.Rules.{rules}
+use Rattle.meaning.specs.declared.Format.TheVariants.{Wah}
+use Rattle.meaning.specs.Rewriting as rewriting
+use Rattle.laws.proofs.Numbered as numbered
+use Rattle.replies.proofs.Codes.{writes}
+use Rattle.zvonurel_c.proofs.rewriting.zv_index_to_wah.Goals as goal
+
+pub returns : goal.returns
+returns c =
+    let x = c.rewrite_index in
+    let a = c.args in
+    writes (rewriting.rewrite_index a.index.now Wah (length a.out.now)) x.result c.written.result a.out.now x.new.out
+    (numbered.rewrite-index a.index.now Wah (length a.out.now)) c.written.ensures x.ensures

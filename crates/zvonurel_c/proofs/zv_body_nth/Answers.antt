@@ -1,0 +1,14 @@
+-- `zvonurel_c::zv_body_nth` meets its contract: `numbers` of what `zvonurel::body_nth` told; no refusal of it has number 0. Assumes nothing.
+use mathlib.Core.Path.{ap, ◌∙◌}
+use Rattle.meaning.specs.declared.Format.TheVariants.{Ewah}
+use Rattle.meaning.specs.Answer as meaning
+use Rattle.replies.specs.Exported.{number_code}
+use Rattle.laws.proofs.Numbered as numbered
+use Rattle.replies.proofs.Codes.{numbers}
+use borrow.Author.Rules.{rules}
+use Rattle.zvonurel_c.proofs.zv_body_nth.Goals as goal
+
+pub returns : goal.returns
+returns c =
+    let a = c.args in
+    numbers (meaning.body_nth Ewah a.rows a.body.now a.n) c.number.result (numbered.body-nth Ewah a.rows a.body.now a.n) (c.number.ensures ∙ ap number_code c.body_nth.ensures)

@@ -1,0 +1,11 @@
+-- `zvonurel_c::zv_histogram` meets its contract: `counts` of what `zvonurel::histogram` told; no refusal of it has number 0. Assumes nothing.
+use Rattle.meaning.specs.Answer as meaning
+use Rattle.laws.proofs.Numbered as numbered
+use Rattle.replies.proofs.Codes.{counts}
+use borrow.Author.Rules.{rules}
+use Rattle.zvonurel_c.proofs.zv_histogram.Goals as goal
+
+pub returns : goal.returns
+returns c =
+    let a = c.args in
+    counts (meaning.histogram a.index.now a.list.now) c.histogram.result c.histogram-2.result (numbered.histogram a.index.now a.list.now) c.histogram-2.ensures c.histogram.ensures
