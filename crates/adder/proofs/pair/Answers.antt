@@ -3,7 +3,6 @@
 use Prim.Native.Nat.{ℕ}
 use mathlib.Core.Path.{◌≡◌, sym, subst}
 use mathlib.Core.List.{List}
-use borrow.Author.Rules.{rules}
 use Rattle.column_meaning.specs.Column.{pair_value}
 use Rattle.meaning.specs.declared.Pairing.{Pairing}
 use Rattle.adder.specs.Digits.{Paired}

@@ -1,6 +1,6 @@
 -- `archive::measure` meets its contract: after k rounds the words are those before body k of the new index.
 -- Assumes nothing.
-use Prim.Native.Nat.{ℕ, ◌+◌, ◌-◌, ◌*◌, ◌≤◌, ◌<◌}
+use Prim.Native.Nat.{ℕ, ◌+◌, ◌*◌, ◌≤◌, ◌<◌}
 use mathlib.Core.Bool.{false≢true}
 use mathlib.Core.Path.{◌≡◌, refl, ◌∙◌}
 use mathlib.Core.List.{List}
@@ -9,7 +9,6 @@ use Rattle.meaning.specs.Index.{bitmap_count, body_place}
 use Rattle.laws.proofs.NewIndexes.{most_body_words}
 use Rattle.archive.specs.Anew.{anew}
 use Rattle.archive.proofs.Renewed.{new-place, new-next, new-end, new-low}
-use borrow.Author.Rules.{rules}
 use native.Mathlib.Omega.{arith}
 use Rattle.archive.proofs.measure.Lts
 use Rattle.archive.proofs.measure.Reads

@@ -1,16 +1,9 @@
 -- `archive::measure` meets its contract: after k rounds the words are those before body k of the new index.
 -- Assumes nothing.
-use Prim.Native.Nat.{ℕ, ◌+◌, ◌-◌, ◌*◌, ◌≤◌, ◌<◌}
-use mathlib.Core.Bool.{false≢true}
-use mathlib.Core.Path.{◌≡◌, refl, ◌∙◌}
-use mathlib.Core.List.{List}
-use Rattle.meaning.specs.Limits.{most_bitmaps, most_contents}
-use Rattle.meaning.specs.Index.{bitmap_count, body_place}
-use Rattle.laws.proofs.NewIndexes.{most_body_words}
+use Prim.Native.Nat.{◌-◌, ◌≤◌}
+use mathlib.Core.Path.{◌≡◌}
+use Rattle.meaning.specs.Index.{body_place}
 use Rattle.archive.specs.Anew.{anew}
-use Rattle.archive.proofs.Renewed.{new-place, new-next, new-end, new-low}
-use borrow.Author.Rules.{rules}
-use native.Mathlib.Omega.{arith}
 use Rattle.archive.proofs.measure.Given as goal
 
 abbrev pub invariant-loop-k : goal.invariant-loop-k

@@ -8,7 +8,6 @@ use Rattle.meaning.specs.Format.{rows_of, canonical}
 use Rattle.meaning.specs.Index.{row_count, rows_at}
 use Rattle.laws.specs.Laws.{SoundFacts}
 use Rattle.archive.proofs.Renewed.{read-sound, read-rows, read-rewritten}
-use borrow.Author.Rules.{rules}
 use native.Mathlib.Omega.{arith}
 use Rattle.archive.proofs.put_body.Lts
 use Rattle.archive.proofs.put_body.Reads

@@ -1,7 +1,6 @@
 -- `archive::rewrite` meets its contract: it measures first, and writes where the buffer has room.
 -- Assumes nothing.
 use Rattle.archive.proofs.Renewed.{wrote-no-room, wrote-anew}
-use borrow.Author.Rules.{rules}
 use native.Mathlib.Omega.{arith}
 use Rattle.archive.proofs.rewrite.Goals as goal
 

@@ -13,7 +13,6 @@ use Rattle.laws.proofs.NewIndexes.{room_within}
 use Rattle.archive.specs.Anew.{anew}
 use Rattle.archive.proofs.Growing.{words_of, within, entries-before, part_room, lent-long, begun_more}
 use Rattle.archive.proofs.Renewed.{new-facts, new-count, new-body}
-use borrow.Author.Rules.{rules}
 use native.Mathlib.Omega.{arith}
 use Rattle.archive.proofs.write_body.Lts
 use Rattle.archive.proofs.write_body.Reads

@@ -2,7 +2,6 @@
 use mathlib.Core.Path.{ap, ◌∙◌}
 use Rattle.answers.specs.Told.{refused_by, verdict_of}
 use Rattle.bitmaps.proofs.Numbers.{number-bad, number-good}
-use borrow.Author.Rules.{rules}
 use Rattle.bitmaps.proofs.check_number.Goals as goal
 
 pub returns-then-bitmaps-k : goal.returns-then-bitmaps-k

@@ -7,7 +7,6 @@ use Rattle.meaning.specs.Refusal.{Outcome}
 use Rattle.answers.specs.Told.{Wrote}
 use Rattle.meaning.specs.Answer.{ask_plain}
 use Rattle.bitmaps.proofs.Numbers.{rows_as, facts-as, asked-as}
-use borrow.Author.Rules.{rules}
 use Rattle.bitmaps.proofs.plain.Goals as goal
 
 pub format-requires : goal.format-requires

@@ -1,6 +1,5 @@
 -- `bitwise::body_count` meets its contract: the check's refusal, by `count-refused`; or, by `count-answered`, a sound
 -- body that `count::count` counts. Assumes nothing.
-use borrow.Author.Rules.{rules}
 use Rattle.meaning.specs.Ewah.{ewah_rows}
 use Rattle.meaning.specs.Format.{rows_of}
 use Rattle.on_bodies.proofs.Alone.{count-refused, countable, count-answered}

@@ -1,11 +1,9 @@
 -- `block_read::copy` meets its contract. The invariant: the first i words are copied.
 -- Assumes nothing.
-use Prim.Native.Nat.{ℕ, ◌+◌, ◌-◌, ◌≤◌}
+use Prim.Native.Nat.{ℕ, ◌+◌}
 use mathlib.Core.Path.{◌≡◌, refl}
 use lib.ListN.{get_or}
-use Rattle.block_read.specs.Taken.{Replaced}
 use Rattle.block_read.proofs.Replacing.{replaced-none, replaced-more}
-use borrow.Author.Rules.{rules}
 use native.Mathlib.Omega.{arith}
 use Rattle.block_read.proofs.copy.Goals as goal
 

@@ -1,12 +1,8 @@
 -- `block_read::copy` meets its contract. The invariant: the first i words are copied.
 -- Assumes nothing.
-use Prim.Native.Nat.{ℕ, ◌+◌, ◌-◌, ◌≤◌}
-use mathlib.Core.Path.{◌≡◌, refl}
+use Prim.Native.Nat.{◌+◌, ◌-◌, ◌≤◌}
 use lib.ListN.{get_or}
 use Rattle.block_read.specs.Taken.{Replaced}
-use Rattle.block_read.proofs.Replacing.{replaced-none, replaced-more}
-use borrow.Author.Rules.{rules}
-use native.Mathlib.Omega.{arith}
 use Rattle.block_read.proofs.copy.Given as goal
 
 abbrev pub invariant-loop-i : goal.invariant-loop-i

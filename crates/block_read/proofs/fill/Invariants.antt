@@ -1,11 +1,7 @@
 -- `block_read::fill` meets its contract. The invariant: the first i words are stored.
 -- Assumes nothing.
 use Prim.Native.Nat.{◌-◌, ◌≤◌}
-use mathlib.Core.Path.{◌≡◌, refl}
 use Rattle.block_read.specs.Taken.{Replaced}
-use Rattle.block_read.proofs.Replacing.{replaced-none, replaced-more}
-use borrow.Author.Rules.{rules}
-use native.Mathlib.Omega.{arith}
 use Rattle.block_read.proofs.fill.Given as goal
 
 abbrev pub invariant-loop-i : goal.invariant-loop-i

@@ -3,7 +3,6 @@
 use Rattle.bodies.proofs.Advancing.{passes-one}
 use Rattle.block_read.proofs.Joining.{even-taken}
 use native.Mathlib.Omega.{arith}
-use borrow.Author.Rules.{rules}
 use Rattle.block_read.proofs.take_even.Goals as goal
 
 pub returns : goal.returns

@@ -8,7 +8,6 @@ use Rattle.bodies.specs.Walks.{span_by, behind}
 use Rattle.block_read.specs.Taken.{Replaced}
 use Rattle.block_read.proofs.Joining.{run-taken}
 use native.Mathlib.Omega.{arith}
-use borrow.Author.Rules.{rules}
 use Rattle.block_read.proofs.take_run.Goals as goal
 
 pub segment-requires : goal.segment-requires

@@ -4,7 +4,6 @@ use mathlib.Core.Path.{ap}
 use Rattle.ewah.specs.declared.cursor.Piece as code
 use Rattle.bodies.specs.Walks.{span_by}
 use native.Mathlib.Omega.{arith}
-use borrow.Author.Rules.{rules}
 use Rattle.block_read.proofs.take_span.Goals as goal
 
 pub take_run-requires : goal.take_run-requires

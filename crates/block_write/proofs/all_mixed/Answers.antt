@@ -1,14 +1,10 @@
 -- `block_write::all_mixed` meets its contract. The invariant: the first i words are of mixed segments.
 -- Assumes nothing.
-use Prim.Native.Nat.{◌-◌, ◌≤◌}
 use mathlib.Core.Bool.{true≢false}
-use mathlib.Core.Path.{◌≡◌, refl, sym, ◌∙◌}
-use mathlib.Core.List.{map}
-use lib.ListN.{length, take}
+use mathlib.Core.Path.{refl, sym, ◌∙◌}
 use Rattle.meaning.specs.Segment.{all_set, mixed, kind}
 use Rattle.laws.proofs.Segments.{kind-mixed}
 use Rattle.block_write.proofs.Rowing.{first-all, agree-more}
-use borrow.Author.Rules.{rules}
 use native.Mathlib.Omega.{arith}
 use Rattle.block_write.proofs.all_mixed.Goals as goal
 

@@ -2,7 +2,6 @@
 -- Assumes nothing.
 use Rattle.block_write.proofs.Rowing.{row-even, row-each}
 use native.Mathlib.Omega.{arith}
-use borrow.Author.Rules.{rules}
 use Rattle.block_write.proofs.emit_apart.Goals as goal
 
 pub bounds-words-0 : goal.bounds-words-0

@@ -1,13 +1,10 @@
 -- `block_write::emit_each` meets its contract. The invariant: the first i words are emitted, before the last by whole
 -- segments.
 -- Assumes nothing.
-use Prim.Native.Nat.{◌-◌, ◌≤◌}
-use mathlib.Core.Path.{◌≡◌, refl, ◌∙◌}
-use lib.ListN.{length}
+use mathlib.Core.Path.{refl, ◌∙◌}
 use Rattle.meaning.specs.Segment.{kind}
 use Rattle.meaning.specs.Format.{width}
-use Rattle.block_write.proofs.Rowing.{first-all, EmittedTo, each_none, each-growing, each-room, each_more}
-use borrow.Author.Rules.{rules}
+use Rattle.block_write.proofs.Rowing.{first-all, each_none, each-growing, each-room, each_more}
 use native.Mathlib.Omega.{arith}
 use Rattle.block_write.proofs.emit_each.Goals as goal
 

@@ -2,13 +2,9 @@
 -- segments.
 -- Assumes nothing.
 use Prim.Native.Nat.{◌-◌, ◌≤◌}
-use mathlib.Core.Path.{◌≡◌, refl, ◌∙◌}
+use mathlib.Core.Path.{◌≡◌}
 use lib.ListN.{length}
-use Rattle.meaning.specs.Segment.{kind}
-use Rattle.meaning.specs.Format.{width}
-use Rattle.block_write.proofs.Rowing.{first-all, EmittedTo, each_none, each-growing, each-room, each_more}
-use borrow.Author.Rules.{rules}
-use native.Mathlib.Omega.{arith}
+use Rattle.block_write.proofs.Rowing.{EmittedTo}
 use Rattle.block_write.proofs.emit_each.Given as goal
 
 abbrev pub invariant-loop-i : goal.invariant-loop-i

@@ -1,6 +1,5 @@
 -- `block_write::emit_even` meets its contract: a run of the value that the word has.
 -- Assumes nothing.
-use borrow.Author.Rules.{rules}
 use Rattle.block_write.proofs.emit_even.Goals as goal
 
 pub emit_run-requires : goal.emit_run-requires

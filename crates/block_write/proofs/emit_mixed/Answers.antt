@@ -3,7 +3,6 @@
 -- Assumes nothing.
 use mathlib.Core.List.{map}
 use mathlib.Core.Path.{refl}
-use borrow.Author.Rules.{rules}
 use Rattle.meaning.specs.Segment.{mixed}
 use Rattle.body_write.proofs.OfEwah.{ewah-growing, ewah-grown, ewah-room, ewah-pushed}
 use Rattle.body_write.proofs.Emitting.{emitted-stored, emitted-measured}

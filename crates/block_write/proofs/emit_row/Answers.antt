@@ -8,7 +8,6 @@ use Rattle.meaning.specs.declared.Format.{Format}
 use Rattle.body_write.specs.Bodies.{Growing, RoomFor}
 use Rattle.block_write.proofs.Rowing.{row-even, row-each, row-mixed}
 use native.Mathlib.Omega.{arith}
-use borrow.Author.Rules.{rules}
 use Rattle.block_write.proofs.emit_row.Goals as goal
 
 pub bounds-words-0 : goal.bounds-words-0

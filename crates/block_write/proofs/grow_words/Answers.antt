@@ -1,7 +1,6 @@
 -- `block_write::grow_words` meets its contract.
 -- Assumes nothing.
 use Rattle.block_write.proofs.Joining.{joined-many}
-use borrow.Author.Rules.{rules}
 use Rattle.block_write.proofs.grow_words.Goals as goal
 
 pub returns : goal.returns

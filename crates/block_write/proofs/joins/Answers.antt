@@ -2,7 +2,6 @@
 -- Assumes nothing.
 use mathlib.Core.Bool.{true≢false}
 use mathlib.Core.Path.{sym}
-use borrow.Author.Rules.{rules}
 use Rattle.body_write.proofs.OfEwah.{ewah-growing}
 use Rattle.block_write.proofs.joins.Goals as goal
 

@@ -3,7 +3,6 @@ use mathlib.Core.Path.{refl}
 use Rattle.meaning.specs.Index.{body_at}
 use Rattle.contents.proofs.Places.{body-within, body-part}
 use native.Mathlib.Omega.{arith}
-use borrow.Author.Rules.{rules}
 use Rattle.contents.proofs.body.Goals as goal
 
 pub slice_bounds-result-end : goal.slice_bounds-result-end

@@ -1,5 +1,4 @@
 -- `contents::format` meets its contract: word 0 states WAH, or else EWAH. Assumes nothing.
-use borrow.Author.Rules.{rules}
 use Rattle.contents.proofs.Stated.{wah-stated, ewah-stated}
 use Rattle.contents.proofs.format.Goals as goal
 

@@ -5,7 +5,6 @@ use lib.ListN.{get_or}
 use Rattle.meaning.specs.Index.{start_of}
 use Rattle.contents.proofs.Places.{entry-within}
 use native.Mathlib.Omega.{arith}
-use borrow.Author.Rules.{rules}
 use Rattle.contents.proofs.start.Goals as goal
 
 pub entry_place-place-requires : goal.entry_place-place-requires

@@ -1,9 +1,8 @@
 -- `counters::add` meets its contract. The invariant: the word has been added to the planes below k, up to the carry.
 -- Assumes nothing.
 use mathlib.Core.Path.{◌≡◌}
-use Prim.Native.Nat.{◌-◌, ◌≤◌}
 use Rattle.meaning.specs.Limits.{counter_planes}
-use Rattle.counters.proofs.CounterLaws.{Added, added_none, added_more, added-early, added-all}
+use Rattle.counters.proofs.CounterLaws.{added_none, added_more, added-early, added-all}
 use borrow.Author.Rules.{rules}
 use native.Mathlib.Omega.{arith}
 use Rattle.counters.proofs.add.Goals as goal

@@ -9,8 +9,7 @@ use native.Mathlib.Nat.{le_refl}
 use borrow.Author.Tests.{ne_eqb}
 use lib.Bits.{bit_and}
 use lib.Dec.{eqb}
-use lib.ListN.{length, get_or}
-use Rattle.meaning.specs.Limits.{histogram_counts}
+use lib.ListN.{get_or}
 use Rattle.meaning.specs.Rows.{count_below}
 use Rattle.meaning.specs.Segment.{is_set}
 use Rattle.laws.proofs.Counting.{count-ext, count-le}

@@ -1,26 +1,16 @@
 -- `counters::add_to_histogram` meets its contract. The invariant: the counts below c have grown, the others are as they were.
 -- Assumes nothing.
-use native.Mathlib.Decide.{dec_le}
-use mathlib.Core.Bool.{Bool, ◌&&◌, and-false}
+use mathlib.Core.Bool.{◌&&◌}
 use mathlib.Core.List.{List}
-use mathlib.Core.Path.{◌≡◌, ap, ap₂, ◌∙◌}
-use Prim.Native.Nat.{ℕ, suc, ◌+◌, ◌-◌, ◌≤◌, ◌<◌}
-use native.Mathlib.Nat.{le_refl}
-use borrow.Author.Tests.{ne_eqb}
-use lib.Bits.{bit_and}
+use mathlib.Core.Path.{◌≡◌}
+use Prim.Native.Nat.{ℕ, ◌+◌, ◌-◌, ◌≤◌}
 use lib.Dec.{eqb}
 use lib.ListN.{length, get_or}
 use Rattle.meaning.specs.Limits.{histogram_counts}
 use Rattle.meaning.specs.Rows.{count_below}
 use Rattle.meaning.specs.Segment.{is_set}
-use Rattle.laws.proofs.Counting.{count-ext, count-le}
-use Rattle.laws.proofs.Counted.{count_none}
 use Rattle.counters.specs.Counters.{count_at}
-use Rattle.words.proofs.BitLaws.{and_set}
-use Rattle.words.proofs.Tests.{eqb-more}
-use Rattle.words.proofs.Entries.{Filled, filled-from, filled_more}
-use borrow.Author.Rules.{rules}
-use native.Mathlib.Omega.{arith}
+use Rattle.words.proofs.Entries.{Filled}
 use Rattle.counters.proofs.add_to_histogram.Given as goal
 
 -- how many rows of the mask have the count c

@@ -2,7 +2,7 @@
 -- Assumes nothing.
 use mathlib.Core.Bool.{◌&&◌, ◌||◌}
 use mathlib.Core.Path.{◌≡◌, sym, ap, ◌∙◌}
-use Prim.Native.Nat.{ℕ, ◌-◌, ◌/◌, ◌^◌, ◌≤◌, ◌<◌}
+use Prim.Native.Nat.{ℕ, ◌/◌, ◌^◌, ◌<◌}
 use borrow.Author.Tests.{lt-leb}
 use lib.Bits.{and_mask}
 use lib.Dec.{leb}
@@ -12,7 +12,7 @@ use Rattle.meaning.specs.Segment.{is_set}
 use Rattle.counters.specs.Counters.{count_at}
 use Rattle.laws.proofs.Counting.{zero_clear}
 use Rattle.words.proofs.BitLaws.{and_set, or_set}
-use Rattle.counters.proofs.CounterLaws.{Compared, compared-none, compared-more, compared-all, reaches, reaches-one, reaches-zero, reaches-flag, reaches-is}
+use Rattle.counters.proofs.CounterLaws.{compared-none, compared-more, compared-all, reaches, reaches-one, reaches-zero, reaches-flag, reaches-is}
 use borrow.Author.Rules.{rules}
 use native.Mathlib.Omega.{arith}
 use Rattle.counters.proofs.at_least.Lts

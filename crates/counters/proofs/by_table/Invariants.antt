@@ -1,18 +1,11 @@
 -- `counters::by_table` meets its contract. The invariant: the rows so far are those of which the entries below k tell.
 -- Assumes nothing.
-use mathlib.Core.Bool.{◌||◌}
-use mathlib.Core.Logic.{⊎_elim}
-use mathlib.Core.Path.{◌≡◌, sym, ap, ap₂, ◌∙◌}
+use mathlib.Core.Path.{◌≡◌}
 use Prim.Native.Nat.{ℕ, ◌+◌, ◌-◌, ◌≤◌, ◌<◌}
 use lib.ListN.{length}
 use Rattle.meaning.specs.Segment.{is_set}
-use Rattle.laws.proofs.Counting.{zero_clear}
 use Rattle.counters.specs.Counters.{count_at}
-use Rattle.words.proofs.BitLaws.{or_set}
-use Rattle.words.proofs.Tests.{eqb-more}
-use Rattle.words.proofs.Entries.{told, told-before, told-one, told-else, told-all}
-use borrow.Author.Rules.{rules}
-use native.Mathlib.Omega.{arith}
+use Rattle.words.proofs.Entries.{told}
 use Rattle.counters.proofs.by_table.Given as goal
 
 abbrev pub invariant-loop-k : goal.invariant-loop-k

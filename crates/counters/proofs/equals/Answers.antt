@@ -2,7 +2,7 @@
 -- Assumes nothing.
 use mathlib.Core.Bool.{not, ◌&&◌, and-true}
 use mathlib.Core.Path.{◌≡◌, sym, ap, ◌∙◌}
-use Prim.Native.Nat.{ℕ, ◌-◌, ◌/◌, ◌^◌, ◌≤◌, ◌<◌}
+use Prim.Native.Nat.{ℕ, ◌/◌, ◌^◌, ◌<◌}
 use borrow.Author.Tests.{ne_eqb}
 use lib.Bits.{and_mask}
 use lib.Dec.{eqb}
@@ -14,7 +14,7 @@ use Rattle.meaning.specs.Segment.{is_set}
 use Rattle.laws.proofs.Counting.{zero_clear}
 use Rattle.counters.specs.Counters.{count_at}
 use Rattle.words.proofs.BitLaws.{and_set, and-not-set}
-use Rattle.counters.proofs.CounterLaws.{Compared, compared-none, compared-more, compared-all, agrees, agrees-one, agrees-zero}
+use Rattle.counters.proofs.CounterLaws.{compared-none, compared-more, compared-all, agrees, agrees-one, agrees-zero}
 use borrow.Author.Rules.{rules}
 use native.Mathlib.Omega.{arith}
 use Rattle.counters.proofs.equals.Lts

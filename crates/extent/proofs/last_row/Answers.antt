@@ -1,5 +1,4 @@
 -- `extent::last_row` meets its contract. Assumes nothing.
-use borrow.Author.Rules.{rules}
 use native.Mathlib.Omega.{arith}
 use Rattle.extent.proofs.last_row.Goals as goal
 

@@ -1,5 +1,4 @@
 -- `extent::row` meets its contract: no product is more than the rows of all segments. Assumes nothing.
-use borrow.Author.Rules.{rules}
 use native.Mathlib.Omega.{arith}
 use native.Mathlib.Nat.{add-mul}
 use mathlib.Core.Path.{ap}

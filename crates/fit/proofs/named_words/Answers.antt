@@ -1,11 +1,5 @@
 -- `fit::named_words` meets its contract. The invariant: the total and the words of the bodies from i on are all the words. Assumes nothing.
 use Rattle.fit.proofs.Fitting.{words-next, words-end}
-use Rattle.meaning.specs.Answer.{named_bodies}
-use Rattle.meaning.specs.Question.{total_words}
-use lib.ListN.{length, drop}
-use mathlib.Core.Path.{◌≡◌}
-use Prim.Native.Nat.{◌+◌, ◌-◌, ◌*◌, ◌≤◌}
-use borrow.Author.Rules.{rules}
 use native.Mathlib.Omega.{arith}
 use Rattle.fit.proofs.named_words.Goals as goal
 

@@ -3,7 +3,6 @@ use Prim.Native.Nat.{◌*◌}
 use borrow.Author.Tests.{leb-true}
 use Rattle.fit.proofs.Fitting.{body-most, twice_most}
 use native.Mathlib.Omega.{arith}
-use borrow.Author.Rules.{rules}
 use Rattle.fit.proofs.surely_fits.Goals as goal
 
 pub returns-then-most_words-room : goal.returns-then-most_words-room

@@ -1,7 +1,6 @@
 -- `fit::write_answer` meets its contract: it surely fits, or what was measured says whether it does. Assumes nothing.
 use Rattle.fit.proofs.Fitting.{not-stored}
 use Rattle.fit.proofs.Listing.{measured-none, measured-room, measured-words}
-use borrow.Author.Rules.{rules}
 use Rattle.fit.proofs.write_answer.Goals as goal
 
 pub surely_fits-requires : goal.surely_fits-requires

@@ -1,6 +1,5 @@
 -- `fit::write_fitting` meets its contract: what the engine stored is what is reported. Assumes nothing.
 use Rattle.fit.proofs.Listing.{reported-words}
-use borrow.Author.Rules.{rules}
 use Rattle.fit.proofs.write_fitting.Goals as goal
 
 pub merge-m-requires : goal.merge-m-requires

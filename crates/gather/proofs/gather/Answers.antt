@@ -1,13 +1,11 @@
 -- `gather::gather` meets its contract. The invariant: the first k places are gathered.
 -- Assumes nothing.
-use Prim.Native.Nat.{◌-◌, ◌≤◌}
 use mathlib.Core.Path.{◌≡◌, sym, subst}
 use native.Mathlib.Nat.{le_refl}
 use lib.ListN.{length}
 use Rattle.meaning.specs.declared.Format.{Format}
 use Rattle.gather.specs.Gathered.{StandingBefore, Gathered}
-use Rattle.gather.proofs.Gathering.{Gathering, gathering-none, stands-before, gathering-more, gathering-all}
-use borrow.Author.Rules.{rules}
+use Rattle.gather.proofs.Gathering.{gathering-none, stands-before, gathering-more, gathering-all}
 use native.Mathlib.Omega.{arith}
 use Rattle.gather.proofs.gather.Goals as goal
 

@@ -1,7 +1,6 @@
 -- `gather::left` meets its contract: a tag of 2 is a dirty word (`left-dirty`), any other a clean run (`left-clean`).
 -- Assumes nothing.
 use Rattle.gather.proofs.Gathering.{left-dirty, left-clean}
-use borrow.Author.Rules.{rules}
 use Rattle.gather.proofs.left.Goals as goal
 
 pub returns-then-tag-eq2 : goal.returns-then-tag-eq2

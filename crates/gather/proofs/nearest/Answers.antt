@@ -1,10 +1,6 @@
 -- `gather::nearest` meets its contract. The invariant: no piece of the first k places has less left.
 -- Assumes nothing.
-use Prim.Native.Nat.{ℕ, ◌-◌, ◌≤◌, ◌<◌}
 use borrow.Author.Count.{below_more}
-use Rattle.ewah.specs.Cursors.{left_of}
-use Rattle.walk.specs.Queries.{cursor_of}
-use borrow.Author.Rules.{rules}
 use native.Mathlib.Omega.{arith}
 use Rattle.gather.proofs.nearest.Goals as goal
 

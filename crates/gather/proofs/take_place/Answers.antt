@@ -4,7 +4,6 @@ use Rattle.meaning.specs.Index.{body_at}
 use Rattle.walk.proofs.Places.{next_low}
 use Rattle.gather.proofs.Gathering.{place-taken}
 use native.Mathlib.Omega.{arith}
-use borrow.Author.Rules.{rules}
 use Rattle.gather.proofs.take_place.Goals as goal
 
 pub take-d-requires : goal.take-d-requires

@@ -1,7 +1,7 @@
 -- `histograms::histogram_over` meets its contract. The invariant: the cursors are on their way at segment o, and the
 -- counts are the histogram of the first o segments.
 -- Assumes nothing.
-use Prim.Native.Nat.{ℕ, ◌-◌}
+use Prim.Native.Nat.{ℕ}
 use mathlib.Core.Path.{◌≡◌, refl, ap, ◌∙◌, subst}
 use mathlib.Core.List.{List}
 use lib.ListN.{length, length-replicate, get_or-replicate}
@@ -12,8 +12,7 @@ use Rattle.laws.proofs.Formats.{width-le}
 use Rattle.walk.specs.Queries.{PlacesIn}
 use Rattle.walk.specs.Surveys.{Surveyed}
 use Rattle.merge.proofs.Along.{Laid, laid, NextStretch, along-none, next-stretch, mask-of}
-use Rattle.histograms.proofs.Histograms.{Counting, counting-none, counting_more, counting-all, entries-low}
-use borrow.Author.Rules.{rules}
+use Rattle.histograms.proofs.Histograms.{counting-none, counting_more, counting-all, entries-low}
 use native.Mathlib.Omega.{arith}
 use Rattle.histograms.proofs.histogram_over.Lts
 use Rattle.histograms.proofs.histogram_over.Reads

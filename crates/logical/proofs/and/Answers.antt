@@ -1,6 +1,5 @@
 -- `logical::and` meets its contract: the operation chooses the rows of the question. Assumes nothing.
 use native.Mathlib.Omega.{arith}
-use borrow.Author.Rules.{rules}
 use Rattle.meaning.specs.Answer.{ask_logical}
 use Rattle.logical.proofs.Pairs.{and-rows, two-bad}
 use Rattle.logical.proofs.and.Goals as goal

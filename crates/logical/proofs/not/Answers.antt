@@ -1,6 +1,5 @@
 -- `logical::not` meets its contract: the operation chooses the rows of the question. Assumes nothing.
 use native.Mathlib.Omega.{arith}
-use borrow.Author.Rules.{rules}
 use Rattle.meaning.specs.Answer.{ask_not}
 use Rattle.logical.proofs.Pairs.{not-rows, one-bad}
 use Rattle.logical.proofs.not.Goals as goal

@@ -1,6 +1,5 @@
 -- `logical::words_alone` meets its contract: `alone-words` and `alone-refused` are the two cases of the answer. Assumes nothing.
 use Rattle.logical.proofs.Pairs.{alone-words, alone-refused}
-use borrow.Author.Rules.{rules}
 use Rattle.logical.proofs.words_alone.Goals as goal
 
 pub returns-in-Words : goal.returns-in-Words

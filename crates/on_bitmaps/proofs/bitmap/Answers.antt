@@ -2,7 +2,6 @@
 use mathlib.Core.Path.{refl, sym, ◌∙◌}
 use Rattle.answers.proofs.Checks.{sound-is, refused-is, refused-not-sound}
 use Rattle.laws.proofs.BitmapPart.{part-laws}
-use borrow.Author.Rules.{rules}
 use Rattle.on_bitmaps.proofs.bitmap.Goals as goal
 
 pub body-requires : goal.body-requires

@@ -4,7 +4,6 @@ use Rattle.answers.proofs.Checks.{sound-is, refuses, answers}
 use Rattle.meaning.specs.Refusal.{sound, refuse_if}
 use Rattle.meaning.specs.Answer.{check, bad_bitmap, bitmap_refusal}
 use Rattle.laws.proofs.IndexSound.{index-means}
-use borrow.Author.Rules.{rules}
 use Rattle.on_bitmaps.proofs.bitmap_refusal.Goals as goal
 
 pub check_number-requires : goal.check_number-requires

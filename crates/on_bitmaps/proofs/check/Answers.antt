@@ -1,6 +1,5 @@
 -- `on_bitmaps::check` meets its contract: that of `index::check::check`. Assumes nothing.
 use Rattle.meaning.specs.Answer.{check}
-use borrow.Author.Rules.{rules}
 use Rattle.on_bitmaps.proofs.check.Goals as goal
 
 pub returns : goal.returns

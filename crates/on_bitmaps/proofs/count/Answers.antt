@@ -1,7 +1,6 @@
 -- `on_bitmaps::count` meets its contract: the bitmap's refusal; or, by `known-index`, a bitmap of a sound index, and then
 -- `bitmaps::count`. Assumes nothing.
 use mathlib.Core.Path.{ap}
-use borrow.Author.Rules.{rules}
 use Rattle.meaning.specs.Refusal.{answer}
 use Rattle.meaning.specs.Index.{row_count, rows_at}
 use Rattle.meaning.specs.Answer.{bitmap_refusal, ask_count, count}

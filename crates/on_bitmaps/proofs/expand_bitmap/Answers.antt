@@ -1,7 +1,6 @@
 -- `on_bitmaps::expand_bitmap` meets its contract: the bitmap's refusal; or, by `known-index`, a bitmap of a sound index, and then
 -- `bitmaps::plain`. Assumes nothing.
 use lib.ListN.{length}
-use borrow.Author.Rules.{rules}
 use Rattle.meaning.specs.Index.{row_count, rows_at}
 use Rattle.meaning.specs.Answer.{bitmap_refusal, ask_plain, expand_bitmap}
 use Rattle.answers.proofs.Checks.{refuses}

@@ -1,6 +1,5 @@
 -- `on_bitmaps::nth` meets its contract: the bitmap's refusal; or, by `known-index`, a bitmap of a sound index, and then
 -- `bitmaps::nth`. Assumes nothing.
-use borrow.Author.Rules.{rules}
 use Rattle.meaning.specs.Index.{row_count, rows_at}
 use Rattle.meaning.specs.Answer.{bitmap_refusal, ask_nth, nth}
 use Rattle.answers.specs.Told.{number_of}

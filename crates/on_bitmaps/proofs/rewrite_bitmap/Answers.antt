@@ -1,7 +1,6 @@
 -- `on_bitmaps::rewrite_bitmap` meets its contract: the bitmap's refusal; or, by `known-index`, a bitmap of a sound index, and then
 -- `bitmaps::rewrite`. Assumes nothing.
 use lib.ListN.{length}
-use borrow.Author.Rules.{rules}
 use Rattle.meaning.specs.Index.{row_count, rows_at}
 use Rattle.meaning.specs.Answer.{bitmap_refusal, write}
 use Rattle.meaning.specs.Rewriting.{rewrite_bitmap}

@@ -1,7 +1,6 @@
 -- `on_bitmaps::rewrite_index` meets its contract: the check, and then `archive::rewrite`.
 -- Assumes nothing.
 use lib.ListN.{length}
-use borrow.Author.Rules.{rules}
 use Rattle.meaning.specs.Answer.{check}
 use Rattle.meaning.specs.Index.{row_count, bitmap_count}
 use Rattle.meaning.specs.NewIndex.{write_index}

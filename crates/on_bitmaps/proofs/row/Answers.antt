@@ -1,6 +1,5 @@
 -- `on_bitmaps::row` meets its contract: the bitmap's refusal; or, by `known-index`, a bitmap of a sound index, and then
 -- `bitmaps::row`. Assumes nothing.
-use borrow.Author.Rules.{rules}
 use Rattle.meaning.specs.Index.{format_of, row_count, body_at}
 use Rattle.meaning.specs.Answer.{bitmap_refusal, ask_row, row}
 use Rattle.answers.specs.Told.{flag_of}

@@ -1,6 +1,5 @@
 -- `on_bodies::body_count` meets its contract: the check's refusal, by `count-refused`; or, by `count-answered`, a sound
 -- body that `body_read::count::count` counts. Assumes nothing.
-use borrow.Author.Rules.{rules}
 use Rattle.on_bodies.proofs.Alone.{count-refused, countable, count-answered}
 use Rattle.on_bodies.proofs.body_count.Goals as goal
 

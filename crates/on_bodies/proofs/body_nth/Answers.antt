@@ -1,5 +1,4 @@
 -- `on_bodies::body_nth` meets its contract: the check's refusal; or, by `facts`, a sound body that `single::body::nth` is asked of. Assumes nothing.
-use borrow.Author.Rules.{rules}
 use mathlib.Core.Path.{◌≡◌}
 use Rattle.meaning.specs.Refusal.{sound}
 use Rattle.meaning.specs.Format.{rows_of}

@@ -1,5 +1,4 @@
 -- `on_bodies::body_row` meets its contract: the check's refusal; or, by `facts`, a sound body that `single::body::row` is asked of. Assumes nothing.
-use borrow.Author.Rules.{rules}
 use mathlib.Core.Path.{◌≡◌}
 use Rattle.meaning.specs.Refusal.{sound}
 use Rattle.meaning.specs.Answer.{check_body, ask_row, body_row}

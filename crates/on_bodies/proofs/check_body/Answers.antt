@@ -1,5 +1,4 @@
 -- `on_bodies::check_body` meets its contract: `rows-over` for too many rows; else `rows-fine`, of what `bodies::check::check` found. Assumes nothing.
-use borrow.Author.Rules.{rules}
 use mathlib.Core.Path.{ap, ◌∙◌}
 use Rattle.answers.specs.Told.{refused_by, verdict_of}
 use Rattle.on_bodies.proofs.Alone.{rows-over, rows-fine}

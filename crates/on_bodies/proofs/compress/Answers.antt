@@ -1,5 +1,4 @@
 -- `on_bodies::compress` meets its contract: the refusal of `plain::compress::check_plain`; or, by `plain_rows`, valid plain words, and then `plain::compress::write_plain`. Assumes nothing.
-use borrow.Author.Rules.{rules}
 use lib.ListN.{length}
 use Rattle.meaning.specs.Segment.{has_row}
 use Rattle.meaning.specs.Answer.{plain_fault, write, compress}

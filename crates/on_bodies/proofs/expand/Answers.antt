@@ -1,5 +1,4 @@
 -- `on_bodies::expand` meets its contract: the check's refusal; or, by `facts`, a sound body, and then `plain::expand::plain`. Assumes nothing.
-use borrow.Author.Rules.{rules}
 use mathlib.Core.Path.{◌≡◌}
 use Rattle.meaning.specs.Refusal.{sound}
 use Rattle.meaning.specs.Format.{rows_of}

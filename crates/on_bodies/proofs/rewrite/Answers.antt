@@ -1,5 +1,4 @@
 -- `on_bodies::rewrite` meets its contract: the check's refusal; or, by `facts`, a sound body, and then `single::body::rewrite`. Assumes nothing.
-use borrow.Author.Rules.{rules}
 use mathlib.Core.Path.{◌≡◌}
 use Rattle.meaning.specs.Refusal.{sound}
 use Rattle.meaning.specs.Format.{rows_of}

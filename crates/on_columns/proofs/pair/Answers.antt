@@ -1,7 +1,6 @@
 -- `on_columns::pair` meets its contract: the check, and then `columns::pair::pair`.
 -- Assumes nothing.
 use lib.ListN.{length}
-use borrow.Author.Rules.{rules}
 use Rattle.meaning.specs.Answer.{check}
 use Rattle.column_meaning.specs.Columns.{ask_pair, pair}
 use Rattle.answers.proofs.Checks.{refuses, checked-index}

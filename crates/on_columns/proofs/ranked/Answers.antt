@@ -1,7 +1,6 @@
 -- `on_columns::ranked` meets its contract: the check, and then `columns::rank::ranked`; by `demand-met` demand 3 follows.
 -- Assumes nothing.
 use lib.ListN.{length}
-use borrow.Author.Rules.{rules}
 use Rattle.meaning.specs.Answer.{check}
 use Rattle.column_meaning.specs.Columns.{ask_ranked, ranked}
 use Rattle.answers.proofs.Checks.{refuses, checked-index}

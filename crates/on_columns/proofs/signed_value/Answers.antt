@@ -1,6 +1,5 @@
 -- `on_columns::signed_value` meets its contract: the check, and then `columns::ask::signed_value`.
 -- Assumes nothing.
-use borrow.Author.Rules.{rules}
 use Rattle.meaning.specs.Answer.{check}
 use Rattle.column_meaning.specs.Columns.{ask_signed_value, signed_value}
 use Rattle.answers.specs.Told.{signed_told}

@@ -1,6 +1,5 @@
 -- `on_columns::value` meets its contract: the check, and then `columns::ask::value`.
 -- Assumes nothing.
-use borrow.Author.Rules.{rules}
 use Rattle.meaning.specs.Answer.{check}
 use Rattle.column_meaning.specs.Columns.{ask_value, value}
 use Rattle.answers.specs.Told.{value_told}

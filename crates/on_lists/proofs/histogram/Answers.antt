@@ -7,7 +7,6 @@ use Rattle.meaning.specs.Refusal.{Outcome}
 use Rattle.meaning.specs.Answer.{check, ask_histogram, histogram}
 use Rattle.answers.specs.Told.{Counted}
 use Rattle.on_lists.proofs.Guards.{counted-then}
-use borrow.Author.Rules.{rules}
 use Rattle.on_lists.proofs.histogram.Goals as goal
 
 pub histogram-requires : goal.histogram-requires

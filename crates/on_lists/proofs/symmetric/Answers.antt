@@ -4,7 +4,6 @@ use Rattle.answers.proofs.Checks.{refuses, checked-index}
 use Rattle.meaning.specs.Answer.{check, ask_symmetric, symmetric}
 use Rattle.fit.proofs.Listing.{reported-refused}
 use Rattle.on_lists.proofs.Guards.{reported-then}
-use borrow.Author.Rules.{rules}
 use Rattle.on_lists.proofs.symmetric.Goals as goal
 
 pub symmetric-requires : goal.symmetric-requires

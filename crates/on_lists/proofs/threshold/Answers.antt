@@ -4,7 +4,6 @@ use Rattle.answers.proofs.Checks.{refuses, checked-index}
 use Rattle.meaning.specs.Answer.{check, ask_threshold, threshold}
 use Rattle.fit.proofs.Listing.{reported-refused}
 use Rattle.on_lists.proofs.Guards.{reported-then, demand-met}
-use borrow.Author.Rules.{rules}
 use Rattle.on_lists.proofs.threshold.Goals as goal
 
 pub threshold-requires : goal.threshold-requires

@@ -1,6 +1,5 @@
 -- `on_logical::and` meets its contract: the check, and then `logical::and`. Assumes nothing.
 use lib.ListN.{length}
-use borrow.Author.Rules.{rules}
 use Rattle.meaning.specs.Answer.{check, ask_logical, logical, and}
 use Rattle.meaning.specs.Question.{intersection}
 use Rattle.answers.proofs.Checks.{refuses, checked-index}

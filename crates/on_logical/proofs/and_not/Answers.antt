@@ -1,6 +1,5 @@
 -- `on_logical::and_not` meets its contract: the check, and then `logical::and_not`. Assumes nothing.
 use lib.ListN.{length}
-use borrow.Author.Rules.{rules}
 use Rattle.meaning.specs.Answer.{check, ask_logical, logical, and_not}
 use Rattle.meaning.specs.Question.{difference}
 use Rattle.answers.proofs.Checks.{refuses, checked-index}

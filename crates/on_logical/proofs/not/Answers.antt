@@ -1,6 +1,5 @@
 -- `on_logical::not` meets its contract: the check, and then `logical::not`. Assumes nothing.
 use lib.ListN.{length}
-use borrow.Author.Rules.{rules}
 use Rattle.meaning.specs.Answer.{check, ask_not, not_of}
 use Rattle.answers.proofs.Checks.{refuses, checked-index}
 use Rattle.answers.proofs.Tells.{wrote-refused, wrote_then}

@@ -1,6 +1,5 @@
 -- `on_logical::or` meets its contract: the check, and then `logical::or`. Assumes nothing.
 use lib.ListN.{length}
-use borrow.Author.Rules.{rules}
 use Rattle.meaning.specs.Answer.{check, ask_logical, logical, or}
 use Rattle.meaning.specs.Question.{union}
 use Rattle.answers.proofs.Checks.{refuses, checked-index}

@@ -1,6 +1,5 @@
 -- `on_logical::xor` meets its contract: the check, and then `logical::xor`. Assumes nothing.
 use lib.ListN.{length}
-use borrow.Author.Rules.{rules}
 use Rattle.meaning.specs.Answer.{check, ask_logical, logical, xor}
 use Rattle.meaning.specs.Question.{symmetric_difference}
 use Rattle.answers.proofs.Checks.{refuses, checked-index}

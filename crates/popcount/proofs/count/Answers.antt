@@ -5,7 +5,6 @@ use Prim.Native.Nat.{ℕ, ◌+◌, ◌-◌, ◌*◌, ◌/◌}
 use Rattle.popcount.specs.Counts.{block_size, set_in}
 use Rattle.popcount.proofs.Counted.{part-set, set-parts, fits_word}
 use native.Mathlib.Omega.{arith}
-use borrow.Author.Rules.{rules}
 use Rattle.popcount.proofs.count.Lts
 use Rattle.popcount.proofs.count.Reads
 use Rattle.popcount.proofs.count.Tie

@@ -2,12 +2,11 @@
 -- them are the set bits of the words from `from` to i, which are whole blocks.
 -- Assumes nothing.
 use mathlib.Core.Path.{◌≡◌, ap, ◌∙◌}
-use Prim.Native.Nat.{ℕ, ◌+◌, ◌-◌, ◌*◌, ◌%◌, ◌^◌, ◌≤◌, ◌<◌}
+use Prim.Native.Nat.{ℕ, ◌+◌, ◌-◌, ◌*◌, ◌^◌, ◌≤◌, ◌<◌}
 use Rattle.meaning.specs.Limits.{most_segments}
 use Rattle.popcount.specs.Counts.{block_size, set_in}
 use Rattle.popcount.specs.Weights.{weight}
 use Rattle.popcount.proofs.Counted.{set-none, block-next, fits_word}
-use borrow.Author.Rules.{rules}
 use native.Mathlib.Omega.{arith}
 use Rattle.popcount.proofs.count_blocks.Lts
 use Rattle.popcount.proofs.count_blocks.Reads

@@ -1,14 +1,10 @@
 -- `popcount::count_blocks` meets its contract, by `block-next`. The invariant: what the planes hold and what has left
 -- them are the set bits of the words from `from` to i, which are whole blocks.
 -- Assumes nothing.
-use mathlib.Core.Path.{◌≡◌, ap, ◌∙◌}
-use Prim.Native.Nat.{ℕ, ◌+◌, ◌-◌, ◌*◌, ◌%◌, ◌^◌, ◌≤◌, ◌<◌}
-use Rattle.meaning.specs.Limits.{most_segments}
+use mathlib.Core.Path.{◌≡◌}
+use Prim.Native.Nat.{◌+◌, ◌-◌, ◌*◌, ◌%◌, ◌≤◌}
 use Rattle.popcount.specs.Counts.{block_size, set_in}
 use Rattle.popcount.specs.Weights.{weight}
-use Rattle.popcount.proofs.Counted.{set-none, block-next, fits_word}
-use borrow.Author.Rules.{rules}
-use native.Mathlib.Omega.{arith}
 use Rattle.popcount.proofs.count_blocks.Given as goal
 
 abbrev pub invariant-loop-i : goal.invariant-loop-i

@@ -6,7 +6,6 @@ use Prim.Native.Nat.{ℕ, ◌+◌, ◌-◌, ◌≤◌}
 use Rattle.meaning.specs.Limits.{most_segments}
 use Rattle.popcount.specs.Counts.{set_in}
 use Rattle.popcount.proofs.Counted.{part-set, set-none, each_next, fits_word}
-use borrow.Author.Rules.{rules}
 use native.Mathlib.Omega.{arith}
 use Rattle.popcount.proofs.count_each.Lts
 use Rattle.popcount.proofs.count_each.Reads

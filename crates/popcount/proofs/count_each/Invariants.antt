@@ -1,13 +1,9 @@
 -- `popcount::count_each` meets its contract, by `each_next`. The invariant: n bits of the words from `from` to i are
 -- set.
 -- Assumes nothing.
-use mathlib.Core.Path.{◌≡◌, sym, ap, ◌∙◌}
-use Prim.Native.Nat.{ℕ, ◌+◌, ◌-◌, ◌≤◌}
-use Rattle.meaning.specs.Limits.{most_segments}
+use mathlib.Core.Path.{◌≡◌}
+use Prim.Native.Nat.{◌-◌, ◌≤◌}
 use Rattle.popcount.specs.Counts.{set_in}
-use Rattle.popcount.proofs.Counted.{part-set, set-none, each_next, fits_word}
-use borrow.Author.Rules.{rules}
-use native.Mathlib.Omega.{arith}
 use Rattle.popcount.proofs.count_each.Given as goal
 
 abbrev pub invariant-loop-i : goal.invariant-loop-i

@@ -3,7 +3,6 @@ use lib.ListN.{length}
 use Rattle.meaning.specs.Answer as meaning
 use Rattle.laws.proofs.Numbered as numbered
 use Rattle.replies.proofs.Codes.{writes}
-use borrow.Author.Rules.{rules}
 use Rattle.zvonurel_c.proofs.zv_and.Goals as goal
 
 pub returns : goal.returns

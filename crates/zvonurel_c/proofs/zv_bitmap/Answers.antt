@@ -1,7 +1,6 @@
 -- `zvonurel_c::zv_bitmap` meets its contract: `lends_none` on a refusal; else `lends_part`, with the place that the contents say. Assumes nothing.
 use Rattle.answers.proofs.Checks.{sound-is, refused-is}
 use Rattle.zvonurel_c.proofs.Lent.{there, lends_none, lends_part}
-use borrow.Author.Rules.{rules}
 use Rattle.zvonurel_c.proofs.zv_bitmap.Goals as goal
 
 pub start-requires : goal.start-requires

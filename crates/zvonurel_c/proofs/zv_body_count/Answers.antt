@@ -5,7 +5,6 @@ use Rattle.meaning.specs.Answer as meaning
 use Rattle.replies.specs.Exported.{number_code}
 use Rattle.laws.proofs.Numbered as numbered
 use Rattle.replies.proofs.Codes.{numbers}
-use borrow.Author.Rules.{rules}
 use Rattle.zvonurel_c.proofs.zv_body_count.Goals as goal
 
 pub returns : goal.returns

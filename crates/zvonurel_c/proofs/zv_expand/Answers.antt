@@ -4,7 +4,6 @@ use Rattle.meaning.specs.declared.Format.TheVariants.{Ewah}
 use Rattle.meaning.specs.Answer as meaning
 use Rattle.laws.proofs.Numbered as numbered
 use Rattle.replies.proofs.Codes.{writes}
-use borrow.Author.Rules.{rules}
 use Rattle.zvonurel_c.proofs.zv_expand.Goals as goal
 
 pub returns : goal.returns

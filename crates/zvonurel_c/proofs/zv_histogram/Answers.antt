@@ -2,7 +2,6 @@
 use Rattle.meaning.specs.Answer as meaning
 use Rattle.laws.proofs.Numbered as numbered
 use Rattle.replies.proofs.Codes.{counts}
-use borrow.Author.Rules.{rules}
 use Rattle.zvonurel_c.proofs.zv_histogram.Goals as goal
 
 pub returns : goal.returns

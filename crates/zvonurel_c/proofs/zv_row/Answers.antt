@@ -4,7 +4,6 @@ use Rattle.meaning.specs.Answer as meaning
 use Rattle.replies.specs.Exported.{flag_code}
 use Rattle.laws.proofs.Numbered as numbered
 use Rattle.replies.proofs.Codes.{flags}
-use borrow.Author.Rules.{rules}
 use Rattle.zvonurel_c.proofs.zv_row.Goals as goal
 
 pub returns : goal.returns

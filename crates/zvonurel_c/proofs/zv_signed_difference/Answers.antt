@@ -4,7 +4,6 @@ use Rattle.column_meaning.specs.Columns as columns
 use Rattle.meaning.specs.declared.Pairing.TheVariants.{Difference}
 use Rattle.laws.proofs.Numbered as numbered
 use Rattle.replies.proofs.Codes.{writes}
-use borrow.Author.Rules.{rules}
 use Rattle.zvonurel_c.proofs.zv_signed_difference.Goals as goal
 
 pub returns : goal.returns

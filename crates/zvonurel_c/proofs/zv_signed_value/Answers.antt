@@ -4,7 +4,6 @@ use Rattle.column_meaning.specs.Columns as columns
 use Rattle.replies.specs.Exported.{signed_code}
 use Rattle.laws.proofs.Numbered as numbered
 use Rattle.replies.proofs.Codes.{signed-values}
-use borrow.Author.Rules.{rules}
 use Rattle.zvonurel_c.proofs.zv_signed_value.Goals as goal
 
 pub returns : goal.returns

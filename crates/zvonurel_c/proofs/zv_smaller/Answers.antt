@@ -4,7 +4,6 @@ use Rattle.column_meaning.specs.Columns as columns
 use Rattle.meaning.specs.declared.Pairing.TheVariants.{Smaller}
 use Rattle.laws.proofs.Numbered as numbered
 use Rattle.replies.proofs.Codes.{writes}
-use borrow.Author.Rules.{rules}
 use Rattle.zvonurel_c.proofs.zv_smaller.Goals as goal
 
 pub returns : goal.returns

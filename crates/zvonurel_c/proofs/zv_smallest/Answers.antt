@@ -9,7 +9,6 @@ use Rattle.meaning.specs.Refusal.{Outcome}
 use Rattle.laws.specs.RankLaws.{RankDemand}
 use Rattle.laws.proofs.Numbered as numbered
 use Rattle.replies.proofs.Codes.{writes, demanded}
-use borrow.Author.Rules.{rules}
 use Rattle.zvonurel_c.proofs.zv_smallest.Goals as goal
 
 pub returns : goal.returns

@@ -7,7 +7,6 @@ use Rattle.meaning.specs.Refusal.{Outcome}
 use Rattle.laws.specs.Demands.{ThresholdDemand}
 use Rattle.laws.proofs.Numbered as numbered
 use Rattle.replies.proofs.Codes.{reports, demanded}
-use borrow.Author.Rules.{rules}
 use Rattle.zvonurel_c.proofs.zv_threshold.Goals as goal
 
 pub returns : goal.returns

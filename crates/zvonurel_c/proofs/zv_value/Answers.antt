@@ -4,7 +4,6 @@ use Rattle.column_meaning.specs.Columns as columns
 use Rattle.replies.specs.Exported.{value_code}
 use Rattle.laws.proofs.Numbered as numbered
 use Rattle.replies.proofs.Codes.{values}
-use borrow.Author.Rules.{rules}
 use Rattle.zvonurel_c.proofs.zv_value.Goals as goal
 
 pub returns : goal.returns

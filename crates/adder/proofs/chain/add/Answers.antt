@@ -2,12 +2,11 @@
 -- Assumes nothing.
 use mathlib.Core.Path.{◌≡◌, refl}
 use mathlib.Core.List.{List}
-use Prim.Native.Nat.{ℕ, ◌-◌, ◌≤◌}
+use Prim.Native.Nat.{ℕ}
 use lib.ListN.{replicate}
 use Rattle.meaning.specs.Limits.{block_segments}
-use Rattle.words.proofs.Entries.{Filled, filled-from, filled_more}
+use Rattle.words.proofs.Entries.{filled-from, filled_more}
 use Rattle.words.proofs.Adders.{digit_word, carry_word, wordwise, added-all}
-use borrow.Author.Rules.{rules}
 use native.Mathlib.Omega.{arith}
 use Rattle.adder.proofs.chain.add.Goals as goal
 

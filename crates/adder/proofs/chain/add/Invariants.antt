@@ -1,14 +1,9 @@
 -- `adder::chain::add` meets its contract. The invariant: the first w words of both rows are there.
 -- Assumes nothing.
-use mathlib.Core.Path.{◌≡◌, refl}
-use mathlib.Core.List.{List}
-use Prim.Native.Nat.{ℕ, ◌-◌, ◌≤◌}
-use lib.ListN.{replicate}
+use Prim.Native.Nat.{◌-◌, ◌≤◌}
 use Rattle.meaning.specs.Limits.{block_segments}
-use Rattle.words.proofs.Entries.{Filled, filled-from, filled_more}
-use Rattle.words.proofs.Adders.{digit_word, carry_word, wordwise, added-all}
-use borrow.Author.Rules.{rules}
-use native.Mathlib.Omega.{arith}
+use Rattle.words.proofs.Entries.{Filled}
+use Rattle.words.proofs.Adders.{digit_word, carry_word, wordwise}
 use Rattle.adder.proofs.chain.add.Given as goal
 
 abbrev pub invariant-loop-w : goal.invariant-loop-w

@@ -1,14 +1,12 @@
 -- `adder::chain::difference` meets its contract. The invariant is the sum's, over the other digits of y and with 1 carried into
 -- the lowest.
 -- Assumes nothing.
-use Prim.Native.Nat.{◌-◌, ◌≤◌}
 use mathlib.Core.Path.{◌≡◌}
 use Rattle.column_meaning.specs.Column.{pair_value}
 use Rattle.meaning.specs.declared.Pairing.TheVariants.{Difference}
-use Rattle.adder.proofs.Adding.{DifferenceCarry, row-digit, flipped-digit, carrying-none, carrying-more, digits-subtracted, last-carries}
+use Rattle.adder.proofs.Adding.{row-digit, flipped-digit, carrying-none, carrying-more, digits-subtracted, last-carries}
 use Rattle.adder.proofs.Bits.{one_bit}
-use Rattle.adder.proofs.Filling.{Filling, filling-none, filling-more, filling-all}
-use borrow.Author.Rules.{rules}
+use Rattle.adder.proofs.Filling.{filling-none, filling-more, filling-all}
 use native.Mathlib.Omega.{arith}
 use Rattle.adder.proofs.chain.difference.Goals as goal
 

@@ -2,14 +2,10 @@
 -- the lowest.
 -- Assumes nothing.
 use Prim.Native.Nat.{◌-◌, ◌≤◌}
-use mathlib.Core.Path.{◌≡◌}
 use Rattle.column_meaning.specs.Column.{pair_value}
 use Rattle.meaning.specs.declared.Pairing.TheVariants.{Difference}
-use Rattle.adder.proofs.Adding.{DifferenceCarry, row-digit, flipped-digit, carrying-none, carrying-more, digits-subtracted, last-carries}
-use Rattle.adder.proofs.Bits.{one_bit}
-use Rattle.adder.proofs.Filling.{Filling, filling-none, filling-more, filling-all}
-use borrow.Author.Rules.{rules}
-use native.Mathlib.Omega.{arith}
+use Rattle.adder.proofs.Adding.{DifferenceCarry}
+use Rattle.adder.proofs.Filling.{Filling}
 use Rattle.adder.proofs.chain.difference.Given as goal
 
 abbrev pub invariant-loop-i : goal.invariant-loop-i

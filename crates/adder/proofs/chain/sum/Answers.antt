@@ -1,14 +1,12 @@
 -- `adder::chain::sum` meets its contract. The invariant: what exists and the i lowest digits of the sums are there, and the
 -- carries into digit i.
 -- Assumes nothing.
-use Prim.Native.Nat.{◌-◌, ◌≤◌}
 use mathlib.Core.Path.{◌≡◌}
 use Rattle.column_meaning.specs.Column.{pair_value}
 use Rattle.meaning.specs.declared.Pairing.TheVariants.{Sum}
-use Rattle.adder.proofs.Adding.{SumCarry, row-digit, carrying-none, carrying-more, digits-summed}
+use Rattle.adder.proofs.Adding.{row-digit, carrying-none, carrying-more, digits-summed}
 use Rattle.adder.proofs.Bits.{zero_bit}
-use Rattle.adder.proofs.Filling.{Filling, filling-none, filling-more, filling-all}
-use borrow.Author.Rules.{rules}
+use Rattle.adder.proofs.Filling.{filling-none, filling-more, filling-all}
 use native.Mathlib.Omega.{arith}
 use Rattle.adder.proofs.chain.sum.Goals as goal
 

@@ -2,14 +2,10 @@
 -- carries into digit i.
 -- Assumes nothing.
 use Prim.Native.Nat.{◌-◌, ◌≤◌}
-use mathlib.Core.Path.{◌≡◌}
 use Rattle.column_meaning.specs.Column.{pair_value}
 use Rattle.meaning.specs.declared.Pairing.TheVariants.{Sum}
-use Rattle.adder.proofs.Adding.{SumCarry, row-digit, carrying-none, carrying-more, digits-summed}
-use Rattle.adder.proofs.Bits.{zero_bit}
-use Rattle.adder.proofs.Filling.{Filling, filling-none, filling-more, filling-all}
-use borrow.Author.Rules.{rules}
-use native.Mathlib.Omega.{arith}
+use Rattle.adder.proofs.Adding.{SumCarry}
+use Rattle.adder.proofs.Filling.{Filling}
 use Rattle.adder.proofs.chain.sum.Given as goal
 
 abbrev pub invariant-loop-i : goal.invariant-loop-i

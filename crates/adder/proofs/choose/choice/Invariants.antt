@@ -1,15 +1,10 @@
 -- `adder::choose::choice` meets its contract. The invariant: the first w words are chosen.
 -- Assumes nothing.
-use mathlib.Core.Path.{◌≡◌, refl, ap, ◌∙◌}
-use Prim.Native.Nat.{ℕ, ◌-◌, ◌≤◌}
-use lib.ListN.{get_or, replicate}
+use Prim.Native.Nat.{◌-◌, ◌≤◌}
 use Rattle.meaning.specs.Limits.{block_segments}
-use Rattle.meaning.specs.Segment.{is_set}
-use Rattle.words.proofs.Entries.{Filled, filled-from, filled_more}
+use Rattle.words.proofs.Entries.{Filled}
 use Rattle.words.proofs.Adders.{wordwise}
-use Rattle.adder.proofs.Bits.{choice_word, choice-set}
-use borrow.Author.Rules.{rules}
-use native.Mathlib.Omega.{arith}
+use Rattle.adder.proofs.Bits.{choice_word}
 use Rattle.adder.proofs.choose.choice.Given as goal
 
 abbrev pub invariant-loop-w : goal.invariant-loop-w

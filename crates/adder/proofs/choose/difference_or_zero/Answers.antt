@@ -1,15 +1,13 @@
 -- `adder::choose::difference_or_zero` meets its contract. The invariant: the i lowest rows of digits are masked, and the others
 -- are still those of the difference.
 -- Assumes nothing.
-use Prim.Native.Nat.{ℕ, ◌+◌, ◌-◌, ◌*◌, ◌≤◌}
+use Prim.Native.Nat.{◌+◌, ◌*◌}
 use mathlib.Core.Path.{◌≡◌, refl, ◌∙◌}
-use lib.ListN.{get_or}
 use Rattle.meaning.specs.Limits.{block_segments}
 use Rattle.column_meaning.specs.Column.{pair_value}
 use Rattle.meaning.specs.declared.Pairing.TheVariants.{DifferenceOrZero}
 use Rattle.adder.proofs.Choosing.{existing-in, kept-digit}
-use Rattle.adder.proofs.Filling.{Filling, filling-none, filling-put, filling-all}
-use borrow.Author.Rules.{rules}
+use Rattle.adder.proofs.Filling.{filling-none, filling-put, filling-all}
 use native.Mathlib.Omega.{arith}
 use Rattle.adder.proofs.choose.difference_or_zero.Goals as goal
 

@@ -2,15 +2,12 @@
 -- are still those of the difference.
 -- Assumes nothing.
 use Prim.Native.Nat.{ℕ, ◌+◌, ◌-◌, ◌*◌, ◌≤◌}
-use mathlib.Core.Path.{◌≡◌, refl, ◌∙◌}
+use mathlib.Core.Path.{◌≡◌}
 use lib.ListN.{get_or}
 use Rattle.meaning.specs.Limits.{block_segments}
 use Rattle.column_meaning.specs.Column.{pair_value}
 use Rattle.meaning.specs.declared.Pairing.TheVariants.{DifferenceOrZero}
-use Rattle.adder.proofs.Choosing.{existing-in, kept-digit}
-use Rattle.adder.proofs.Filling.{Filling, filling-none, filling-put, filling-all}
-use borrow.Author.Rules.{rules}
-use native.Mathlib.Omega.{arith}
+use Rattle.adder.proofs.Filling.{Filling}
 use Rattle.adder.proofs.choose.difference_or_zero.Given as goal
 
 abbrev pub invariant-loop-i : goal.invariant-loop-i

@@ -1,13 +1,11 @@
 -- `adder::choose::smaller` meets its contract. The invariant: what exists and the i lowest digits of the smaller numbers are
 -- there.
 -- Assumes nothing.
-use Prim.Native.Nat.{◌-◌, ◌≤◌}
 use mathlib.Core.Path.{◌≡◌}
 use Rattle.column_meaning.specs.Column.{pair_value}
 use Rattle.meaning.specs.declared.Pairing.TheVariants.{Smaller}
 use Rattle.adder.proofs.Choosing.{existing-in, first-row, chosen-digit}
-use Rattle.adder.proofs.Filling.{Filling, filling-none, filling-more, filling-all}
-use borrow.Author.Rules.{rules}
+use Rattle.adder.proofs.Filling.{filling-none, filling-more, filling-all}
 use native.Mathlib.Omega.{arith}
 use Rattle.adder.proofs.choose.smaller.Goals as goal
 

@@ -2,13 +2,9 @@
 -- there.
 -- Assumes nothing.
 use Prim.Native.Nat.{◌-◌, ◌≤◌}
-use mathlib.Core.Path.{◌≡◌}
 use Rattle.column_meaning.specs.Column.{pair_value}
 use Rattle.meaning.specs.declared.Pairing.TheVariants.{Smaller}
-use Rattle.adder.proofs.Choosing.{existing-in, first-row, chosen-digit}
-use Rattle.adder.proofs.Filling.{Filling, filling-none, filling-more, filling-all}
-use borrow.Author.Rules.{rules}
-use native.Mathlib.Omega.{arith}
+use Rattle.adder.proofs.Filling.{Filling}
 use Rattle.adder.proofs.choose.smaller.Given as goal
 
 abbrev pub invariant-loop-i : goal.invariant-loop-i

@@ -1,7 +1,6 @@
 -- `adder::rows::exist` meets its contract: by `existing`, the row put is what exists in both.
 -- Assumes nothing.
 use Rattle.adder.proofs.Filling.{existing}
-use borrow.Author.Rules.{rules}
 use Rattle.adder.proofs.rows.exist.Goals as goal
 
 pub returns : goal.returns

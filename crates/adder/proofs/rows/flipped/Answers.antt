@@ -1,13 +1,13 @@
 -- `adder::rows::flipped` meets its contract. The invariant: the first w words are flipped.
 -- Assumes nothing.
 use mathlib.Core.Path.{◌≡◌, refl, ap, ◌∙◌}
-use Prim.Native.Nat.{ℕ, ◌-◌, ◌^◌, ◌≤◌}
+use Prim.Native.Nat.{ℕ, ◌-◌, ◌^◌}
 use lib.ListN.{get_or, replicate}
 use mir.Syntax.{w32}
 use mir.Val.{Fits}
 use Rattle.meaning.specs.Limits.{word_bits, block_segments}
 use Rattle.meaning.specs.Segment.{bit_at}
-use Rattle.words.proofs.Entries.{Filled, filled-from, filled_more}
+use Rattle.words.proofs.Entries.{filled-from, filled_more}
 use Rattle.adder.proofs.Bits.{flip-bit}
 use borrow.Author.Rules.{rules}
 use native.Mathlib.Omega.{arith}

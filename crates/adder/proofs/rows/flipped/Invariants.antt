@@ -1,16 +1,9 @@
 -- `adder::rows::flipped` meets its contract. The invariant: the first w words are flipped.
 -- Assumes nothing.
-use mathlib.Core.Path.{◌≡◌, refl, ap, ◌∙◌}
-use Prim.Native.Nat.{ℕ, ◌-◌, ◌^◌, ◌≤◌}
-use lib.ListN.{get_or, replicate}
-use mir.Syntax.{w32}
-use mir.Val.{Fits}
+use Prim.Native.Nat.{◌-◌, ◌^◌, ◌≤◌}
+use lib.ListN.{get_or}
 use Rattle.meaning.specs.Limits.{word_bits, block_segments}
-use Rattle.meaning.specs.Segment.{bit_at}
-use Rattle.words.proofs.Entries.{Filled, filled-from, filled_more}
-use Rattle.adder.proofs.Bits.{flip-bit}
-use borrow.Author.Rules.{rules}
-use native.Mathlib.Omega.{arith}
+use Rattle.words.proofs.Entries.{Filled}
 use Rattle.adder.proofs.rows.flipped.Given as goal
 
 abbrev pub invariant-loop-w : goal.invariant-loop-w

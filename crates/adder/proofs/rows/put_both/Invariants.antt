@@ -1,15 +1,9 @@
 -- `adder::rows::put_both` meets its contract. The invariant: the first w words of the row are put.
 -- Assumes nothing.
-use mathlib.Core.Path.{◌≡◌}
-use Prim.Native.Nat.{◌+◌, ◌-◌, ◌≤◌, ◌<◌}
-use lib.ListN.{length, get_or}
-use mir.Syntax.{w32}
-use mir.Val.{Fits}
+use Prim.Native.Nat.{◌+◌, ◌-◌, ◌≤◌}
 use Rattle.meaning.specs.Limits.{block_segments}
 use Rattle.words.proofs.Entries.{Filled}
-use Rattle.adder.proofs.Filling.{put_word, putting-none, putting-more, putting-all}
-use borrow.Author.Rules.{rules}
-use native.Mathlib.Omega.{arith}
+use Rattle.adder.proofs.Filling.{put_word}
 use Rattle.adder.proofs.rows.put_both.Given as goal
 
 abbrev pub invariant-loop-w : goal.invariant-loop-w

@@ -1,11 +1,10 @@
 -- `adder::rows::row` meets its contract. The invariant: the first w words are the block's, from `at` on.
 -- Assumes nothing.
 use mathlib.Core.Path.{◌≡◌, refl}
-use Prim.Native.Nat.{◌+◌, ◌-◌, ◌≤◌}
+use Prim.Native.Nat.{◌+◌}
 use lib.ListN.{get_or, replicate}
 use Rattle.meaning.specs.Limits.{block_segments}
-use Rattle.words.proofs.Entries.{Filled, filled-from, filled_more}
-use borrow.Author.Rules.{rules}
+use Rattle.words.proofs.Entries.{filled-from, filled_more}
 use native.Mathlib.Omega.{arith}
 use Rattle.adder.proofs.rows.row.Goals as goal
 

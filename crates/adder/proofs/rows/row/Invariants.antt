@@ -1,12 +1,9 @@
 -- `adder::rows::row` meets its contract. The invariant: the first w words are the block's, from `at` on.
 -- Assumes nothing.
-use mathlib.Core.Path.{◌≡◌, refl}
 use Prim.Native.Nat.{◌+◌, ◌-◌, ◌≤◌}
-use lib.ListN.{get_or, replicate}
+use lib.ListN.{get_or}
 use Rattle.meaning.specs.Limits.{block_segments}
-use Rattle.words.proofs.Entries.{Filled, filled-from, filled_more}
-use borrow.Author.Rules.{rules}
-use native.Mathlib.Omega.{arith}
+use Rattle.words.proofs.Entries.{Filled}
 use Rattle.adder.proofs.rows.row.Given as goal
 
 abbrev pub invariant-loop-w : goal.invariant-loop-w

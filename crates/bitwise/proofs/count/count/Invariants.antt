@@ -2,16 +2,9 @@
 -- a marker, and n bits of the segments behind are set; at the end the pad bits among them are those of the marker read
 -- last.
 -- Assumes nothing.
-use borrow.Author.Rules.{rules}
-use native.Mathlib.Omega.{arith}
-use Prim.Native.Nat.{◌+◌, ◌-◌, ◌*◌, ◌≤◌, ◌<◌}
-use mathlib.Core.Path.{◌≡◌}
+use Prim.Native.Nat.{◌-◌}
 use lib.ListN.{length}
-use Rattle.meaning.specs.Limits.{most_segments}
-use Rattle.meaning.specs.Rows.{count_below}
-use Rattle.meaning.specs.Ewah.{ewah_rows}
-use Rattle.ewah_count.proofs.Passing.{Passed, Read, none_passed, marker-there, marker-read, all-passed}
-use Rattle.ewah_count.proofs.Passing.{dirty-fit, part-few, segments-fit, at_most, passed-next}
+use Rattle.ewah_count.proofs.Passing.{Passed}
 use Rattle.bitwise.proofs.count.count.Given as goal
 
 abbrev pub invariant-loop-left : goal.invariant-loop-left

@@ -1,15 +1,10 @@
 -- `bitwise::count::count_word` meets its contract. The invariant: n bits below j are set; by `count_set` and
 -- `count-unset` bit j is one more, or none.
 -- Assumes nothing.
-use mathlib.Core.Path.{◌≡◌, sym, ap, ◌∙◌}
-use mathlib.Core.Logic.{⊎_elim}
-use Prim.Native.Nat.{ℕ, ◌-◌, ◌≤◌}
-use native.Mathlib.Omega.{arith}
-use borrow.Author.Rules.{rules}
+use mathlib.Core.Path.{◌≡◌}
+use Prim.Native.Nat.{◌-◌, ◌≤◌}
 use Rattle.meaning.specs.Rows.{count_below}
 use Rattle.meaning.specs.Segment.{is_set}
-use Rattle.laws.proofs.Counting.{count-le}
-use Rattle.words.proofs.BitLaws.{count_set, count-unset}
 use Rattle.bitwise.proofs.count.count_word.Given as goal
 
 abbrev pub invariant-loop-j : goal.invariant-loop-j

@@ -1,13 +1,9 @@
 -- `bitwise::count::count_words` meets its contract, by `ones-next`. The invariant: n bits of the first i words are set.
 -- Assumes nothing.
-use borrow.Author.Rules.{rules}
-use native.Mathlib.Omega.{arith}
-use Prim.Native.Nat.{ℕ, ◌+◌, ◌-◌, ◌≤◌}
-use mathlib.Core.Path.{◌≡◌, ap, ◌∙◌}
+use Prim.Native.Nat.{◌-◌, ◌≤◌}
+use mathlib.Core.Path.{◌≡◌}
 use lib.ListN.{length, take}
-use lib.Seq.{take-length, length-take-le}
 use Rattle.meaning.specs.Segment.{ones}
-use Rattle.laws.proofs.Counting.{ones-next, ones-le}
 use Rattle.bitwise.proofs.count.count_words.Given as goal
 
 abbrev pub invariant-loop-i : goal.invariant-loop-i

@@ -1,7 +1,6 @@
 -- `blocks::choose::choose` meets its contract: each way is a law of `Choosing`.
 -- Assumes nothing.
 use native.Mathlib.Omega.{arith}
-use borrow.Author.Rules.{rules}
 use Rattle.blocks.proofs.Choosing.{chosen-run, chosen-one, chosen-block}
 use Rattle.blocks.proofs.choose.choose.Goals as goal
 

@@ -4,7 +4,6 @@ use Prim.Native.Nat.{ℕ, ◌≤◌, ◌<◌}
 use mathlib.Core.List.{List}
 use lib.ListN.{length}
 use native.Mathlib.Omega.{arith}
-use borrow.Author.Rules.{rules}
 use Rattle.ewah.specs.Cursors.{left_of}
 use Rattle.walk.specs.Queries.{cursor_of}
 use Rattle.blocks.specs.Blocks.{Chosen, Walking}

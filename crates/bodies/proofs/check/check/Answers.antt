@@ -1,5 +1,4 @@
 -- `bodies::check::check` meets its contract: in each format its own check. Assumes nothing.
-use borrow.Author.Rules.{rules}
 use Rattle.bodies.proofs.check.check.Goals as goal
 
 pub returns-in-Ewah : goal.returns-in-Ewah

@@ -2,7 +2,6 @@
 -- next piece is loaded.
 -- Assumes nothing.
 use Rattle.bodies.proofs.Advancing.{run-shorter, run-over, dirty-over}
-use borrow.Author.Rules.{rules}
 use Rattle.bodies.proofs.cursor.advance.Goals as goal
 use Rattle.bodies.proofs.cursor.advance.Goals.{in-Clean+else-n-k, in-Dirty}
 

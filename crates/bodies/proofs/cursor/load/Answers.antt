@@ -1,7 +1,6 @@
 -- `bodies::cursor::load` meets its contract: on a dirty word that is due (`load-dirty`), and else by the format.
 -- Assumes nothing.
 use Rattle.bodies.proofs.Loading.{due-low, load-dirty, load-ewah, load-wah, some-wah}
-use borrow.Author.Rules.{rules}
 use native.Mathlib.Omega.{arith}
 use Rattle.bodies.proofs.cursor.load.Goals as goal
 

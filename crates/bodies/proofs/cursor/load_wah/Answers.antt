@@ -3,7 +3,6 @@
 use Rattle.meaning.specs.declared.Format.TheVariants.{Wah}
 use Rattle.ewah.proofs.Pieces.{at-end}
 use Rattle.bodies.proofs.Loading.{wah-next}
-use borrow.Author.Rules.{rules}
 use Rattle.bodies.proofs.cursor.load_wah.Goals as goal
 
 pub returns-then-next-body : goal.returns-then-next-body

@@ -9,7 +9,6 @@ use Rattle.ewah.specs.Cursors.{left_of}
 use Rattle.bodies.specs.Walks.{span_by, behind}
 use Rattle.bodies.proofs.Loading.{later-some}
 use Rattle.bodies.proofs.Advancing.{passes-one, passes-dirty}
-use borrow.Author.Rules.{rules}
 use Rattle.bodies.proofs.cursor.pass.Lts
 use Rattle.bodies.proofs.cursor.pass.Reads
 use Rattle.bodies.proofs.cursor.pass.Tie

@@ -1,7 +1,6 @@
 -- `bodies::cursor::span` meets its contract.
 -- Assumes nothing.
 use mathlib.Core.Path.{sym, ap}
-use borrow.Author.Rules.{rules}
 use Rattle.ewah.specs.declared.cursor.Piece as code
 use Rattle.bodies.specs.Walks.{span_by}
 use Rattle.bodies.proofs.cursor.span.Goals as goal

@@ -1,6 +1,5 @@
 -- `bodies::cursor::wah_piece` meets its contract: `fill_is` of a fill, `literal-is` of a literal.
 -- Assumes nothing.
-use borrow.Author.Rules.{rules}
 use Rattle.bodies.proofs.Loading.{literal-is, fill_is}
 use Rattle.bodies.proofs.cursor.wah_piece.Goals as goal
 

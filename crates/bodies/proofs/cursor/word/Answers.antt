@@ -4,7 +4,6 @@ use mathlib.Core.Path.{sym, ap, ◌∙◌, subst}
 use Rattle.ewah.specs.declared.cursor.Piece as code
 use Rattle.ewah.specs.Cursors.{ValueLow}
 use Rattle.bodies.specs.Walks.{word_of}
-use borrow.Author.Rules.{rules}
 use Rattle.bodies.proofs.cursor.word.Goals as goal
 
 pub segment-requires : goal.segment-requires

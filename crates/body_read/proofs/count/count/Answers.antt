@@ -1,7 +1,6 @@
 -- `body_read::count::count` meets its contract: by the format, its own count.
 -- Assumes nothing.
 use mathlib.Core.Path.{ap, ◌∙◌}
-use borrow.Author.Rules.{rules}
 use Rattle.meaning.specs.Rows.{count_below}
 use Rattle.meaning.specs.declared.Format.TheVariants.{Ewah, Wah}
 use Rattle.body_read.proofs.Either.{facts-as, rows-ewah, rows-wah}

@@ -3,7 +3,6 @@
 use Prim.Native.Nat.{ℕ}
 use mathlib.Core.Bool.{Bool}
 use mathlib.Core.Path.{ap, ◌∙◌}
-use borrow.Author.Rules.{rules}
 use Rattle.meaning.specs.declared.Format.TheVariants.{Ewah, Wah}
 use Rattle.meaning.specs.Answer.{ask_nth}
 use Rattle.body_read.proofs.Either.{facts-as, rows-ewah, rows-wah}

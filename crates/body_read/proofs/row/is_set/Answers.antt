@@ -1,6 +1,5 @@
 -- `body_read::row::is_set` meets its contract: by the format, its own walk. Assumes nothing.
 use mathlib.Core.Path.{sym, ap, ◌∙◌}
-use borrow.Author.Rules.{rules}
 use Rattle.meaning.specs.Format.{rows_of}
 use Rattle.meaning.specs.declared.Format.{Format}
 use Rattle.meaning.specs.declared.Format.TheVariants.{Ewah, Wah}

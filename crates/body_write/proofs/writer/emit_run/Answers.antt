@@ -1,6 +1,5 @@
 -- `body_write::writer::emit_run` meets its contract: `push_run`'s where it stores, and else `grow_run`'s.
 -- Assumes nothing.
-use borrow.Author.Rules.{rules}
 use Rattle.body_write.proofs.Emitting.{emitted-stored, emitted-measured}
 use Rattle.body_write.proofs.writer.emit_run.Goals as goal
 

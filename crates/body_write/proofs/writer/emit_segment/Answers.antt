@@ -1,6 +1,5 @@
 -- `body_write::writer::emit_segment` meets its contract: `push_segment`'s where it stores, and else `grow_segment`'s.
 -- Assumes nothing.
-use borrow.Author.Rules.{rules}
 use Rattle.body_write.proofs.Emitting.{emitted-stored, emitted-measured}
 use Rattle.body_write.proofs.writer.emit_segment.Goals as goal
 

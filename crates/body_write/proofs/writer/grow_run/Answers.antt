@@ -1,7 +1,6 @@
 -- `body_write::writer::grow_run` meets its contract: in each format its own `grow_run`'s, said of the segments.
 -- Assumes nothing.
 use lib.ListN.{replicate}
-use borrow.Author.Rules.{rules}
 use Rattle.meaning.specs.Segment.{clean}
 use Rattle.body_write.proofs.OfEwah.{ewah-growing, ewah-grown}
 use Rattle.body_write.proofs.OfWah.{wah-growing, wah-grown}

@@ -3,7 +3,6 @@
 -- Assumes nothing.
 use mathlib.Core.List.{[], ◌∷◌}
 use native.Mathlib.Omega.{arith}
-use borrow.Author.Rules.{rules}
 use Rattle.meaning.specs.Segment.{kind}
 use Rattle.body_write.proofs.OfEwah.{ewah-growing, ewah-grown}
 use Rattle.body_write.proofs.OfWah.{wah-growing, wah-grown}

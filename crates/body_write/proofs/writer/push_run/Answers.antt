@@ -2,7 +2,6 @@
 -- Assumes nothing.
 use native.Mathlib.Omega.{arith}
 use lib.ListN.{replicate, length-replicate}
-use borrow.Author.Rules.{rules}
 use Rattle.meaning.specs.Segment.{clean}
 use Rattle.body_write.proofs.OfEwah.{ewah-room, ewah-pushed}
 use Rattle.body_write.proofs.OfWah.{wah-room, wah-fits, wah-pushed}

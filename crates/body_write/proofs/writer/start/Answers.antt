@@ -1,5 +1,4 @@
 -- `body_write::writer::start` meets its contract: in each format its own `start`'s. Assumes nothing.
-use borrow.Author.Rules.{rules}
 use Rattle.body_write.proofs.writer.start.Goals as goal
 
 pub returns-in-Ewah : goal.returns-in-Ewah

@@ -5,7 +5,6 @@ use mathlib.Core.Path.{◌≡◌, ap}
 use mathlib.Core.List.{List}
 use lib.ListN.{length, get_or, replicate}
 use native.Mathlib.Omega.{arith}
-use borrow.Author.Rules.{rules}
 use Rattle.meaning.specs.Limits.{most_starts, head_words, entry_words}
 use Rattle.meaning.specs.Index.{format_of, row_count}
 use Rattle.meaning.specs.NewIndex.{index_room}

@@ -6,7 +6,6 @@ use Rattle.meaning.specs.Limits.{most_value_column}
 use Rattle.column_meaning.specs.Columns.{bad_column, bad_row}
 use Rattle.answers.specs.Told.{refused_by, verdict_of}
 use Rattle.columns.proofs.Asking.{good-column, row-bad-list, row-bad-row, row-rest}
-use borrow.Author.Rules.{rules}
 use Rattle.columns.proofs.ask.check_row.Lts
 use Rattle.columns.proofs.ask.check_row.Reads
 use Rattle.columns.proofs.ask.check_row.Tie

@@ -1,7 +1,6 @@
 -- `columns::ask::column_is_bad` meets its contract: each way is a law of `Asking`.
 -- Assumes nothing.
 use Rattle.columns.proofs.Asking.{bad-short, bad-long, bad-names}
-use borrow.Author.Rules.{rules}
 use Rattle.columns.proofs.ask.column_is_bad.Goals as goal
 
 pub returns-then-list-lt-LEAST_COLUMN : goal.returns-then-list-lt-LEAST_COLUMN

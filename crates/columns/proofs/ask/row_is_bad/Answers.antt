@@ -2,7 +2,6 @@
 -- Assumes nothing.
 use Rattle.columns.proofs.Asking.{bad-past, bad-absent, good-column}
 use native.Mathlib.Omega.{arith}
-use borrow.Author.Rules.{rules}
 use Rattle.columns.proofs.ask.row_is_bad.Goals as goal
 
 pub returns-then-rows-row : goal.returns-then-rows-row

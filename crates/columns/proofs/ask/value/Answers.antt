@@ -6,7 +6,6 @@ use Rattle.column_meaning.specs.Columns.{value_at, ask_value}
 use Rattle.answers.specs.Told.{value_told}
 use Rattle.answers.proofs.Checks.{sound-is, refuses, answers}
 use Rattle.columns.proofs.Asking.{row_verdict, asked-then, row-passed, good-column, good-row}
-use borrow.Author.Rules.{rules}
 use Rattle.columns.proofs.ask.value.Goals as goal
 
 pub value-requires : goal.value-requires

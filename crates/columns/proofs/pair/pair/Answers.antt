@@ -13,7 +13,6 @@ use Rattle.answers.proofs.Checks.{refuses}
 use Rattle.answers.proofs.Tells.{wrote-refused, wrote_then}
 use Rattle.columns.proofs.Asking.{good-column, pair-bad-first, pair-bad-second, pair-rest}
 use native.Mathlib.Omega.{arith}
-use borrow.Author.Rules.{rules}
 use Rattle.columns.proofs.pair.pair.Lts
 use Rattle.columns.proofs.pair.pair.Reads
 use Rattle.columns.proofs.pair.pair.Tie

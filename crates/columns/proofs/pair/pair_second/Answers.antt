@@ -6,7 +6,6 @@ use Rattle.answers.proofs.Checks.{refuses}
 use Rattle.answers.proofs.Tells.{wrote-refused, wrote_then}
 use Rattle.columns.proofs.Asking.{good-column}
 use native.Mathlib.Omega.{arith}
-use borrow.Author.Rules.{rules}
 use Rattle.columns.proofs.pair.pair_second.Goals as goal
 
 pub strays-checked-requires : goal.strays-checked-requires

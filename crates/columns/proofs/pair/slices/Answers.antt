@@ -5,7 +5,6 @@ use native.Mathlib.Numerals.{add-one}
 use Rattle.column_meaning.specs.Column.{pair_slices}
 use Rattle.meaning.specs.declared.Pairing.TheVariants.{Sum, Difference, Smaller, DifferenceOrZero}
 use Rattle.columns.proofs.Asking.{width_of, wider-low}
-use borrow.Author.Rules.{rules}
 use native.Mathlib.Omega.{arith}
 use Rattle.columns.proofs.pair.slices.Goals as goal
 

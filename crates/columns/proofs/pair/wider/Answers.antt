@@ -1,7 +1,6 @@
 -- `columns::pair::wider` meets its contract.
 -- Assumes nothing.
 use Rattle.columns.proofs.Asking.{wider-first, wider-second}
-use borrow.Author.Rules.{rules}
 use Rattle.columns.proofs.pair.wider.Goals as goal
 
 pub returns-then-first-second : goal.returns-then-first-second

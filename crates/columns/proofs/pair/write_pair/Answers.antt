@@ -5,7 +5,6 @@ use Rattle.meaning.specs.NewIndex.{index_room}
 use Rattle.pairs.specs.Passes.{Columns}
 use Rattle.columns.proofs.Asking.{good-column, two-columns, wrote-no-room, wrote-pair}
 use native.Mathlib.Omega.{arith}
-use borrow.Author.Rules.{rules}
 use Rattle.columns.proofs.pair.write_pair.Lts
 use Rattle.columns.proofs.pair.write_pair.Reads
 use Rattle.columns.proofs.pair.write_pair.Tie

@@ -7,7 +7,6 @@ use Rattle.column_meaning.specs.Columns.{bad_column}
 use Rattle.answers.specs.Told.{refused_by, verdict_of}
 use Rattle.columns.proofs.Asking.{good-column, rank-bad-list, rank-too-many, rank-rest}
 use native.Mathlib.Omega.{arith}
-use borrow.Author.Rules.{rules}
 use Rattle.columns.proofs.rank.check_rank.Lts
 use Rattle.columns.proofs.rank.check_rank.Reads
 use Rattle.columns.proofs.rank.check_rank.Tie

@@ -5,7 +5,6 @@ use lib.ListN.{get_or}
 use Rattle.meaning.specs.Index.{rows_at}
 use Rattle.columns.proofs.Asking.{good-column, existing-first}
 use native.Mathlib.Omega.{arith}
-use borrow.Author.Rules.{rules}
 use Rattle.columns.proofs.rank.existing.Goals as goal
 
 pub bounds-list-0 : goal.bounds-list-0

@@ -8,7 +8,6 @@ use Rattle.answers.specs.Told.{Wrote}
 use Rattle.answers.proofs.Checks.{refuses, sound-is}
 use Rattle.answers.proofs.Tells.{wrote-refused, wrote_then}
 use Rattle.columns.proofs.Asking.{rank_verdict, rank-passed, writes, ranked-then}
-use borrow.Author.Rules.{rules}
 use Rattle.columns.proofs.rank.ranked.Goals as goal
 
 pub write_ranked-requires : goal.write_ranked-requires

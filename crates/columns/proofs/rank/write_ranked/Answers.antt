@@ -2,7 +2,6 @@
 -- Assumes nothing.
 use Rattle.columns.proofs.Asking.{ranked-column, so-many, rank-no-room, rank-words}
 use native.Mathlib.Omega.{arith}
-use borrow.Author.Rules.{rules}
 use Rattle.columns.proofs.rank.write_ranked.Goals as goal
 
 pub write-need-requires : goal.write-need-requires

@@ -1,13 +1,10 @@
 -- `ewah::check::check` meets its contract. Where the loop stands, the faults of the rest are those of the body. Assumes nothing.
-use borrow.Author.Rules.{rules}
 use borrow.Author.Tests.{lt-ltb, le-ltb}
 use native.Mathlib.Omega.{arith}
-use Prim.Native.Nat.{◌+◌, ◌-◌, ◌≤◌}
+use Prim.Native.Nat.{◌+◌}
 use mathlib.Core.Path.{◌≡◌, sym, ◌∙◌}
-use lib.ListN.{length, drop}
-use Rattle.meaning.specs.Segment.{segment_count}
 use Rattle.meaning.specs.Refusal.{refuse_if}
-use Rattle.meaning.specs.Ewah.{fault_from, ewah_fault}
+use Rattle.meaning.specs.Ewah.{ewah_fault}
 use Rattle.answers.specs.Told.{verdict_of}
 use Rattle.ewah.proofs.Steps.{passed-of, faulty-of, end-fault}
 use Rattle.ewah.proofs.check.check.Goals as goal

@@ -1,5 +1,4 @@
 -- `ewah::check::marker_step` meets its contract: each return is a law of `Steps`, a fault at the marker or its last dirty word, or the step over them. Assumes nothing.
-use borrow.Author.Rules.{rules}
 use Rattle.ewah.proofs.Steps.{step-5, step-6, step-dirty, step-next}
 use Rattle.ewah.proofs.check.marker_step.Goals as goal
 

@@ -1,13 +1,9 @@
 -- `ewah::cursor::load` meets its contract. The loop's invariant: the pieces from the marker at word `at` on are those that
 -- were asked for.
 -- Assumes nothing.
-use Prim.Native.Nat.{◌-◌, ◌≤◌}
-use mathlib.Core.Path.{◌≡◌, refl}
-use lib.ListN.{length, drop}
-use Rattle.meaning.specs.Ewah.{pieces}
+use mathlib.Core.Path.{refl}
 use Rattle.meaning.specs.declared.Format.TheVariants.{Ewah}
 use Rattle.ewah.proofs.Pieces.{at-end, on-run, on_none, on-idle}
-use borrow.Author.Rules.{rules}
 use native.Mathlib.Omega.{arith}
 use Rattle.ewah.proofs.cursor.load.Goals as goal
 

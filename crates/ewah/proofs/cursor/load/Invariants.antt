@@ -2,13 +2,9 @@
 -- were asked for.
 -- Assumes nothing.
 use Prim.Native.Nat.{◌-◌, ◌≤◌}
-use mathlib.Core.Path.{◌≡◌, refl}
+use mathlib.Core.Path.{◌≡◌}
 use lib.ListN.{length, drop}
 use Rattle.meaning.specs.Ewah.{pieces}
-use Rattle.meaning.specs.declared.Format.TheVariants.{Ewah}
-use Rattle.ewah.proofs.Pieces.{at-end, on-run, on_none, on-idle}
-use borrow.Author.Rules.{rules}
-use native.Mathlib.Omega.{arith}
 use Rattle.ewah.proofs.cursor.load.Given as goal
 
 abbrev pub invariant-loop-at : goal.invariant-loop-at

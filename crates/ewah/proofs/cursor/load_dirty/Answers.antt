@@ -1,6 +1,5 @@
 -- `ewah::cursor::load_dirty` meets its contract: `on-dirty`, or `at-end`.
 -- Assumes nothing.
-use borrow.Author.Rules.{rules}
 use Rattle.meaning.specs.declared.Format.TheVariants.{Ewah}
 use Rattle.ewah.proofs.Pieces.{at-end, on-dirty}
 use Rattle.ewah.proofs.cursor.load_dirty.Goals as goal

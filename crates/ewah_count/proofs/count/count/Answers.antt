@@ -3,13 +3,13 @@
 -- Assumes nothing.
 use borrow.Author.Rules.{rules}
 use native.Mathlib.Omega.{arith}
-use Prim.Native.Nat.{◌+◌, ◌-◌, ◌*◌, ◌≤◌, ◌<◌}
+use Prim.Native.Nat.{◌+◌, ◌*◌, ◌≤◌, ◌<◌}
 use mathlib.Core.Path.{◌≡◌}
 use lib.ListN.{length}
 use Rattle.meaning.specs.Limits.{most_segments}
 use Rattle.meaning.specs.Rows.{count_below}
 use Rattle.meaning.specs.Ewah.{ewah_rows}
-use Rattle.ewah_count.proofs.Passing.{Passed, Read, none_passed, marker-there, marker-read, all-passed}
+use Rattle.ewah_count.proofs.Passing.{Read, none_passed, marker-there, marker-read, all-passed}
 use Rattle.ewah_count.proofs.Passing.{dirty-fit, dirty-few, segments-fit, at_most, passed-next}
 use Rattle.ewah_count.proofs.count.count.Lts
 use Rattle.ewah_count.proofs.count.count.Reads

@@ -1,7 +1,6 @@
 -- `ewah_count::count::count_run` meets its contract: by `fill-count` a clean segment has 32 set bits or none, and by `ones-replicate` a run its length times as many.
 -- Assumes nothing.
 use native.Mathlib.Omega.{arith}
-use borrow.Author.Rules.{rules}
 use Prim.Native.Nat.{ℕ, ◌*◌, ◌≤◌}
 use mathlib.Core.Path.{sym, ap, ◌∙◌}
 use native.Mathlib.Nat.{mul-le-mul_left}

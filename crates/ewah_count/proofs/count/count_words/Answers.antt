@@ -1,7 +1,6 @@
 -- `ewah_count::count::count_words` meets its contract: of no words none are set; else what was counted. Assumes nothing.
 use mathlib.Core.Path.{sym}
 use Rattle.ewah_count.proofs.Passing.{none-set}
-use borrow.Author.Rules.{rules}
 use Rattle.ewah_count.proofs.count.count_words.Goals as goal
 
 pub returns-then-to-from : goal.returns-then-to-from

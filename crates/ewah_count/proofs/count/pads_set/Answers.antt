@@ -1,7 +1,6 @@
 -- `ewah_count::count::pads_set` meets its contract, by `pads-dirty` and `pads-clean`. Rows are no more than the bits of
 -- their segments, and the pad bits fewer than a word's.
 -- Assumes nothing.
-use borrow.Author.Rules.{rules}
 use native.Mathlib.Omega.{arith}
 use Prim.Native.Nat.{ℕ, ◌-◌, ◌*◌, ◌≤◌}
 use mathlib.Core.Path.{sym, ap₂, ◌∙◌}

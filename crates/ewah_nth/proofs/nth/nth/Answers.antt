@@ -1,9 +1,8 @@
 -- `ewah_nth::nth::nth` meets its contract. The invariant: the walk stands at a marker, and with the set bits of the
 -- segments behind passed so many are still ahead. By `nth-pad` a set bit past the last row is none.
 -- Assumes nothing.
-use borrow.Author.Rules.{rules}
 use native.Mathlib.Omega.{arith}
-use Prim.Native.Nat.{ℕ, ◌+◌, ◌-◌, ◌*◌, ◌≤◌}
+use Prim.Native.Nat.{ℕ, ◌+◌, ◌*◌, ◌≤◌}
 use mathlib.Core.Path.{◌≡◌, sym, ap, ◌∙◌}
 use mathlib.Core.List.{◌++◌}
 use lib.ListN.{length, take, drop, replicate}
@@ -14,7 +13,7 @@ use Rattle.meaning.specs.Limits.{most_segments}
 use Rattle.meaning.specs.Segment.{ones, fill, has_row}
 use Rattle.laws.specs.Demands.{IsNth}
 use Rattle.meaning.specs.Ewah.{segments, ewah_rows}
-use Rattle.laws.proofs.Walk.{At, Step, at-start, at-end}
+use Rattle.laws.proofs.Walk.{Step, at-start, at-end}
 use Rattle.laws.proofs.Asked.{ones_step, nth-step, nth-found, nth-pad, nth_past}
 use Rattle.ewah_nth.specs.declared.nth.Sought.TheVariants.{Here, Ahead}
 use Rattle.answers.specs.Told.{found_of}

@@ -11,7 +11,6 @@ use Rattle.laws.proofs.Counting.{ones-append, nth_left, nth_right, nth-run}
 use Rattle.ewah_count.proofs.Passing.{none-set}
 use Rattle.ewah_nth.specs.declared.nth.Sought.TheVariants.{Here, Ahead}
 use native.Mathlib.Omega.{arith}
-use borrow.Author.Rules.{rules}
 use Rattle.ewah_nth.proofs.nth.seek.Lts
 use Rattle.ewah_nth.proofs.nth.seek.Reads
 use Rattle.ewah_nth.proofs.nth.seek.Tie

@@ -1,7 +1,6 @@
 -- `ewah_read::expand::expand` meets its contract: the segments are written and the last of them is cut, by `cut-part`;
 -- so they are the words of the rows, by `cut-decide`.
 -- Assumes nothing.
-use borrow.Author.Rules.{rules}
 use native.Mathlib.Omega.{arith}
 use Prim.Native.Nat.{ℕ, suc, ◌-◌, ◌/◌, ◌^◌, ◌<◌}
 use mathlib.Core.Path.{◌≡◌, refl, sym, ap, ap₂, ◌∙◌}

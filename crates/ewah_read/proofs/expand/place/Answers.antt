@@ -1,7 +1,6 @@
 -- `ewah_read::expand::place` meets its contract: by `replace-rest`, the dirty words are copied behind the run that was filled in front.
 -- Assumes nothing.
 use native.Mathlib.Omega.{arith}
-use borrow.Author.Rules.{rules}
 use Prim.Native.Nat.{ℕ, ◌-◌}
 use mathlib.Core.Path.{◌≡◌, sym, ap₂, ◌∙◌}
 use mathlib.Core.List.{List, ◌++◌}

@@ -10,7 +10,7 @@ use lib.ListN.{length, take, drop, replicate}
 use lib.Seq.{take-length, length-take-le}
 use borrow.Rule.Slice.PartMut.{mid_len}
 use Rattle.meaning.specs.Ewah.{segments}
-use Rattle.laws.proofs.Walk.{At, Step, at-start, at-end}
+use Rattle.laws.proofs.Walk.{Step, at-start, at-end}
 use Rattle.laws.proofs.Parts.{part-is, replace-part}
 use Rattle.meaning.specs.Segment.{fill}
 use Rattle.ewah.proofs.MarkerStep.{read_step}

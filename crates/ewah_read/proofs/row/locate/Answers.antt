@@ -1,6 +1,5 @@
 -- `ewah_read::row::locate` meets its contract. The invariant is `Seeks`: the walk stands at a marker, and the segment is so many ahead.
 -- Assumes nothing.
-use borrow.Author.Rules.{rules}
 use native.Mathlib.Omega.{arith}
 use Prim.Native.Nat.{◌-◌, ◌<◌}
 use lib.ListN.{length}

@@ -1,11 +1,8 @@
 -- `ewah_read::row::locate` meets its contract. The invariant is `Seeks`: the walk stands at a marker, and the segment is so many ahead.
 -- Assumes nothing.
-use borrow.Author.Rules.{rules}
-use native.Mathlib.Omega.{arith}
-use Prim.Native.Nat.{◌-◌, ◌<◌}
+use Prim.Native.Nat.{◌-◌}
 use lib.ListN.{length}
-use Rattle.laws.proofs.Walk.{at-end}
-use Rattle.ewah_read.proofs.Locating.{Seeks, seeks-start, over, found-run, found_word, seeks-next}
+use Rattle.ewah_read.proofs.Locating.{Seeks}
 use Rattle.ewah_read.proofs.row.locate.Given as goal
 
 abbrev pub invariant-loop-at : goal.invariant-loop-at

@@ -1,13 +1,11 @@
 -- `ewah_write::compress::measure` meets its contract: the writer tracks the draft so far. Assumes nothing.
-use Prim.Native.Nat.{◌-◌, ◌≤◌, ◌<◌, ◌^◌}
+use Prim.Native.Nat.{◌<◌, ◌^◌}
 use mathlib.Core.Path.{ap, ◌∙◌}
 use native.Mathlib.Omega.{arith}
 use lib.ListN.{length}
-use borrow.Author.Rules.{rules}
 use Rattle.meaning.specs.Segment.{kinds}
 use Rattle.meaning.specs.Canonical.{Draft}
 use Rattle.laws.proofs.Prefixes.{up_to, up_to-low}
-use Rattle.ewah_write.specs.Drafts.{Tracks}
 use Rattle.ewah_write.proofs.Growing.{used-is}
 use Rattle.ewah_write.proofs.WordByWord.{no_words, word-inside, word-last}
 use Rattle.ewah_write.proofs.compress.measure.Lts

@@ -1,10 +1,9 @@
 -- `ewah_write::compress::write` meets its contract: the draft of the words passed is in the buffer. Assumes nothing.
-use Prim.Native.Nat.{ℕ, ◌+◌, ◌-◌, ◌≤◌}
+use Prim.Native.Nat.{ℕ, ◌+◌}
 use mathlib.Core.Path.{◌≡◌, refl, ap, ◌∙◌}
 use mathlib.Core.List.{List, [], ◌∷◌}
 use native.Mathlib.Omega.{arith}
 use lib.ListN.{length, get_or}
-use borrow.Author.Rules.{rules}
 use Rattle.meaning.specs.Segment.{Segment, kind, kinds}
 use Rattle.meaning.specs.Canonical.{Draft, body, put, ewah_of}
 use Rattle.laws.proofs.Prefixes.{up_to, up_to-within}

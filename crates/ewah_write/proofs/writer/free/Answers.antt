@@ -1,6 +1,5 @@
 -- `ewah_write::writer::free` meets its contract: its branches decide the two tests of `free_of`. Assumes nothing.
 use borrow.Author.Tests.{eq-eqb, ne_eqb}
-use borrow.Author.Rules.{rules}
 use Rattle.ewah_write.specs.Drafts.{free_of}
 use Rattle.ewah_write.proofs.writer.free.Goals as goal
 

@@ -1,5 +1,4 @@
 -- `ewah_write::writer::grow_mixed` meets its contract: `grown-dirty` and `grown-opened` are its two ways. Assumes nothing.
-use borrow.Author.Rules.{rules}
 use Rattle.ewah_write.proofs.Growing.{grown-dirty, grown-opened}
 use Rattle.ewah_write.proofs.writer.grow_mixed.Goals as goal
 

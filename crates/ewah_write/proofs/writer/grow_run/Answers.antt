@@ -1,5 +1,4 @@
 -- `ewah_write::writer::grow_run` meets its contract: `grown-in` and `grown-over` are its two ways. Assumes nothing.
-use borrow.Author.Rules.{rules}
 use Rattle.ewah_write.proofs.Growing.{grown-in, grown-over}
 use Rattle.ewah_write.proofs.writer.grow_run.Goals as goal
 

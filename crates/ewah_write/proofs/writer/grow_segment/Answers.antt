@@ -2,7 +2,6 @@
 -- way. Assumes nothing.
 use native.Mathlib.Omega.{arith}
 use mathlib.Core.Path.{refl}
-use borrow.Author.Rules.{rules}
 use lib.Bits.{and_mask}
 use Rattle.meaning.specs.Segment.{all_set}
 use Rattle.ewah_write.proofs.Growing.{kind-clean, kind-other}

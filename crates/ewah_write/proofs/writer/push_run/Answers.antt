@@ -2,7 +2,6 @@
 -- Assumes nothing.
 use native.Mathlib.Omega.{arith}
 use lib.ListN.{replicate, length-set}
-use borrow.Author.Rules.{rules}
 use Rattle.meaning.specs.Segment.{clean}
 use Rattle.ewah_write.proofs.Pushing.{Running, room-now, none-pushed, last_fits, last-pushed, new-fits, new-pushed, both-pushed}
 use Rattle.ewah_write.proofs.writer.push_run.Lts

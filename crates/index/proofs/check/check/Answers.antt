@@ -4,7 +4,6 @@ use Rattle.meaning.specs.Refusal.{◌then◌}
 use Rattle.answers.specs.Told.{verdict_of}
 use Rattle.answers.proofs.Checks.{sound-is, refuses, answers}
 use Rattle.laws.proofs.IndexSound.{head-facts}
-use borrow.Author.Rules.{rules}
 use Rattle.index.proofs.check.check.Goals as goal
 
 pub check_contents-requires : goal.check_contents-requires

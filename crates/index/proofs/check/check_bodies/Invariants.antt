@@ -1,11 +1,7 @@
 -- `index::check::check_bodies` meets its contract. The loop's invariant: the first fault of the bodies from k on is that of all bodies. Assumes nothing.
-use Rattle.index.proofs.EntrySteps.{bodies-start, fault-of, bodies-next, bodies-fault, bodies-end}
-use mathlib.Core.Path.{◌≡◌, ap}
+use mathlib.Core.Path.{◌≡◌}
 use Prim.Native.Nat.{◌-◌, ◌≤◌}
 use Rattle.meaning.specs.Index.{format_of, row_count, bitmap_count, bodies_fault}
-use Rattle.answers.specs.Told.{verdict_of}
-use borrow.Author.Rules.{rules}
-use native.Mathlib.Omega.{arith}
 use Rattle.index.proofs.check.check_bodies.Given as goal
 
 abbrev pub invariant-loop-k : goal.invariant-loop-k

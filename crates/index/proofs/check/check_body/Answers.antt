@@ -1,7 +1,6 @@
 -- `index::check::check_body` meets its contract: the format's own check of the body's part. Assumes nothing.
 use Rattle.index.proofs.EntrySteps.{body-asked, body-told}
 use mathlib.Core.Path.{sym, ◌∙◌}
-use borrow.Author.Rules.{rules}
 use Rattle.index.proofs.check.check_body.Goals as goal
 
 pub check-requires : goal.check-requires

@@ -3,7 +3,6 @@ use Rattle.meaning.specs.Index.{bitmap_count, entry_place, entries_fault, bodies
 use Rattle.answers.specs.Told.{verdict_of}
 use Rattle.answers.proofs.Checks.{sound-is, refuses, answers}
 use Rattle.laws.proofs.IndexSound.{entry-facts}
-use borrow.Author.Rules.{rules}
 use Rattle.index.proofs.check.check_contents.Goals as goal
 
 pub check_bodies-requires : goal.check_bodies-requires

@@ -1,11 +1,8 @@
 -- `index::check::check_entries` meets its contract. The loop's invariant: the first fault of the entries from k on, with the next body due at `end`, is that of all entries. Assumes nothing.
 use Rattle.index.proofs.EntrySteps.{entries-start, passed-of, faulty-of, entries_next, entries-fault, entries-left, entries-end}
-use mathlib.Core.Path.{◌≡◌, ap, ◌∙◌}
-use Prim.Native.Nat.{◌-◌, ◌≤◌}
-use lib.ListN.{length}
-use Rattle.meaning.specs.Index.{bitmap_count, entry_place, entries_fault}
+use mathlib.Core.Path.{ap, ◌∙◌}
+use Rattle.meaning.specs.Index.{entry_place}
 use Rattle.answers.specs.Told.{verdict_of}
-use borrow.Author.Rules.{rules}
 use native.Mathlib.Omega.{arith}
 use Rattle.index.proofs.check.check_entries.Goals as goal
 

@@ -3,7 +3,6 @@ use mathlib.Core.Path.{sym, ap, ◌∙◌}
 use Rattle.answers.specs.Told.{verdict_of}
 use Rattle.index.proofs.Heads.{head-long, head-short, head-kind, head_rows, head-bitmaps, head-contents, head-fine}
 use native.Mathlib.Omega.{arith}
-use borrow.Author.Rules.{rules}
 use Rattle.index.proofs.check.check_head.Goals as goal
 
 pub returns-then-words-gt-MOST_INDEX_WORDS : goal.returns-then-words-gt-MOST_INDEX_WORDS

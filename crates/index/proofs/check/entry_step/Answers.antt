@@ -1,7 +1,6 @@
 -- `index::check::entry_step` meets its contract: a wrong start, a wrong length, or a right entry (`start-wrong`, `length-wrong`, `entry-right`). Assumes nothing.
 use Rattle.index.proofs.EntrySteps.{start-wrong, length-wrong, entry-right}
 use native.Mathlib.Omega.{arith}
-use borrow.Author.Rules.{rules}
 use Rattle.index.proofs.check.entry_step.Goals as goal
 
 pub entry_place-requires : goal.entry_place-requires

@@ -1,11 +1,7 @@
 -- `lists::ask::entry_is_bad` meets its contract. The invariant: whether an entry from i on is bad is whether one of the table is. Assumes nothing.
-use mathlib.Core.Path.{◌≡◌, refl}
-use Prim.Native.Nat.{◌-◌, ◌≤◌}
-use lib.ListN.{length, drop}
-use Rattle.meaning.specs.Answer.{bad_entry}
+use mathlib.Core.Path.{refl}
 use native.Mathlib.Omega.{arith}
 use Rattle.lists.proofs.Choosing.{entry_here, entry_next, entry-end}
-use borrow.Author.Rules.{rules}
 use Rattle.lists.proofs.ask.entry_is_bad.Goals as goal
 
 pub loop-i-init : goal.loop-i-init

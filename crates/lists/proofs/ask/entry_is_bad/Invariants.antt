@@ -1,11 +1,8 @@
 -- `lists::ask::entry_is_bad` meets its contract. The invariant: whether an entry from i on is bad is whether one of the table is. Assumes nothing.
-use mathlib.Core.Path.{◌≡◌, refl}
+use mathlib.Core.Path.{◌≡◌}
 use Prim.Native.Nat.{◌-◌, ◌≤◌}
 use lib.ListN.{length, drop}
 use Rattle.meaning.specs.Answer.{bad_entry}
-use native.Mathlib.Omega.{arith}
-use Rattle.lists.proofs.Choosing.{entry_here, entry_next, entry-end}
-use borrow.Author.Rules.{rules}
 use Rattle.lists.proofs.ask.entry_is_bad.Given as goal
 
 abbrev pub invariant-loop-i : goal.invariant-loop-i

@@ -3,7 +3,6 @@ use mathlib.Core.Path.{sym, ◌∙◌}
 use Rattle.meaning.specs.Answer.{ask_histogram}
 use Rattle.fit.proofs.Listing.{good-walkable}
 use Rattle.lists.proofs.Choosing.{counted-refused, counted-sound}
-use borrow.Author.Rules.{rules}
 use Rattle.lists.proofs.ask.histogram.Goals as goal
 
 pub list_is_bad-requires : goal.list_is_bad-requires

@@ -1,6 +1,5 @@
 -- `lists::ask::list_is_bad` meets its contract: each way is a law of `Listing`. Assumes nothing.
 use Rattle.fit.proofs.Listing.{bad-none, bad-long, bad-names}
-use borrow.Author.Rules.{rules}
 use Rattle.lists.proofs.ask.list_is_bad.Goals as goal
 
 pub returns-then-list-eq0 : goal.returns-then-list-eq0

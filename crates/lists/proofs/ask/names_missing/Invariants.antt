@@ -1,12 +1,9 @@
 -- `lists::ask::names_missing` meets its contract. The invariant: whether a number from i on names none is whether one of the list does. Assumes nothing.
-use mathlib.Core.Path.{◌≡◌, refl}
+use mathlib.Core.Path.{◌≡◌}
 use Prim.Native.Nat.{◌-◌, ◌≤◌}
 use lib.ListN.{length, drop}
 use Rattle.meaning.specs.Index.{bitmap_count}
 use Rattle.meaning.specs.Answer.{any_bad}
-use Rattle.fit.proofs.Listing.{any_here, any_next, any-end}
-use borrow.Author.Rules.{rules}
-use native.Mathlib.Omega.{arith}
 use Rattle.lists.proofs.ask.names_missing.Given as goal
 
 abbrev pub invariant-loop-i : goal.invariant-loop-i

@@ -9,7 +9,6 @@ use Rattle.answers.specs.Told.{Reported}
 use Rattle.fit.proofs.Listing.{good-walkable}
 use Rattle.lists.proofs.Choosing.{reported-first, reported-second, reported-third, reported-rest, symmetric-body, size-wrong, size-right}
 use native.Mathlib.Omega.{arith}
-use borrow.Author.Rules.{rules}
 use Rattle.lists.proofs.ask.symmetric.Goals as goal
 
 pub list_is_bad-requires : goal.list_is_bad-requires

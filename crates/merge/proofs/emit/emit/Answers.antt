@@ -1,6 +1,5 @@
 -- `merge::emit::emit` meets its contract: `push` where it stores, and else `grow`, which leaves the buffer.
 -- Assumes nothing.
-use borrow.Author.Rules.{rules}
 use Rattle.body_write.proofs.Emitting.{emitted-stored, emitted-measured}
 use Rattle.merge.proofs.emit.emit.Goals as goal
 

@@ -5,7 +5,6 @@ use mathlib.Core.Path.{subst}
 use lib.ListN.{length-replicate}
 use Rattle.meaning.specs.Segment.{Segment, clean}
 use Rattle.body_write.specs.Bodies.{Growing}
-use borrow.Author.Rules.{rules}
 use Rattle.merge.proofs.emit.grow.Goals as goal
 
 pub grow_run-requires : goal.grow_run-requires

@@ -1,6 +1,5 @@
 -- `merge::emit::push` meets its contract: in each case of the part that of `push_run` or `push_segment` is its own.
 -- Assumes nothing.
-use borrow.Author.Rules.{rules}
 use Rattle.merge.proofs.emit.push.Goals as goal
 
 pub push_run-requires : goal.push_run-requires

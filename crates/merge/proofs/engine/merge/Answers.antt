@@ -1,7 +1,6 @@
 -- `merge::engine::merge` meets its contract: a query of either length has room for the list.
 -- Assumes nothing.
 use mathlib.Core.Path.{refl}
-use borrow.Author.Rules.{rules}
 use native.Mathlib.Omega.{arith}
 use Rattle.merge.proofs.engine.merge.Goals as goal
 

@@ -1,8 +1,8 @@
 -- `merge::engine::merge_over` meets its contract. The invariant: the cursors are on their way at segment o, and the writer
 -- has put the answer's first o segments.
 -- Assumes nothing.
-use Prim.Native.Nat.{ℕ, ◌-◌}
-use mathlib.Core.Path.{◌≡◌, refl, ◌∙◌, subst}
+use Prim.Native.Nat.{ℕ}
+use mathlib.Core.Path.{refl, ◌∙◌, subst}
 use mathlib.Core.List.{List, []}
 use lib.ListN.{length}
 use Rattle.meaning.specs.declared.Format.{Format}
@@ -11,8 +11,7 @@ use Rattle.body_write.specs.Bodies.{Stands}
 use Rattle.walk.specs.Queries.{PlacesIn}
 use Rattle.walk.specs.Surveys.{Surveyed}
 use Rattle.merge.proofs.Along.{Laid, laid, NextStretch, along-none, next-stretch, mask-of}
-use Rattle.merge.proofs.Merging.{Merging, merging-none, merging-more, merging-all, steps_low, may-emit}
-use borrow.Author.Rules.{rules}
+use Rattle.merge.proofs.Merging.{merging-none, merging-more, merging-all, steps_low, may-emit}
 use native.Mathlib.Omega.{arith}
 use Rattle.merge.proofs.engine.merge_over.Lts
 use Rattle.merge.proofs.engine.merge_over.Reads

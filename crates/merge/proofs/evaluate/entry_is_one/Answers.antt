@@ -1,7 +1,6 @@
 -- `merge::evaluate::entry_is_one` meets its contract: past the table's end there is no 1.
 -- Assumes nothing.
 use lib.ListN.{get_or-eq_default}
-use borrow.Author.Rules.{rules}
 use Rattle.merge.proofs.evaluate.entry_is_one.Goals as goal
 
 pub returns : goal.returns

@@ -2,7 +2,6 @@
 -- Assumes nothing.
 use mathlib.Core.Path.{sym, ◌∙◌}
 use Rattle.meaning.specs.Format.{width}
-use borrow.Author.Rules.{rules}
 use Rattle.merge.proofs.Evaluating.{word-part, zeros-part, ones-part}
 use Rattle.merge.proofs.evaluate.evaluate.Goals as goal
 

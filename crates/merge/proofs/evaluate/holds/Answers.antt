@@ -1,6 +1,5 @@
 -- `merge::evaluate::holds` meets its contract: in each case of the operation its test is that of `chosen`.
 -- Assumes nothing.
-use borrow.Author.Rules.{rules}
 use Rattle.merge.specs.Operations.{chosen}
 use Rattle.merge.proofs.evaluate.holds.Goals as goal
 

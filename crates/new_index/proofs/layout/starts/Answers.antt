@@ -1,12 +1,10 @@
 -- `new_index::layout::starts` meets its contract: by `starting-more`, each round puts one start more.
 -- Assumes nothing.
-use Prim.Native.Nat.{◌-◌, ◌≤◌}
 use mathlib.Core.Path.{◌≡◌, refl}
 use lib.ListN.{replicate}
 use Rattle.meaning.specs.Limits.{most_starts}
 use Rattle.new_index.specs.Writers.{writer_of}
-use Rattle.new_index.proofs.LaidOut.{Starting, starting-none, starting-more}
-use borrow.Author.Rules.{rules}
+use Rattle.new_index.proofs.LaidOut.{starting-none, starting-more}
 use native.Mathlib.Omega.{arith}
 use Rattle.new_index.proofs.layout.starts.Goals as goal
 

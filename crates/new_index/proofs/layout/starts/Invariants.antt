@@ -1,13 +1,7 @@
 -- `new_index::layout::starts` meets its contract: by `starting-more`, each round puts one start more.
 -- Assumes nothing.
 use Prim.Native.Nat.{◌-◌, ◌≤◌}
-use mathlib.Core.Path.{◌≡◌, refl}
-use lib.ListN.{replicate}
-use Rattle.meaning.specs.Limits.{most_starts}
-use Rattle.new_index.specs.Writers.{writer_of}
-use Rattle.new_index.proofs.LaidOut.{Starting, starting-none, starting-more}
-use borrow.Author.Rules.{rules}
-use native.Mathlib.Omega.{arith}
+use Rattle.new_index.proofs.LaidOut.{Starting}
 use Rattle.new_index.proofs.layout.starts.Given as goal
 
 abbrev pub invariant-loop-i : goal.invariant-loop-i

@@ -1,6 +1,6 @@
 -- `new_index::writers::emit_all` meets its contract: by `going_more`, each round puts one row more to its body's part.
 -- Assumes nothing.
-use Prim.Native.Nat.{ℕ, ◌+◌, ◌-◌, ◌≤◌, ◌<◌}
+use Prim.Native.Nat.{ℕ, ◌+◌, ◌≤◌, ◌<◌}
 use mathlib.Core.Bool.{Bool}
 use mathlib.Core.Path.{◌≡◌, ◌∙◌}
 use mathlib.Core.List.{List}
@@ -9,9 +9,8 @@ use Rattle.meaning.specs.Limits.{most_value_column, block_segments, writers_numb
 use Rattle.meaning.specs.declared.Format.{Format}
 use Rattle.body_write.specs.Bodies.{Growing}
 use Rattle.new_index.specs.Writers.{writer_of, Laid, region, row_length, row_of}
-use Rattle.new_index.proofs.Regions.{Going, going-none, going_more, going-all}
+use Rattle.new_index.proofs.Regions.{going-none, going_more, going-all}
 use Rattle.new_index.proofs.RowParts.{row_low, row_is, row_first, row-each}
-use borrow.Author.Rules.{rules}
 use native.Mathlib.Omega.{arith}
 use Rattle.new_index.proofs.writers.emit_all.Lts
 use Rattle.new_index.proofs.writers.emit_all.Reads

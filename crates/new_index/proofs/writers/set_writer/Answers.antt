@@ -2,7 +2,6 @@
 -- Assumes nothing.
 use Rattle.new_index.proofs.Numbers.{stored}
 use native.Mathlib.Omega.{arith}
-use borrow.Author.Rules.{rules}
 use Rattle.new_index.proofs.writers.set_writer.Goals as goal
 
 pub returns : goal.returns

@@ -1,14 +1,8 @@
 -- `new_index::writers::start` meets its contract: the first i writers have no word, one more in each round.
 -- Assumes nothing.
-use Prim.Native.Nat.{ℕ, ◌-◌, ◌≤◌, ◌<◌}
 use mathlib.Core.Path.{◌≡◌, refl, ◌∙◌}
-use mathlib.Core.List.{[]}
-use lib.ListN.{length}
-use Rattle.meaning.specs.Limits.{most_value_column, writers_numbers}
-use Rattle.body_write.specs.Bodies.{Stands}
-use Rattle.new_index.specs.Writers.{writer_of}
+use Rattle.meaning.specs.Limits.{most_value_column}
 use Rattle.new_index.proofs.Numbers.{started-more}
-use borrow.Author.Rules.{rules}
 use native.Mathlib.Omega.{arith}
 use Rattle.new_index.proofs.writers.start.Goals as goal
 

@@ -1,15 +1,12 @@
 -- `new_index::writers::start` meets its contract: the first i writers have no word, one more in each round.
 -- Assumes nothing.
 use Prim.Native.Nat.{ℕ, ◌-◌, ◌≤◌, ◌<◌}
-use mathlib.Core.Path.{◌≡◌, refl, ◌∙◌}
+use mathlib.Core.Path.{◌≡◌}
 use mathlib.Core.List.{[]}
 use lib.ListN.{length}
 use Rattle.meaning.specs.Limits.{most_value_column, writers_numbers}
 use Rattle.body_write.specs.Bodies.{Stands}
 use Rattle.new_index.specs.Writers.{writer_of}
-use Rattle.new_index.proofs.Numbers.{started-more}
-use borrow.Author.Rules.{rules}
-use native.Mathlib.Omega.{arith}
 use Rattle.new_index.proofs.writers.start.Given as goal
 
 abbrev pub invariant-loop-i : goal.invariant-loop-i

@@ -1,7 +1,6 @@
 -- `new_index::writers::writer_at` meets its contract: the marker's numbers fit 32 bits, and by `read` the five are the writer.
 -- Assumes nothing.
 use Rattle.new_index.proofs.Numbers.{fields-low, read}
-use borrow.Author.Rules.{rules}
 use Rattle.new_index.proofs.writers.writer_at.Goals as goal
 
 pub narrow-value-requires : goal.narrow-value-requires

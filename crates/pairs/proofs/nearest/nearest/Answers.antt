@@ -1,6 +1,5 @@
 -- `pairs::nearest::nearest` meets its contract.
 -- Assumes nothing.
-use borrow.Author.Rules.{rules}
 use native.Mathlib.Omega.{arith}
 use Rattle.pairs.proofs.nearest.nearest.Goals as goal
 

@@ -6,7 +6,6 @@ use mathlib.Core.Path.{◌≡◌, refl, ap, ap₂, ◌∙◌, subst}
 use mathlib.Core.List.{List}
 use lib.ListN.{length}
 use native.Mathlib.Omega.{arith}
-use borrow.Author.Rules.{rules}
 use Rattle.meaning.specs.Limits.{most_segments, block_words, most_value_column, place_numbers, short_numbers}
 use Rattle.meaning.specs.Segment.{segment_count, last_rows, all_set, rows_in}
 use Rattle.meaning.specs.Format.{width}
@@ -17,7 +16,7 @@ use Rattle.laws.proofs.Formats.{segments-most}
 use Rattle.ewah.specs.Cursors.{left_of}
 use Rattle.adder.specs.Digits.{Paired}
 use Rattle.walk.specs.Queries.{cursor_of}
-use Rattle.blocks.specs.Blocks.{Chosen, BlockOf, Cleared}
+use Rattle.blocks.specs.Blocks.{Chosen, BlockOf}
 use Rattle.blocks.proofs.Values.{zeros}
 use Rattle.blocks.proofs.Walks.{before, walking_on, still-cleared, block_of}
 use Rattle.pairs.specs.Passes.{Columns}

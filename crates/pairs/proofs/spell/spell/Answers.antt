@@ -3,7 +3,6 @@
 use Prim.Native.Nat.{ℕ, ◌-◌}
 use mathlib.Core.Path.{sym, ap, ◌∙◌}
 use native.Mathlib.Omega.{arith}
-use borrow.Author.Rules.{rules}
 use Rattle.pairs.proofs.Spelling.{spelled-run, spelled_same, spelled-last}
 use Rattle.pairs.proofs.spell.spell.Goals as goal
 

@@ -1,14 +1,9 @@
 -- `pairs::spell::spell_each` meets its contract. The invariant: word w of the first i rows is spelled.
 -- Assumes nothing.
-use Prim.Native.Nat.{◌-◌, ◌≤◌}
 use mathlib.Core.Path.{◌≡◌, refl}
-use lib.ListN.{length, length-set}
+use lib.ListN.{length-set}
 use native.Mathlib.Omega.{arith}
-use borrow.Author.Rules.{rules}
-use Rattle.meaning.specs.Segment.{all_set}
 use Rattle.meaning.specs.Format.{width}
-use Rattle.meaning.specs.declared.Format.{Format}
-use Rattle.pairs.specs.Spellings.{WordsSpelled}
 use Rattle.pairs.proofs.Spelling.{spelled_none, spelled-more}
 use Rattle.pairs.proofs.spell.spell_each.Goals as goal
 

@@ -1,15 +1,12 @@
 -- `pairs::spell::spell_each` meets its contract. The invariant: word w of the first i rows is spelled.
 -- Assumes nothing.
 use Prim.Native.Nat.{◌-◌, ◌≤◌}
-use mathlib.Core.Path.{◌≡◌, refl}
-use lib.ListN.{length, length-set}
-use native.Mathlib.Omega.{arith}
-use borrow.Author.Rules.{rules}
+use mathlib.Core.Path.{◌≡◌}
+use lib.ListN.{length}
 use Rattle.meaning.specs.Segment.{all_set}
 use Rattle.meaning.specs.Format.{width}
 use Rattle.meaning.specs.declared.Format.{Format}
 use Rattle.pairs.specs.Spellings.{WordsSpelled}
-use Rattle.pairs.proofs.Spelling.{spelled_none, spelled-more}
 use Rattle.pairs.proofs.spell.spell_each.Given as goal
 
 abbrev pub invariant-loop-i : goal.invariant-loop-i

@@ -1,12 +1,10 @@
 -- `pivots::compare::refine` meets its contract. The invariant: the first w words are refined.
 -- Assumes nothing.
 use mathlib.Core.Path.{◌≡◌, refl}
-use Prim.Native.Nat.{◌-◌, ◌≤◌}
 use lib.ListN.{replicate}
 use Rattle.meaning.specs.Limits.{block_segments}
-use Rattle.words.proofs.Entries.{Filled, filled-from, filled_more}
+use Rattle.words.proofs.Entries.{filled-from, filled_more}
 use Rattle.pivots.proofs.Refining.{ahead_at, same_at, refined-all}
-use borrow.Author.Rules.{rules}
 use native.Mathlib.Omega.{arith}
 use Rattle.pivots.proofs.compare.refine.Goals as goal
 

@@ -1,12 +1,10 @@
 -- `pivots::compare::split` meets its contract. The invariant: the digits from place i on are compared.
 -- Assumes nothing.
-use mathlib.Core.Path.{◌≡◌, sym, subst}
-use Prim.Native.Nat.{ℕ, suc, ◌-◌, ◌/◌, ◌^◌, ◌≤◌}
+use mathlib.Core.Path.{◌≡◌}
+use Prim.Native.Nat.{◌≤◌}
 use Rattle.meaning.specs.declared.Ranking.{Ranking}
 use Rattle.laws.specs.Pivot.{lead}
-use Rattle.pivots.proofs.Refining.{SplitFrom, digit_low, digit-is, split-none, split-more, split-all}
-use borrow.Author.Rules.{rules}
-use native.Mathlib.Omega.{arith}
+use Rattle.pivots.proofs.Refining.{SplitFrom}
 use Rattle.pivots.proofs.compare.split.Given as goal
 
 abbrev pub invariant-loop-i : goal.invariant-loop-i

@@ -1,13 +1,9 @@
 -- `pivots::place::in_block` meets its contract, by `block-reached` and `block-passed`. The invariant: of `take` rows the
 -- first i segments have all but those left.
 -- Assumes nothing.
-use mathlib.Core.Bool.{false}
 use mathlib.Core.Path.{◌≡◌}
-use Prim.Native.Nat.{◌+◌, ◌-◌, ◌≤◌}
 use native.Mathlib.Omega.{arith}
-use borrow.Author.Rules.{rules}
 use Rattle.meaning.specs.Rows.{sum_below}
-use Rattle.pivots.proofs.Counting.{set_word}
 use Rattle.pivots.proofs.Placing.{rows_few, set_next, block-reached, block-passed}
 use Rattle.pivots.proofs.place.in_block.Goals as goal
 

@@ -4,11 +4,8 @@
 use mathlib.Core.Bool.{false}
 use mathlib.Core.Path.{◌≡◌}
 use Prim.Native.Nat.{◌+◌, ◌-◌, ◌≤◌}
-use native.Mathlib.Omega.{arith}
-use borrow.Author.Rules.{rules}
 use Rattle.meaning.specs.Rows.{sum_below}
 use Rattle.pivots.proofs.Counting.{set_word}
-use Rattle.pivots.proofs.Placing.{rows_few, set_next, block-reached, block-passed}
 use Rattle.pivots.proofs.place.in_block.Given as goal
 
 abbrev pub invariant-loop-i : goal.invariant-loop-i

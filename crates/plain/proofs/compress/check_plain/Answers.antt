@@ -1,5 +1,4 @@
 -- `plain::compress::check_plain` meets its contract: each of its five returns is a law of `PlainWords`, in the order of the faults. Assumes nothing.
-use borrow.Author.Rules.{rules}
 use mathlib.Core.Path.{ap, ◌∙◌}
 use native.Mathlib.Omega.{arith}
 use Rattle.meaning.specs.Segment.{segment_count}

@@ -1,7 +1,6 @@
 -- `plain::compress::compress` meets its contract: in each format its own writing. Assumes nothing.
 use mathlib.Core.Path.{sym, ap, ◌∙◌}
 use lib.ListN.{length}
-use borrow.Author.Rules.{rules}
 use Rattle.plain.proofs.PlainWords.{canonical-plain}
 use Rattle.plain.proofs.compress.compress.Goals as goal
 

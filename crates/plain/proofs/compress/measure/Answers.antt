@@ -1,7 +1,6 @@
 -- `plain::compress::measure` meets its contract: in each format its own measure. Assumes nothing.
 use mathlib.Core.Path.{sym, ap, ◌∙◌}
 use lib.ListN.{length}
-use borrow.Author.Rules.{rules}
 use Rattle.plain.proofs.PlainWords.{canonical-plain}
 use Rattle.plain.proofs.compress.measure.Goals as goal
 

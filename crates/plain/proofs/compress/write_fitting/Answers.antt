@@ -1,6 +1,5 @@
 -- `plain::compress::write_fitting` meets its contract: what was written, by `write-told`. Assumes nothing.
 use native.Mathlib.Omega.{arith}
-use borrow.Author.Rules.{rules}
 use Rattle.meaning.specs.Segment.{has_row}
 use Rattle.plain.proofs.Buffers.{write-told}
 use Rattle.plain.proofs.compress.write_fitting.Goals as goal

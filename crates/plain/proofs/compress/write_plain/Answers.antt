@@ -1,6 +1,5 @@
 -- `plain::compress::write_plain` meets its contract: what surely fits is written, and else it is measured; 9 by `write-none`.
 -- Assumes nothing.
-use borrow.Author.Rules.{rules}
 use native.Mathlib.Omega.{arith}
 use Rattle.meaning.specs.Segment.{has_row}
 use Rattle.answers.proofs.Tells.{write-none}

@@ -1,5 +1,4 @@
 -- `plain::expand::expand` meets its contract: in each format its own expansion. Assumes nothing.
-use borrow.Author.Rules.{rules}
 use Rattle.meaning.specs.Ewah.{ewah_rows}
 use Rattle.meaning.specs.Format.{rows_of}
 use Rattle.plain.proofs.expand.expand.Goals as goal

@@ -1,5 +1,4 @@
 -- `plain::expand::plain` meets its contract: 9 by `plain-none`, else the plain words by `plain-words`. Assumes nothing.
-use borrow.Author.Rules.{rules}
 use native.Mathlib.Omega.{arith}
 use Rattle.meaning.specs.Format.{rows_of}
 use Rattle.plain.proofs.Buffers.{plain-none, plain-words}

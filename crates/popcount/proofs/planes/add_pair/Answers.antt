@@ -3,7 +3,6 @@
 use mathlib.Core.Path.{◌∙◌}
 use Rattle.popcount.proofs.Counted.{set_pair, part-bits}
 use native.Mathlib.Omega.{arith}
-use borrow.Author.Rules.{rules}
 use Rattle.popcount.proofs.planes.add_pair.Goals as goal
 
 pub returns : goal.returns

@@ -3,7 +3,6 @@
 use mathlib.Core.Path.{ap₂}
 use Prim.Native.Nat.{ℕ, ◌+◌, ◌*◌}
 use Rattle.popcount.specs.Weights.{weight}
-use borrow.Author.Rules.{rules}
 use Rattle.popcount.proofs.planes.weigh.Goals as goal
 
 pub returns : goal.returns

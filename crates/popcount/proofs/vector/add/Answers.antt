@@ -3,14 +3,13 @@
 -- Assumes nothing.
 use mathlib.Core.Path.{◌≡◌, refl}
 use mathlib.Core.List.{List}
-use Prim.Native.Nat.{ℕ, ◌-◌, ◌≤◌}
+use Prim.Native.Nat.{ℕ}
 use lib.ListN.{replicate}
-use Rattle.words.proofs.Entries.{Filled, filled-from, filled_more}
+use Rattle.words.proofs.Entries.{filled-from, filled_more}
 use Rattle.words.proofs.Adders.{digit_word, carry_word, wordwise, added-all}
 use Rattle.popcount.specs.Counts.{lanes}
 use Rattle.popcount.specs.Weights.{summed}
 use Rattle.popcount.proofs.Counted.{set-added}
-use borrow.Author.Rules.{rules}
 use native.Mathlib.Omega.{arith}
 use Rattle.popcount.proofs.vector.add.Goals as goal
 

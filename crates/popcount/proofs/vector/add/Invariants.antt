@@ -1,17 +1,10 @@
 -- `popcount::vector::add` meets its contract, by `added-all` and `set-added`. The invariant: the first w words of both
 -- vectors are there.
 -- Assumes nothing.
-use mathlib.Core.Path.{◌≡◌, refl}
-use mathlib.Core.List.{List}
-use Prim.Native.Nat.{ℕ, ◌-◌, ◌≤◌}
-use lib.ListN.{replicate}
-use Rattle.words.proofs.Entries.{Filled, filled-from, filled_more}
-use Rattle.words.proofs.Adders.{digit_word, carry_word, wordwise, added-all}
+use Prim.Native.Nat.{◌-◌, ◌≤◌}
+use Rattle.words.proofs.Entries.{Filled}
+use Rattle.words.proofs.Adders.{digit_word, carry_word, wordwise}
 use Rattle.popcount.specs.Counts.{lanes}
-use Rattle.popcount.specs.Weights.{summed}
-use Rattle.popcount.proofs.Counted.{set-added}
-use borrow.Author.Rules.{rules}
-use native.Mathlib.Omega.{arith}
 use Rattle.popcount.proofs.vector.add.Given as goal
 
 abbrev pub invariant-loop-w : goal.invariant-loop-w

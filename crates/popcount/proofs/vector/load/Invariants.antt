@@ -1,12 +1,9 @@
 -- `popcount::vector::load` meets its contract. The invariant: the first w words are those from `at` on.
 -- Assumes nothing.
-use mathlib.Core.Path.{◌≡◌, refl}
 use Prim.Native.Nat.{◌+◌, ◌-◌, ◌≤◌}
-use lib.ListN.{get_or, replicate}
-use Rattle.words.proofs.Entries.{Filled, filled-from, filled_more}
+use lib.ListN.{get_or}
+use Rattle.words.proofs.Entries.{Filled}
 use Rattle.popcount.specs.Counts.{lanes}
-use borrow.Author.Rules.{rules}
-use native.Mathlib.Omega.{arith}
 use Rattle.popcount.proofs.vector.load.Given as goal
 
 abbrev pub invariant-loop-w : goal.invariant-loop-w

@@ -1,7 +1,7 @@
 -- `popcount::vector::set_bits` meets its contract, by `first-all`. The invariant: n bits of the first w words are set.
 -- Assumes nothing.
 use mathlib.Core.Path.{◌≡◌, ◌∙◌}
-use Prim.Native.Nat.{◌+◌, ◌-◌, ◌≤◌}
+use Prim.Native.Nat.{◌+◌}
 use Rattle.meaning.specs.Rows.{sum_below}
 use Rattle.popcount.specs.Counts.{lanes}
 use Rattle.popcount.proofs.Counted.{set_first, first_next, first-le, first-all}

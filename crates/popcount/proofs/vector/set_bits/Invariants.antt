@@ -1,12 +1,9 @@
 -- `popcount::vector::set_bits` meets its contract, by `first-all`. The invariant: n bits of the first w words are set.
 -- Assumes nothing.
-use mathlib.Core.Path.{◌≡◌, ◌∙◌}
-use Prim.Native.Nat.{◌+◌, ◌-◌, ◌≤◌}
-use Rattle.meaning.specs.Rows.{sum_below}
+use mathlib.Core.Path.{◌≡◌}
+use Prim.Native.Nat.{◌-◌, ◌≤◌}
 use Rattle.popcount.specs.Counts.{lanes}
-use Rattle.popcount.proofs.Counted.{set_first, first_next, first-le, first-all}
-use borrow.Author.Rules.{rules}
-use native.Mathlib.Omega.{arith}
+use Rattle.popcount.proofs.Counted.{set_first}
 use Rattle.popcount.proofs.vector.set_bits.Given as goal
 
 abbrev pub invariant-loop-w : goal.invariant-loop-w

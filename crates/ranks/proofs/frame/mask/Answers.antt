@@ -1,7 +1,6 @@
 -- `ranks::frame::mask` meets its contract.
 -- Assumes nothing.
 use Rattle.meaning.specs.Index.{format_of, row_count}
-use borrow.Author.Rules.{rules}
 use Rattle.ranks.proofs.frame.mask.Goals as goal
 
 pub returns : goal.returns

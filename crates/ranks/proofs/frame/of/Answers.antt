@@ -6,7 +6,6 @@ use native.Mathlib.Omega.{arith}
 use Rattle.meaning.specs.Segment.{segment_count, last_rows, all_set}
 use Rattle.meaning.specs.Format.{width}
 use Rattle.meaning.specs.declared.Format.{Format}
-use borrow.Author.Rules.{rules}
 use Rattle.ranks.proofs.frame.of.Goals as goal
 
 pub returns : goal.returns

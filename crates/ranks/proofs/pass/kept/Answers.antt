@@ -3,7 +3,6 @@
 use Prim.Native.Nat.{ℕ}
 use mathlib.Core.Path.{ap, ◌∙◌}
 use native.Mathlib.Omega.{arith}
-use borrow.Author.Rules.{rules}
 use Rattle.meaning.specs.Segment.{is_set}
 use Rattle.laws.proofs.Counting.{zero_clear, full-set}
 use Rattle.laws.proofs.Evaluated.{ones_bit}

@@ -14,14 +14,14 @@ use Rattle.meaning.specs.Format.{width}
 use Rattle.meaning.specs.Index.{format_of, row_count}
 use Rattle.meaning.specs.declared.Format.{Format}
 use Rattle.laws.proofs.Formats.{width-pos, width-le}
-use Rattle.body_write.specs.Bodies.{Stands, UpTo}
+use Rattle.body_write.specs.Bodies.{Stands}
 use Rattle.body_write.proofs.UpTo.{up_none, up-used, up-all}
 use Rattle.blocks.specs.Blocks.{NextBlock}
 use Rattle.blocks.proofs.Segmented.{segs-length}
 use Rattle.blocks.proofs.Walks.{S}
 use Rattle.ranks.specs.Frames.{Column, Framed}
 use Rattle.ranks.specs.Passes.{EndOf, RowLength, cut_rows, cut_body}
-use Rattle.ranks.proofs.Along.{Along, room, few, pivot-low, along-none, along-more}
+use Rattle.ranks.proofs.Along.{room, few, pivot-low, along-none, along-more}
 use Rattle.ranks.proofs.Passing.{own_segments, body_is, at_most, may-emit, up_next}
 use borrow.Author.Rules.{rules}
 use native.Mathlib.Omega.{arith}

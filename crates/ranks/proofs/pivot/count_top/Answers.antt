@@ -1,7 +1,6 @@
 -- `ranks::pivot::count_top` meets its contract.
 -- Assumes nothing.
 use Rattle.ranks.proofs.Narrowing.{top-fits, top-counted}
-use borrow.Author.Rules.{rules}
 use Rattle.ranks.proofs.pivot.count_top.Goals as goal
 
 pub count-requires : goal.count-requires

@@ -2,8 +2,7 @@
 -- Assumes nothing.
 use mathlib.Core.Path.{refl}
 use native.Mathlib.Omega.{arith}
-use borrow.Author.Rules.{rules}
-use Rattle.ranks.proofs.Narrowing.{Finding, finding-none, finding-low, finding-short, finding-more, finding-all}
+use Rattle.ranks.proofs.Narrowing.{finding-none, finding-low, finding-short, finding-more, finding-all}
 use Rattle.ranks.proofs.pivot.find.Goals as goal
 
 pub loop-left-init : goal.loop-left-init

@@ -1,9 +1,6 @@
 -- `ranks::pivot::find` meets its contract. The invariant: the digits from place `left` on are found.
 -- Assumes nothing.
-use mathlib.Core.Path.{refl}
-use native.Mathlib.Omega.{arith}
-use borrow.Author.Rules.{rules}
-use Rattle.ranks.proofs.Narrowing.{Finding, finding-none, finding-low, finding-short, finding-more, finding-all}
+use Rattle.ranks.proofs.Narrowing.{Finding}
 use Rattle.ranks.proofs.pivot.find.Given as goal
 
 abbrev pub invariant-loop-left : goal.invariant-loop-left

@@ -1,12 +1,11 @@
 -- `ranks::pivot::top` meets its contract. The invariant: the numbers before place k are copied.
 -- Assumes nothing.
 use mathlib.Core.Path.{◌≡◌}
-use Prim.Native.Nat.{◌+◌, ◌-◌, ◌≤◌}
+use Prim.Native.Nat.{◌+◌, ◌-◌}
 use lib.ListN.{length, replicate}
 use Rattle.meaning.specs.Limits.{most_column}
-use Rattle.words.proofs.Entries.{Filled, filled_more}
+use Rattle.words.proofs.Entries.{filled_more}
 use Rattle.ranks.proofs.Narrowing.{top_at, top-at, top-first, top-all}
-use borrow.Author.Rules.{rules}
 use native.Mathlib.Omega.{arith}
 use Rattle.ranks.proofs.pivot.top.Goals as goal
 

@@ -1,13 +1,10 @@
 -- `ranks::pivot::top` meets its contract. The invariant: the numbers before place k are copied.
 -- Assumes nothing.
-use mathlib.Core.Path.{◌≡◌}
 use Prim.Native.Nat.{◌+◌, ◌-◌, ◌≤◌}
 use lib.ListN.{length, replicate}
 use Rattle.meaning.specs.Limits.{most_column}
-use Rattle.words.proofs.Entries.{Filled, filled_more}
-use Rattle.ranks.proofs.Narrowing.{top_at, top-at, top-first, top-all}
-use borrow.Author.Rules.{rules}
-use native.Mathlib.Omega.{arith}
+use Rattle.words.proofs.Entries.{Filled}
+use Rattle.ranks.proofs.Narrowing.{top_at}
 use Rattle.ranks.proofs.pivot.top.Given as goal
 
 abbrev pub invariant-loop-k : goal.invariant-loop-k

@@ -1,7 +1,6 @@
 -- `ranks::scan::count` meets its contract: no index has so many rows.
 -- Assumes nothing.
 use native.Mathlib.Omega.{arith}
-use borrow.Author.Rules.{rules}
 use Rattle.meaning.specs.Index.{row_count}
 use Rattle.laws.proofs.Counting.{count-le}
 use Rattle.ranks.specs.Found.{rows_level}

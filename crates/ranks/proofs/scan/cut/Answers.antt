@@ -1,6 +1,5 @@
 -- `ranks::scan::cut` meets its contract.
 -- Assumes nothing.
-use borrow.Author.Rules.{rules}
 use Rattle.ranks.proofs.scan.cut.Goals as goal
 
 pub returns : goal.returns

@@ -17,7 +17,7 @@ use Rattle.blocks.proofs.Walks.{S}
 use Rattle.ranks.proofs.Comparing.{Tested, has-rows, run-rows, tested-same}
 use Rattle.ranks.specs.Frames.{Column, Framed}
 use Rattle.ranks.specs.Found.{rows_level, Scanned}
-use Rattle.ranks.proofs.Along.{Along, rows_before, room, few, pivot-low, along-none, along-more, all-rows, none_before, count_fits}
+use Rattle.ranks.proofs.Along.{rows_before, room, few, pivot-low, along-none, along-more, all-rows, none_before, count_fits}
 use borrow.Author.Rules.{rules}
 use native.Mathlib.Omega.{arith}
 use Rattle.ranks.proofs.Scanning.{rows-most, reached, scanned-all}

@@ -12,7 +12,6 @@ use Rattle.ranks.specs.Found.{PivotOf, CutAt}
 use Rattle.ranks.specs.Passes.{cut_rows, cut_body, Passed}
 use Rattle.ranks.proofs.Writing.{not-stored, rank-fits, rank-lacks}
 use native.Mathlib.Omega.{arith}
-use borrow.Author.Rules.{rules}
 use Rattle.ranks.proofs.write.write.Lts
 use Rattle.ranks.proofs.write.write.Reads
 use Rattle.ranks.proofs.write.write.Tie

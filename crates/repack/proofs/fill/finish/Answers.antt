@@ -5,7 +5,6 @@ use mathlib.Core.Path.{◌∙◌}
 use lib.Pow.{pow_mono}
 use native.Mathlib.Nat.{mod-eq_of_lt}
 use native.Mathlib.Omega.{arith}
-use borrow.Author.Rules.{rules}
 use Rattle.repack.proofs.RowsWritten.{finished-whole, finished-begun}
 use Rattle.repack.proofs.fill.finish.Goals as goal
 

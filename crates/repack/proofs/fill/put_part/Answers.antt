@@ -5,7 +5,6 @@ use mathlib.Core.Path.{ap, ◌∙◌}
 use lib.Pow.{pow_mono}
 use native.Mathlib.Omega.{arith}
 use Rattle.meaning.specs.Segment.{is_set}
-use borrow.Author.Rules.{rules}
 use Rattle.repack.proofs.RowsPut.{fill-low, fill-set, put_same}
 use Rattle.repack.proofs.fill.put_part.Goals as goal
 

@@ -5,7 +5,6 @@ use mathlib.Core.Path.{refl}
 use lib.Bits.{and_mask}
 use lib.Dec.{eqb}
 use native.Mathlib.Omega.{arith}
-use borrow.Author.Rules.{rules}
 use Rattle.repack.proofs.RowsPut.{put-join}
 use Rattle.repack.proofs.fill.put_run.Goals as goal
 

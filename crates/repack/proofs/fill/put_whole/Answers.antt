@@ -1,6 +1,5 @@
 -- `repack::fill::put_whole` meets its contract: by `put_whole`. Assumes nothing.
 use mathlib.Core.Path.{refl}
-use borrow.Author.Rules.{rules}
 use Rattle.repack.proofs.RowsPut.{put_whole}
 use Rattle.repack.proofs.fill.put_whole.Goals as goal
 

@@ -4,7 +4,6 @@ use Prim.Native.Nat.{ℕ, ◌-◌, ◌*◌, ◌≤◌}
 use mathlib.Core.Path.{refl, sym, ap, ◌∙◌}
 use native.Mathlib.Omega.{arith}
 use borrow.Author.Tests.{leb-true, leb-false}
-use borrow.Author.Rules.{rules}
 use Rattle.repack.proofs.RowsPut.{put-begun, put_full}
 use Rattle.repack.proofs.fill.put_word.Lts
 use Rattle.repack.proofs.fill.put_word.Reads

@@ -1,11 +1,8 @@
 -- `repack::fill::store` meets its contract. The invariant: the words before i are as they are to be. Assumes nothing.
-use Prim.Native.Nat.{ℕ, ◌-◌, ◌≤◌}
-use mathlib.Core.Path.{◌≡◌, subst}
-use lib.ListN.{length, length-set}
-use native.Mathlib.Omega.{arith}
-use borrow.Author.Rules.{rules}
+use Prim.Native.Nat.{◌-◌, ◌≤◌}
+use mathlib.Core.Path.{◌≡◌}
+use lib.ListN.{length}
 use Rattle.repack.specs.Filling.{Stored}
-use Rattle.repack.proofs.RowsPut.{stored-none, stored_next}
 use Rattle.repack.proofs.fill.store.Given as goal
 
 abbrev pub invariant-loop-i : goal.invariant-loop-i

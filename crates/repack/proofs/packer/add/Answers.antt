@@ -4,7 +4,6 @@ use Prim.Native.Nat.{ℕ, ◌+◌, ◌^◌, ◌≤◌}
 use mathlib.Core.Path.{refl, ap}
 use lib.Pow.{pow_mono, shl_exact}
 use native.Mathlib.Omega.{arith}
-use borrow.Author.Rules.{rules}
 use Rattle.repack.proofs.Joining.{joined-low, added}
 use Rattle.repack.proofs.packer.add.Goals as goal
 

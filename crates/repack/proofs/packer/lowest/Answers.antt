@@ -1,7 +1,6 @@
 -- `repack::packer::lowest` meets its contract: by `masked`, the mask keeps the remainder by 2 ^ n. Assumes nothing.
 use native.Mathlib.Omega.{arith}
 use lib.Pow.{pow_pos}
-use borrow.Author.Rules.{rules}
 use Rattle.words.proofs.BitLaws.{one_shifted}
 use Rattle.repack.proofs.Joining.{masked, lowest-fits}
 use Rattle.repack.proofs.packer.lowest.Goals as goal

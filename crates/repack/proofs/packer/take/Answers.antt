@@ -1,7 +1,6 @@
 -- `repack::packer::take` meets its contract: by `split`, remainder and quotient by 2 ^ w split the rows.
 -- Assumes nothing.
 use mathlib.Core.Path.{refl}
-use borrow.Author.Rules.{rules}
 use Rattle.repack.proofs.Joining.{split}
 use Rattle.repack.proofs.packer.take.Goals as goal
 

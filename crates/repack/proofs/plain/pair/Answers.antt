@@ -4,7 +4,6 @@ use mathlib.Core.Path.{◌≡◌}
 use lib.ListN.{get_or, get_or-eq_default}
 use lib.Pow.{shl_exact}
 use native.Mathlib.Omega.{arith}
-use borrow.Author.Rules.{rules}
 use Rattle.repack.proofs.PlainSegments.{plain-pair}
 use Rattle.repack.proofs.plain.pair.Goals as goal
 

@@ -3,7 +3,6 @@ use Prim.Native.Nat.{ℕ, ◌/◌, ◌%◌, ◌^◌}
 use mathlib.Core.Path.{ap₂, ◌∙◌}
 use lib.Bits.{and_mask}
 use native.Mathlib.Omega.{arith}
-use borrow.Author.Rules.{rules}
 use Rattle.repack.proofs.PlainSegments.{plain-part}
 use Rattle.repack.proofs.plain.rows_from.Goals as goal
 

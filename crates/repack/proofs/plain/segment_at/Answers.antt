@@ -2,9 +2,7 @@
 use Prim.Native.Nat.{ℕ, ◌+◌, ◌*◌}
 use mathlib.Core.Path.{ap, ◌∙◌}
 use native.Mathlib.Omega.{arith}
-use borrow.Author.Rules.{rules}
 use Rattle.meaning.specs.Segment.{word_of, has_row}
-use Rattle.meaning.specs.Format.{width}
 use Rattle.laws.proofs.Formats.{width-le}
 use Rattle.repack.proofs.plain.segment_at.Goals as goal
 

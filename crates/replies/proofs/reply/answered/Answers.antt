@@ -1,6 +1,5 @@
 -- `replies::reply::answered` meets its contract: in each case of what was told, the five fields are those of `answered_reply`. Assumes nothing.
 use Rattle.replies.specs.Exported.{answered_reply}
-use borrow.Author.Rules.{rules}
 use Rattle.replies.proofs.reply.answered.Goals as goal
 
 pub returns-in-Refused : goal.returns-in-Refused

@@ -1,7 +1,6 @@
 -- `replies::reply::checked` meets its contract: in each case of what was told, a refusal's three numbers or three zeros. Assumes nothing.
 use Rattle.replies.specs.Exported.{number_in, bitmap_in, word_in}
 use Rattle.answers.specs.Told.{verdict_of}
-use borrow.Author.Rules.{rules}
 use Rattle.replies.proofs.reply.checked.Goals as goal
 
 pub returns-in-Refused : goal.returns-in-Refused

@@ -3,7 +3,6 @@
 use Rattle.replies.specs.Exported.{number_in, bitmap_in, word_in, flag_in, first_in, last_in}
 use Rattle.answers.specs.Told.{flag_of}
 use Rattle.replies.proofs.Codes.{as_number}
-use borrow.Author.Rules.{rules}
 use Rattle.replies.proofs.reply.flag.Goals as goal
 
 pub returns-in-Refused : goal.returns-in-Refused

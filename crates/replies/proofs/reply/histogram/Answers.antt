@@ -1,7 +1,6 @@
 -- `replies::reply::histogram` meets its contract: the three numbers of `checked`, with the counts as they are. Assumes nothing.
 use Rattle.replies.specs.declared.reply.ZvChecked.{ZvChecked}
 use mathlib.Core.Path.{ap}
-use borrow.Author.Rules.{rules}
 use Rattle.replies.proofs.reply.histogram.Goals as goal
 
 pub returns : goal.returns

@@ -1,6 +1,5 @@
 -- `replies::reply::written` meets its contract: in each case of what was told, the four fields are those of `written_reply`. Assumes nothing.
 use Rattle.replies.specs.Exported.{written_reply}
-use borrow.Author.Rules.{rules}
 use Rattle.replies.proofs.reply.written.Goals as goal
 
 pub returns-in-Refused : goal.returns-in-Refused

@@ -1,11 +1,10 @@
 -- `rewrite::body::rewrite` meets its contract. The invariant: the cursor stands behind the rows that were put.
 -- Assumes nothing.
-use Prim.Native.Nat.{ℕ, ◌+◌, ◌-◌, ◌*◌, ◌≤◌, ◌<◌, min}
+use Prim.Native.Nat.{ℕ, ◌+◌, ◌-◌, ◌*◌, ◌≤◌, min}
 use mathlib.Core.Bool.{Bool}
 use mathlib.Core.Path.{◌≡◌, ap, subst, ◌∙◌}
 use mathlib.Core.List.{List}
 use native.Mathlib.Omega.{arith}
-use borrow.Author.Rules.{rules}
 use Rattle.meaning.specs.Format.{width, rows_of}
 use Rattle.meaning.specs.declared.Format.{Format}
 use Rattle.laws.specs.Ahead.{advanced}

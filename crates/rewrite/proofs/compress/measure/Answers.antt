@@ -4,13 +4,11 @@ use mathlib.Core.Bool.{Bool, false, false≢true}
 use mathlib.Core.Path.{◌≡◌, refl, ap, ◌∙◌}
 use mathlib.Core.List.{[], ◌∷◌}
 use native.Mathlib.Omega.{arith}
-use borrow.Author.Rules.{rules}
 use Rattle.meaning.specs.Segment.{has_row, kind, segment_count, rows_in, all_set}
 use Rattle.meaning.specs.Format.{width}
 use Rattle.laws.proofs.Formats.{width-pos}
 use Rattle.body_write.proofs.Emitting.{emitted-measured}
 use Rattle.repack.proofs.PlainSegments.{segment-inside}
-use Rattle.row_write.specs.Sending.{Sent}
 use Rattle.row_write.proofs.Sending.{Next, next_word, sent-start, sent-growing, sent-on, sent-words}
 use Rattle.rewrite.proofs.compress.measure.Lts
 use Rattle.rewrite.proofs.compress.measure.Reads

@@ -1,7 +1,6 @@
 -- `rewrite::compress::word_at` meets its contract: the mask keeps the word of a segment's rows. Assumes nothing.
 use mathlib.Core.Path.{ap, ◌∙◌}
 use native.Mathlib.Nat.{mod-eq_of_lt}
-use borrow.Author.Rules.{rules}
 use Prim.Native.Nat.{ℕ, ◌%◌, ◌^◌}
 use Rattle.meaning.specs.Segment.{kind, rows_in, has_row}
 use Rattle.meaning.specs.Format.{width}

@@ -1,17 +1,8 @@
 -- `rewrite::compress::write` meets its contract: the segments passed are in the buffer. Assumes nothing.
-use Prim.Native.Nat.{ℕ, ◌+◌, ◌-◌, ◌^◌, ◌<◌}
-use mathlib.Core.Bool.{Bool, true}
-use mathlib.Core.Path.{◌≡◌, refl, ap, ◌∙◌}
-use mathlib.Core.List.{[], ◌∷◌}
-use native.Mathlib.Omega.{arith}
-use borrow.Author.Rules.{rules}
-use Rattle.meaning.specs.Segment.{has_row, kind, segment_count, rows_in, all_set}
-use Rattle.meaning.specs.Format.{width}
-use Rattle.laws.proofs.Formats.{width-pos}
-use Rattle.body_write.proofs.Emitting.{emitted-stored}
-use Rattle.repack.proofs.PlainSegments.{segment-inside}
+use Prim.Native.Nat.{◌-◌}
+use mathlib.Core.Bool.{true}
+use Rattle.meaning.specs.Segment.{has_row}
 use Rattle.row_write.specs.Sending.{Sent}
-use Rattle.row_write.proofs.Sending.{Next, next_word, sent-start, sent-room, sent-on, sent-words, sent-all}
 use Rattle.rewrite.proofs.compress.write.Given as goal
 
 abbrev pub invariant-loop-i : goal.invariant-loop-i

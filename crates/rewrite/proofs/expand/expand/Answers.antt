@@ -5,7 +5,6 @@ use mathlib.Core.Path.{◌≡◌, ap, subst, ◌∙◌}
 use mathlib.Core.List.{List, ◌++◌}
 use lib.ListN.{length, drop}
 use native.Mathlib.Omega.{arith}
-use borrow.Author.Rules.{rules}
 use Rattle.meaning.specs.Segment.{segment_count, from_rows}
 use Rattle.meaning.specs.declared.Format.TheVariants.{Wah}
 use Rattle.meaning.specs.Format.{rows_of}
@@ -13,7 +12,7 @@ use Rattle.laws.proofs.Formats.{facts-some}
 use Rattle.laws.proofs.RowWords.{rows_fit}
 use Rattle.laws.specs.Ahead.{advanced}
 use Rattle.ewah.specs.Cursors.{Stands, left_of, pieces_from}
-use Rattle.repack.specs.Filling.{rows_done, Ready, Laid}
+use Rattle.repack.specs.Filling.{rows_done}
 use Rattle.row_write.proofs.Walking.{At, at-start, at_next, behind, piece-some, piece-low, piece-gives, piece-rows}
 use Rattle.rewrite.proofs.expand.expand.Lts
 use Rattle.rewrite.proofs.expand.expand.Reads

@@ -3,7 +3,6 @@
 use Prim.Native.Nat.{◌≤◌}
 use lib.Pow.{pow_pos}
 use native.Mathlib.Nat.{mod-lt}
-use borrow.Author.Rules.{rules}
 use Rattle.repack.proofs.RowsPut.{put_same}
 use Rattle.row_write.proofs.Walking.{rows-kept}
 use Rattle.rewrite.proofs.expand.put.Goals as goal

@@ -1,6 +1,5 @@
 -- `row_write::emit::at_once` meets its contract: a fill can count more segments than a body has. Assumes nothing.
 use native.Mathlib.Omega.{arith}
-use borrow.Author.Rules.{rules}
 use Rattle.row_write.proofs.emit.at_once.Goals as goal
 
 pub returns-in-Ewah : goal.returns-in-Ewah

@@ -1,17 +1,12 @@
 -- `row_write::emit::run` meets its contract. The invariant: all but the last `left` segments are emitted.
 -- Assumes nothing.
-use borrow.Author.Rules.{rules}
-use native.Mathlib.Omega.{arith}
-use Prim.Native.Nat.{ℕ, ◌+◌, ◌-◌, ◌^◌, ◌≤◌}
+use Prim.Native.Nat.{◌-◌, ◌≤◌}
 use mathlib.Core.Bool.{true}
-use mathlib.Core.Path.{◌≡◌, refl, ap, ◌∙◌}
-use lib.ListN.{length, replicate, length-replicate, replicate-append-replicate}
-use mathlib.Core.List.{◌++◌}
-use Rattle.meaning.specs.Segment.{Segment, clean, all_set}
+use mathlib.Core.Path.{◌≡◌}
+use lib.ListN.{length, replicate}
+use Rattle.meaning.specs.Segment.{clean}
 use Rattle.meaning.specs.Format.{width}
 use Rattle.body_write.specs.Bodies.{Growing, RoomFor, Emitted}
-use Rattle.body_write.proofs.Emitting.{emitted-none, emitted-more}
-use Rattle.row_write.proofs.Emitting.{grow-fewer, run-first, run-rest, run-growing}
 use Rattle.row_write.proofs.emit.run.Given as goal
 
 abbrev pub invariant-loop-left : goal.invariant-loop-left

@@ -4,7 +4,6 @@ use mathlib.Core.Path.{◌≡◌, ap, ◌∙◌}
 use lib.Pow.{pow_mono}
 use native.Mathlib.Nat.{mod-eq_of_lt}
 use native.Mathlib.Omega.{arith}
-use borrow.Author.Rules.{rules}
 use Rattle.meaning.specs.Segment.{kind, all_set}
 use Rattle.meaning.specs.Format.{width}
 use Rattle.laws.proofs.Formats.{width-le}

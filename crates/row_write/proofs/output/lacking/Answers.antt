@@ -4,7 +4,6 @@ use mathlib.Core.Path.{◌≡◌, ap, ◌∙◌}
 use lib.Arith.{digits_mod}
 use native.Mathlib.Nat.{zero-mod}
 use native.Mathlib.Omega.{arith}
-use borrow.Author.Rules.{rules}
 use Rattle.row_write.proofs.output.lacking.Goals as goal
 
 pub returns-then-have-eq0 : goal.returns-then-have-eq0

@@ -5,7 +5,6 @@ use mathlib.Core.Path.{sym}
 use lib.Pow.{pow_pos}
 use native.Mathlib.Nat.{mod-lt}
 use native.Mathlib.Omega.{arith}
-use borrow.Author.Rules.{rules}
 use Rattle.laws.proofs.Formats.{width-pos}
 use Rattle.row_write.proofs.Walking.{rows-kept}
 use Rattle.row_write.proofs.Packing.{takes_same, put_same}

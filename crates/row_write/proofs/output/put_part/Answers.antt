@@ -5,7 +5,6 @@ use mathlib.Core.Path.{◌≡◌, sym, ap, subst, ◌∙◌}
 use lib.Dec.{eqb}
 use lib.Pow.{pow_mono}
 use native.Mathlib.Omega.{arith}
-use borrow.Author.Rules.{rules}
 use Rattle.meaning.specs.Segment.{is_set}
 use Rattle.repack.proofs.RowsPut.{fill-low, fill-set}
 use Rattle.row_write.proofs.Packing.{takes_same, put_same}

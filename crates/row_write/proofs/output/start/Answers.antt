@@ -1,6 +1,5 @@
 -- `row_write::output::start` meets its contract. Assumes nothing.
 use mathlib.Core.Path.{refl}
-use borrow.Author.Rules.{rules}
 use Rattle.row_write.proofs.Packing.{packed_start}
 use Rattle.row_write.proofs.output.start.Goals as goal
 

@@ -5,7 +5,6 @@ use mathlib.Core.Bool.{false}
 use mathlib.Core.Path.{refl, sym, subst, ◌∙◌}
 use native.Mathlib.Omega.{arith}
 use borrow.Author.Tests.{leb-true, leb-false}
-use borrow.Author.Rules.{rules}
 use Rattle.meaning.specs.Segment.{all_set}
 use Rattle.meaning.specs.Format.{width}
 use Rattle.laws.proofs.Formats.{width-le}

@@ -2,7 +2,6 @@
 use Prim.Native.Nat.{ℕ, ◌*◌, min}
 use mathlib.Core.Path.{ap, ◌∙◌}
 use native.Mathlib.Omega.{arith}
-use borrow.Author.Rules.{rules}
 use Rattle.row_write.proofs.piece.rows_in.Goals as goal
 
 pub overflow_mul-left : goal.overflow_mul-left

@@ -1,5 +1,4 @@
 -- `single::body::nth` meets its contract: what `body_read::nth::nth` found, its row or 8. Assumes nothing.
-use borrow.Author.Rules.{rules}
 use mathlib.Core.Path.{sym, ap, ◌∙◌}
 use Rattle.answers.specs.Told.{refused_by, number_of, found_of}
 use Rattle.single.proofs.body.nth.Goals as goal

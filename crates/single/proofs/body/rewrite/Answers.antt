@@ -2,7 +2,6 @@
 -- Assumes nothing.
 use mathlib.Core.Path.{refl}
 use native.Mathlib.Omega.{arith}
-use borrow.Author.Rules.{rules}
 use Rattle.meaning.specs.Format.{rows_of}
 use Rattle.answers.proofs.Tells.{write_kept, write_mid}
 use Rattle.single.proofs.Asks.{not-stored}

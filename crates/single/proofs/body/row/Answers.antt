@@ -1,5 +1,4 @@
 -- `single::body::row` meets its contract: 8 by `row-past`; else what `body_read::row::row` found. Assumes nothing.
-use borrow.Author.Rules.{rules}
 use mathlib.Core.Path.{ap, ◌∙◌}
 use Rattle.answers.specs.Told.{refused_by, flag_of}
 use Rattle.single.proofs.Asks.{row-past, row_here}

@@ -1,7 +1,6 @@
 -- `single::body::write_fitting` meets its contract: what was written, by `write-words`. Assumes nothing.
 use mathlib.Core.Path.{refl}
 use native.Mathlib.Omega.{arith}
-use borrow.Author.Rules.{rules}
 use Rattle.meaning.specs.Format.{rows_of}
 use Rattle.answers.proofs.Tells.{write-words}
 use Rattle.single.proofs.body.write_fitting.Goals as goal

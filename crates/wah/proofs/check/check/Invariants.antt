@@ -1,16 +1,9 @@
 -- `wah::check::check` meets its contract. Where the loop stands, the faults of the rest are those of the body. Assumes nothing.
-use borrow.Author.Rules.{rules}
-use borrow.Author.Tests.{lt-ltb, le-ltb}
-use native.Mathlib.Omega.{arith}
 use Prim.Native.Nat.{◌+◌, ◌-◌, ◌≤◌}
-use mathlib.Core.Path.{◌≡◌, sym, ◌∙◌}
-use lib.Dec.{ltb}
+use mathlib.Core.Path.{◌≡◌}
 use lib.ListN.{length, drop}
 use Rattle.meaning.specs.Segment.{segment_count}
-use Rattle.meaning.specs.Refusal.{sound, refuse_if}
 use Rattle.meaning.specs.Wah.{wah_fault_from, wah_fault}
-use Rattle.answers.specs.Told.{verdict_of}
-use Rattle.wah.proofs.Steps.{passed-of, faulty-of, passed-at, faulty-at, end-fault}
 use Rattle.wah.proofs.check.check.Given as goal
 
 abbrev pub invariant-loop-at : goal.invariant-loop-at

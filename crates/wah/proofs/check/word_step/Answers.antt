@@ -1,5 +1,4 @@
 -- `wah::check::word_step` meets its contract: each return is a law of `Steps`, of a fill or of a literal. Assumes nothing.
-use borrow.Author.Rules.{rules}
 use Rattle.wah.proofs.Steps.{fill_none, fill-over, fill-passed, last-rows}
 use Rattle.wah.proofs.Steps.{literal-over, literal-inside, literal-pad, literal-last}
 use Rattle.wah.proofs.check.word_step.Goals as goal

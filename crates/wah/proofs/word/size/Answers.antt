@@ -1,5 +1,4 @@
 -- `wah::word::size` meets its contract: a fill has its count of segments, a literal one. Assumes nothing.
-use borrow.Author.Rules.{rules}
 use mathlib.Core.Path.{sym, ◌∙◌}
 use Rattle.wah.proofs.Spelled.{fill-size, literal-size}
 use Rattle.wah.proofs.word.size.Goals as goal

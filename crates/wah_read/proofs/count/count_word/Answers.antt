@@ -1,7 +1,6 @@
 -- `wah_read::count::count_word` meets its contract: by `fill-ones` the segments of a fill have all their bits set or none, and by
 -- `literal-ones` bit 31 of a literal counts for nothing.
 -- Assumes nothing.
-use borrow.Author.Rules.{rules}
 use native.Mathlib.Omega.{arith}
 use native.Mathlib.Nat.{mul-le-mul}
 use Prim.Native.Nat.{◌*◌, ◌≤◌}

@@ -1,7 +1,6 @@
 -- `wah_read::count::pads_set` meets its contract: no words have no pad bits, and by `LastWord` a literal at the end sets none, a fill
 -- of ones all. Rows are no more than the bits of their segments, and the pad bits fewer than a segment's.
 -- Assumes nothing.
-use borrow.Author.Rules.{rules}
 use native.Mathlib.Omega.{arith}
 use native.Mathlib.Nat.{mul-le-mul_right}
 use Prim.Native.Nat.{ℕ, ◌-◌, ◌*◌, ◌≤◌}

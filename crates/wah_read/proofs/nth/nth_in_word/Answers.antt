@@ -1,7 +1,6 @@
 -- `wah_read::nth::nth_in_word` meets its contract: a fill with a set bit is of ones, so the bit is k itself; a literal's is found in its
 -- word, by `literal-nth`.
 -- Assumes nothing.
-use borrow.Author.Rules.{rules}
 use native.Mathlib.Omega.{arith}
 use Prim.Native.Nat.{◌<◌}
 use mathlib.Core.Path.{refl, sym, ◌∙◌}

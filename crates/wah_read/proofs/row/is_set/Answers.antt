@@ -1,5 +1,4 @@
 -- `wah_read::row::is_set` meets its contract: quotient and remainder by 31, as in `has_row`. Assumes nothing.
-use borrow.Author.Rules.{rules}
 use Prim.Native.Nat.{ℕ, ◌%◌}
 use mathlib.Core.Path.{ap, ◌∙◌}
 use Rattle.meaning.specs.Segment.{has_row, is_set}

@@ -1,6 +1,5 @@
 -- `wah_read::row::locate` meets its contract. The invariant is `Seeks`: the walk stands at a word, and the segment is so many ahead.
 -- Assumes nothing.
-use borrow.Author.Rules.{rules}
 use native.Mathlib.Omega.{arith}
 use Prim.Native.Nat.{ℕ, ◌+◌, ◌-◌, ◌<◌}
 use mathlib.Core.Bool.{true, false}

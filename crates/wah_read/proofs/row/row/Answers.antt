@@ -1,5 +1,4 @@
 -- `wah_read::row::row` meets its contract: quotient and remainder by 31, as in `has_row`. Assumes nothing.
-use borrow.Author.Rules.{rules}
 use Rattle.meaning.specs.declared.Format.TheVariants.{Wah}
 use Rattle.laws.proofs.Spans.{segment-within}
 use Rattle.extent.proofs.Told.{row-asked, row_is}

@@ -1,5 +1,4 @@
 -- `wah_write::writer::grow_mixed` meets its contract: `grown-literal` says so. Assumes nothing.
-use borrow.Author.Rules.{rules}
 use Rattle.wah_write.proofs.Growing.{grown-literal}
 use Rattle.wah_write.proofs.writer.grow_mixed.Goals as goal
 

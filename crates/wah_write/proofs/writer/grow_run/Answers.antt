@@ -1,6 +1,5 @@
 -- `wah_write::writer::grow_run` meets its contract: `grown-in` and `grown-new` are its ways. Assumes nothing.
 use mathlib.Core.Logic.{inl, inr}
-use borrow.Author.Rules.{rules}
 use Rattle.wah_write.proofs.Growing.{grown-in, grown-new}
 use Rattle.wah_write.proofs.writer.grow_run.Goals as goal
 

@@ -4,7 +4,6 @@ use Prim.Native.Nat.{◌<◌}
 use mathlib.Core.List.{[], ◌∷◌}
 use native.Mathlib.Omega.{arith}
 use lib.ListN.{length}
-use borrow.Author.Rules.{rules}
 use Rattle.meaning.specs.Segment.{mixed}
 use Rattle.wah_write.proofs.Pushing.{room-now, literal-fits, literal-pushed}
 use Rattle.wah_write.proofs.writer.push_mixed.Lts

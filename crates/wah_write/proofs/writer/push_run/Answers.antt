@@ -2,7 +2,6 @@
 -- and `run_pushed` the words. Assumes nothing.
 use native.Mathlib.Omega.{arith}
 use lib.ListN.{replicate}
-use borrow.Author.Rules.{rules}
 use Rattle.meaning.specs.Segment.{clean}
 use Rattle.wah_write.proofs.Pushing.{Running, room-now, run-some, run_pushed}
 use Rattle.wah_write.proofs.writer.push_run.Lts

@@ -1,7 +1,6 @@
 -- `wah_write::writer::start` meets its contract: no word, and no run. Assumes nothing.
 use mathlib.Core.Path.{refl}
 use native.Mathlib.Omega.{arith}
-use borrow.Author.Rules.{rules}
 use Rattle.wah_write.proofs.writer.start.Goals as goal
 
 pub returns : goal.returns

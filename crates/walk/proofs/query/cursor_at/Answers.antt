@@ -1,7 +1,6 @@
 -- `walk::query::cursor_at` meets its contract: a tag of 2 is a dirty word (`on-dirty`), any other a clean run (`on-clean`).
 -- Assumes nothing.
 use Rattle.walk.proofs.Numbers.{on-dirty, on-clean}
-use borrow.Author.Rules.{rules}
 use Rattle.walk.proofs.query.cursor_at.Goals as goal
 
 pub returns-then-tag-eq2 : goal.returns-then-tag-eq2

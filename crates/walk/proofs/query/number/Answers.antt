@@ -2,7 +2,6 @@
 -- Assumes nothing.
 use mathlib.Core.Path.{sym, ap}
 use Rattle.walk.specs.Queries.{number_of}
-use borrow.Author.Rules.{rules}
 use Rattle.walk.proofs.query.number.Goals as goal
 
 pub returns-in-Clean : goal.returns-in-Clean

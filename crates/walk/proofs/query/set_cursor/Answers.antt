@@ -1,7 +1,6 @@
 -- `walk::query::set_cursor` meets its contract: by `stored`, its four stores put the cursor.
 -- Assumes nothing.
 use Rattle.walk.proofs.Numbers.{stored}
-use borrow.Author.Rules.{rules}
 use native.Mathlib.Omega.{arith}
 use lib.ListN.{length-set}
 use Rattle.walk.proofs.query.set_cursor.Goals as goal

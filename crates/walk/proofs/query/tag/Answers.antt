@@ -2,7 +2,6 @@
 -- Assumes nothing.
 use mathlib.Core.Path.{sym, ap}
 use Rattle.walk.specs.Queries.{tag_of}
-use borrow.Author.Rules.{rules}
 use Rattle.walk.proofs.query.tag.Goals as goal
 
 pub returns-in-Clean : goal.returns-in-Clean

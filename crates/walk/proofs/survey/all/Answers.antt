@@ -1,10 +1,7 @@
 -- `walk::survey::all` meets its contract. The invariant: the survey is that of the first i places.
 -- Assumes nothing.
 use mathlib.Core.Path.{◌≡◌}
-use Prim.Native.Nat.{◌-◌, ◌≤◌}
-use Rattle.walk.specs.Surveys.{Surveyed}
 use Rattle.walk.proofs.Weighing.{surveyed-more, surveyed-room}
-use borrow.Author.Rules.{rules}
 use native.Mathlib.Omega.{arith}
 use Rattle.walk.proofs.survey.all.Goals as goal
 

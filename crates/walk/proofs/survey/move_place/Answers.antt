@@ -2,7 +2,6 @@
 -- Assumes nothing.
 use Rattle.meaning.specs.Index.{body_at}
 use Rattle.walk.proofs.Places.{next_low, may-advance, moved}
-use borrow.Author.Rules.{rules}
 use Rattle.walk.proofs.survey.move_place.Goals as goal
 
 pub advance-d-requires : goal.advance-d-requires

@@ -1,7 +1,7 @@
 -- `walk::survey::open` meets its contract. The invariant: the first i cursors stand on the first piece of their bodies.
 -- Assumes nothing.
-use mathlib.Core.Path.{◌≡◌, refl, sym, ◌∙◌, subst}
-use Prim.Native.Nat.{ℕ, ◌-◌, ◌≤◌, ◌<◌}
+use mathlib.Core.Path.{refl, sym, ◌∙◌, subst}
+use Prim.Native.Nat.{ℕ, ◌<◌}
 use lib.ListN.{length, get_or}
 use Rattle.meaning.specs.Piece.{NoneEmpty}
 use Rattle.meaning.specs.Format.{pieces_of}
@@ -10,7 +10,6 @@ use Rattle.meaning.specs.Index.{format_of, row_count, body_at}
 use Rattle.laws.proofs.Formats.{facts-some}
 use Rattle.walk.specs.Queries.{Standing, place_body}
 use Rattle.walk.proofs.Places.{next_low, opened, standing-more}
-use borrow.Author.Rules.{rules}
 use native.Mathlib.Omega.{arith}
 use Rattle.walk.proofs.survey.open.Lts
 use Rattle.walk.proofs.survey.open.Reads

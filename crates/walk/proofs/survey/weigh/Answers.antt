@@ -1,7 +1,6 @@
 -- `walk::survey::weigh` meets its contract: `weigh-clean` and `weigh-dirty` are its two ways.
 -- Assumes nothing.
 use Rattle.walk.proofs.Weighing.{weigh-clean, weigh-dirty}
-use borrow.Author.Rules.{rules}
 use native.Mathlib.Omega.{arith}
 use Rattle.walk.proofs.survey.weigh.Goals as goal
 

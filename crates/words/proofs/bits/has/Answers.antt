@@ -1,6 +1,5 @@
 -- `words::bits::has` meets its contract: by `mask-test`, what a mask of one bit keeps is 0 unless that bit is set.
 -- Assumes nothing.
-use borrow.Author.Rules.{rules}
 use Rattle.words.proofs.BitLaws.{mask-test}
 use Rattle.words.proofs.bits.has.Goals as goal
 

@@ -1,15 +1,9 @@
 -- `words::bits::nth` meets its contract. The invariant: as many set bits lie below j as were passed, and these are at most n.
 -- Assumes nothing.
-use mathlib.Core.Path.{◌≡◌, sym, ap, ◌∙◌}
-use mathlib.Core.Bool.{true}
-use mathlib.Core.Logic.{⊎_elim}
-use Prim.Native.Nat.{ℕ, ◌-◌, ◌≤◌}
-use native.Mathlib.Omega.{arith}
-use borrow.Author.Rules.{rules}
+use mathlib.Core.Path.{◌≡◌}
+use Prim.Native.Nat.{◌-◌, ◌≤◌}
 use Rattle.meaning.specs.Rows.{count_below}
 use Rattle.meaning.specs.Segment.{is_set}
-use Rattle.laws.proofs.Counted.{nth-holds}
-use Rattle.words.proofs.BitLaws.{count_set, count-unset}
 use Rattle.words.proofs.bits.nth.Given as goal
 
 abbrev pub invariant-loop-j : goal.invariant-loop-j

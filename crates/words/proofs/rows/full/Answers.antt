@@ -1,6 +1,5 @@
 -- `words::rows::full` meets its contract: by the format's case, the definition of `all_set`. Assumes nothing.
 use mathlib.Core.Path.{sym, ap}
-use borrow.Author.Rules.{rules}
 use Rattle.meaning.specs.Segment.{all_set}
 use Rattle.meaning.specs.Format.{width}
 use Rattle.meaning.specs.declared.Format.{Format}

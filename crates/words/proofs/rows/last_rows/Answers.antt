@@ -3,7 +3,6 @@
 use Prim.Native.Nat.{◌-◌}
 use native.Mathlib.Omega.{arith}
 use lib.Bits.{and_mask}
-use borrow.Author.Rules.{rules}
 use Rattle.meaning.specs.Segment.{last_rows}
 use Rattle.words.proofs.rows.last_rows.Goals as goal
 

@@ -1,7 +1,6 @@
 -- `words::rows::last_rows_of` meets its contract: by the format's case, the definition of `last_rows`. Assumes nothing.
 use mathlib.Core.Path.{sym, ap, ◌∙◌}
 use native.Mathlib.Omega.{arith}
-use borrow.Author.Rules.{rules}
 use Rattle.meaning.specs.Segment.{last_rows}
 use Rattle.meaning.specs.Format.{width}
 use Rattle.meaning.specs.declared.Format.{Format}

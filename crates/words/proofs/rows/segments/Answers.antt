@@ -1,6 +1,5 @@
 -- `words::rows::segments` meets its contract: by the format's case, the definition of `segment_count`. Assumes nothing.
 use mathlib.Core.Path.{sym, ap, ◌∙◌}
-use borrow.Author.Rules.{rules}
 use Rattle.meaning.specs.Segment.{segment_count}
 use Rattle.meaning.specs.Format.{width}
 use Rattle.meaning.specs.declared.Format.{Format}

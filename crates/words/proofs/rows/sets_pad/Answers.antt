@@ -4,7 +4,6 @@ use mathlib.Core.Path.{ap, ◌∙◌}
 use Prim.Native.Nat.{ℕ, suc, ◌^◌}
 use lib.Dec.{leb}
 use lib.Pow.{suc_ones}
-use borrow.Author.Rules.{rules}
 use Rattle.meaning.specs.Segment.{last_limit}
 use Rattle.words.proofs.rows.sets_pad.Goals as goal
 

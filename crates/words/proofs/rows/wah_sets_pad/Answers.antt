@@ -3,7 +3,6 @@ use Prim.Native.Nat.{ℕ, ◌^◌}
 use mathlib.Core.Path.{ap, ◌∙◌}
 use lib.Dec.{leb}
 use lib.Pow.{pow_pos}
-use borrow.Author.Rules.{rules}
 use Rattle.meaning.specs.Segment.{last_limit}
 use Rattle.words.proofs.Segmented.{left_behind}
 use Rattle.words.proofs.rows.wah_sets_pad.Goals as goal

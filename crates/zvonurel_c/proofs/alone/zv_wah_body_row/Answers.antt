@@ -5,7 +5,6 @@ use Rattle.meaning.specs.Answer as meaning
 use Rattle.replies.specs.Exported.{flag_code}
 use Rattle.laws.proofs.Numbered as numbered
 use Rattle.replies.proofs.Codes.{flags}
-use borrow.Author.Rules.{rules}
 use Rattle.zvonurel_c.proofs.alone.zv_wah_body_row.Goals as goal
 
 pub returns : goal.returns

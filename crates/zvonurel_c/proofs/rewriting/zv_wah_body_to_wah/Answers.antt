@@ -1,7 +1,6 @@
 -- `zvonurel_c::rewriting::zv_wah_body_to_wah` meets its contract: `writes` of what `zvonurel::rewrite` told; no refusal of it has number 0.
 -- Assumes nothing.
 use lib.ListN.{length}
-use borrow.Author.Rules.{rules}
 use Rattle.meaning.specs.declared.Format.TheVariants.{Wah}
 use Rattle.meaning.specs.Rewriting as rewriting
 use Rattle.laws.proofs.Numbered as numbered
