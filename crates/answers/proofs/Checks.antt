@@ -11,6 +11,7 @@ use Rattle.laws.proofs.IndexSound.{index-means}
 use Rattle.laws.proofs.Outcomes.{then-sound}
 use Rattle.answers.specs.declared.refusal.Refusal.{Refusal}
 use Rattle.std.specs.Prelude.{Result, Ok, Err}
+use Rattle.std.specs.Result.{IsErrAnd}
 use Rattle.answers.specs.Told.{refused_by, outcome_of}
 
 pub refused-not-sound : {v : Verdict} (r : Refusal) → v ≡ refused_by r → v ≡ sound → ⊥
@@ -29,6 +30,12 @@ module _ (k : Result (Unit {0}) Refusal) (v : Verdict) (e : outcome_of k ≡ v) 
     pub refuses : (r : Refusal) → k ≡ Err r → refused_by r ≡ (v then o)
     unfolding ◌then◌
     refuses r h = rw (refused-is r h)
+
+    -- the call hands the refusal on
+    pub stopped : (r : Result A Refusal) (x : Refusal) → k ≡ Err x → IsErrAnd r (λ y. y ≡ x) → outcome_of r ≡ (v then o)
+    unfolding outcome_of
+    stopped (Ok a) x h g = elim g [ ]
+    stopped (Err y) x h g = ap refused_by g ∙ refuses x h
 
     pub answers : (x : Outcome A) → k ≡ Ok tt → x ≡ o → x ≡ (v then o)
     answers x h f = f ∙ sym (then-sound v o (sound-is h))

@@ -13,10 +13,11 @@ use Rattle.meaning.specs.declared.Format.{Format}
 use Rattle.meaning.specs.Answer.{fits, buffer_after, words_reported, write}
 use Rattle.laws.proofs.Outcomes.{fits-yes, fits-no, then-sound}
 use Rattle.std.specs.Prelude.{Result, Ok, Err}
+use Rattle.std.specs.Result.{IsErrAnd}
 use Rattle.answers.specs.declared.refusal.Refusal.{Refusal}
 use Rattle.answers.specs.declared.refusal.Fault.TheVariants.{NoRoom}
 use Rattle.answers.specs.Told.{refused_by, refusal, outcome_of, written_of, words_of, Wrote}
-use Rattle.answers.proofs.Checks.{sound-is}
+use Rattle.answers.proofs.Checks.{sound-is, refuses}
 
 -- ---- a buffer
 
@@ -61,3 +62,9 @@ write_mid F R p out mid r out' k w = subst (λ (l : List ℕ). Wrote (write F R 
 -- a call behind a check that finds nothing tells what the question behind it tells
 pub wrote_then : (k : Result (Unit {0}) Refusal) (v : Verdict) (o : Outcome (List ℕ)) (r : Result ℕ Refusal) (out out' : List ℕ) → outcome_of k ≡ v → k ≡ Ok tt → Wrote o r out out' → Wrote (v then o) r out out'
 wrote_then k v o r out out' e h w = rw (then-sound v o (sound-is k v e h)) w
+
+-- a call that hands the check's refusal on
+pub wrote-stopped : (k : Result (Unit {0}) Refusal) (v : Verdict) (o : Outcome (List ℕ)) (r : Result ℕ Refusal) (x : Refusal) (out : List ℕ)
+    → outcome_of k ≡ v → k ≡ Err x → IsErrAnd r (λ y. y ≡ x) → Wrote (v then o) r out out
+wrote-stopped k v o (Ok n) x out e h g = elim g [ ]
+wrote-stopped k v o (Err y) x out e h g = wrote-refused out y (v then o) (ap refused_by g ∙ refuses k v e o x h)
