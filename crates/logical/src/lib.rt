@@ -13,24 +13,13 @@ ghost use Rattle.merge.specs.Operations.{chosen};
 ghost use Rattle.answers.specs.Told.{Wrote, Reported};
 
 use answers::answer;
-use answers::answer::{Answered, Written};
+use answers::refusal::Refusal;
 use lists::ask;
 use merge::evaluate::Operation;
 
-// An answer's words alone: a logical question reports no stretches.
-fn words_alone(a: Answered) -> Written
-    ensures { (index list : List ℕ) (o : Outcome (List ℕ)) (out out' : List ℕ)
-        → Reported index list o a out out' → Wrote o result out out' }
-{
-    match a {
-        Answered::Words(words, _) => Written::Words(words),
-        Answered::Refused(refusal) => Written::Refused(refusal),
-    }
-}
-
 // The rows at whose number of holders the operation says yes, whichever set p they are; 8 where the list names a
-// bitmap that is not there, whichever test `bad` says so.
-fn ask_list(index: &[u32], list: &[u32], op: Operation, out: &mut [u32]) -> Written
+// bitmap that is not there, whichever test `bad` says so. A logical question reports its words alone, and no stretches.
+fn ask_list(index: &[u32], list: &[u32], op: Operation, out: &mut [u32]) -> Result<usize, Refusal>
     requires index_facts { IndexFacts index.now }
     requires in_bounds { (1 ≤ length list.now) × (length list.now ≤ most_named) }
     ensures { (p : ℕ → Bool) (bad : Bool)
@@ -41,14 +30,14 @@ fn ask_list(index: &[u32], list: &[u32], op: Operation, out: &mut [u32]) -> Writ
         result out.old out.new }
 {
     if ask::names_missing(index, list) {
-        return Written::Refused(answer::bad_argument());
+        return Err(answer::bad_argument());
     }
-    let answered = fit::write_answer(index, list, op, &index[0..0], out);
-    words_alone(answered)
+    let report = fit::write_answer(index, list, op, &index[0..0], out)?;
+    Ok(report.words)
 }
 
 // The rows of both.
-pub fn and(index: &[u32], j: u32, k: u32, out: &mut [u32]) -> Written
+pub fn and(index: &[u32], j: u32, k: u32, out: &mut [u32]) -> Result<usize, Refusal>
     requires { IndexFacts index.now }
     ensures { Wrote (meaning.ask_logical index.now intersection j k (length out.old))
         result out.old out.new }
@@ -58,7 +47,7 @@ pub fn and(index: &[u32], j: u32, k: u32, out: &mut [u32]) -> Written
 }
 
 // The rows of either.
-pub fn or(index: &[u32], j: u32, k: u32, out: &mut [u32]) -> Written
+pub fn or(index: &[u32], j: u32, k: u32, out: &mut [u32]) -> Result<usize, Refusal>
     requires { IndexFacts index.now }
     ensures { Wrote (meaning.ask_logical index.now union j k (length out.old))
         result out.old out.new }
@@ -68,7 +57,7 @@ pub fn or(index: &[u32], j: u32, k: u32, out: &mut [u32]) -> Written
 }
 
 // The rows of just one of the two.
-pub fn xor(index: &[u32], j: u32, k: u32, out: &mut [u32]) -> Written
+pub fn xor(index: &[u32], j: u32, k: u32, out: &mut [u32]) -> Result<usize, Refusal>
     requires { IndexFacts index.now }
     ensures { Wrote
         (meaning.ask_logical index.now symmetric_difference j k (length out.old))
@@ -79,7 +68,7 @@ pub fn xor(index: &[u32], j: u32, k: u32, out: &mut [u32]) -> Written
 }
 
 // The rows of j that k has not: k is named twice, so that only a row of j alone has the number 1.
-pub fn and_not(index: &[u32], j: u32, k: u32, out: &mut [u32]) -> Written
+pub fn and_not(index: &[u32], j: u32, k: u32, out: &mut [u32]) -> Result<usize, Refusal>
     requires { IndexFacts index.now }
     ensures { Wrote (meaning.ask_logical index.now difference j k (length out.old))
         result out.old out.new }
@@ -89,7 +78,7 @@ pub fn and_not(index: &[u32], j: u32, k: u32, out: &mut [u32]) -> Written
 }
 
 // The rows that k has not.
-pub fn not(index: &[u32], k: u32, out: &mut [u32]) -> Written
+pub fn not(index: &[u32], k: u32, out: &mut [u32]) -> Result<usize, Refusal>
     requires { IndexFacts index.now }
     ensures { Wrote (meaning.ask_not index.now k (length out.old))
         result out.old out.new }

@@ -6,66 +6,50 @@ ghost use Rattle.std.specs.Prelude.{length};
 ghost use Rattle.meaning.specs.Answer as meaning;
 ghost use Rattle.answers.specs.Told.{Wrote};
 
-use answers::answer::Written;
-use answers::refusal::Checked;
+use answers::refusal::Refusal;
 use on_bitmaps::check;
 
 // The rows that both have.
-pub fn and(index: &[u32], j: u32, k: u32, out: &mut [u32]) -> Written
+pub fn and(index: &[u32], j: u32, k: u32, out: &mut [u32]) -> Result<usize, Refusal>
     ensures { Wrote (meaning.and index.now j k (length out.old))
         result out.old out.new }
 {
-    let checked = check(index);
-    match checked {
-        Checked::Refused(refusal) => Written::Refused(refusal),
-        Checked::Sound => logical::and(index, j, k, out),
-    }
+    check(index)?;
+    logical::and(index, j, k, out)
 }
 
 // The rows that one or both have.
-pub fn or(index: &[u32], j: u32, k: u32, out: &mut [u32]) -> Written
+pub fn or(index: &[u32], j: u32, k: u32, out: &mut [u32]) -> Result<usize, Refusal>
     ensures { Wrote (meaning.or index.now j k (length out.old))
         result out.old out.new }
 {
-    let checked = check(index);
-    match checked {
-        Checked::Refused(refusal) => Written::Refused(refusal),
-        Checked::Sound => logical::or(index, j, k, out),
-    }
+    check(index)?;
+    logical::or(index, j, k, out)
 }
 
 // The rows that just one of the two has.
-pub fn xor(index: &[u32], j: u32, k: u32, out: &mut [u32]) -> Written
+pub fn xor(index: &[u32], j: u32, k: u32, out: &mut [u32]) -> Result<usize, Refusal>
     ensures { Wrote (meaning.xor index.now j k (length out.old))
         result out.old out.new }
 {
-    let checked = check(index);
-    match checked {
-        Checked::Refused(refusal) => Written::Refused(refusal),
-        Checked::Sound => logical::xor(index, j, k, out),
-    }
+    check(index)?;
+    logical::xor(index, j, k, out)
 }
 
 // The rows that j has and k has not.
-pub fn and_not(index: &[u32], j: u32, k: u32, out: &mut [u32]) -> Written
+pub fn and_not(index: &[u32], j: u32, k: u32, out: &mut [u32]) -> Result<usize, Refusal>
     ensures { Wrote (meaning.and_not index.now j k (length out.old))
         result out.old out.new }
 {
-    let checked = check(index);
-    match checked {
-        Checked::Refused(refusal) => Written::Refused(refusal),
-        Checked::Sound => logical::and_not(index, j, k, out),
-    }
+    check(index)?;
+    logical::and_not(index, j, k, out)
 }
 
 // The rows that bitmap k has not.
-pub fn not(index: &[u32], k: u32, out: &mut [u32]) -> Written
+pub fn not(index: &[u32], k: u32, out: &mut [u32]) -> Result<usize, Refusal>
     ensures { Wrote (meaning.not_of index.now k (length out.old))
         result out.old out.new }
 {
-    let checked = check(index);
-    match checked {
-        Checked::Refused(refusal) => Written::Refused(refusal),
-        Checked::Sound => logical::not(index, k, out),
-    }
+    check(index)?;
+    logical::not(index, k, out)
 }
