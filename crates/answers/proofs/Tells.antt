@@ -10,13 +10,14 @@ use lib.Seq.{take_at}
 use Rattle.meaning.specs.Refusal.{Outcome, Verdict, refused, answer, ◌then◌}
 use Rattle.meaning.specs.Format.{canonical}
 use Rattle.meaning.specs.declared.Format.{Format}
-use Rattle.meaning.specs.Answer.{fits, buffer_after, words_reported, write}
+use Rattle.meaning.specs.Answer.{fits, buffer_after, words_reported, stretches_reported, write}
 use Rattle.laws.proofs.Outcomes.{fits-yes, fits-no, then-sound}
 use Rattle.std.specs.Prelude.{Result, Ok, Err}
 use Rattle.std.specs.Result.{IsErrAnd}
 use Rattle.answers.specs.declared.refusal.Refusal.{Refusal}
 use Rattle.answers.specs.declared.refusal.Fault.TheVariants.{NoRoom}
-use Rattle.answers.specs.Told.{refused_by, refusal, outcome_of, written_of, words_of, Wrote}
+use Rattle.answers.specs.declared.answer.Report.{Report}
+use Rattle.answers.specs.Told.{refused_by, refusal, outcome_of, written_of, words_of, Wrote, answered_of, words_in, stretches_in, Reported}
 use Rattle.answers.proofs.Checks.{sound-is, refuses}
 
 -- ---- a buffer
@@ -68,3 +69,11 @@ pub wrote-stopped : (k : Result (Unit {0}) Refusal) (v : Verdict) (o : Outcome (
     → outcome_of k ≡ v → k ≡ Err x → IsErrAnd r (λ y. y ≡ x) → Wrote (v then o) r out out
 wrote-stopped k v o (Ok n) x out e h g = elim g [ ]
 wrote-stopped k v o (Err y) x out e h g = wrote-refused out y (v then o) (ap refused_by g ∙ refuses k v e o x h)
+
+-- the same of a call over a list
+pub reported-stopped : (index list : List ℕ) (k : Result (Unit {0}) Refusal) (v : Verdict) (o : Outcome (List ℕ)) (r : Result Report Refusal) (x : Refusal) (out : List ℕ)
+    → outcome_of k ≡ v → k ≡ Err x → IsErrAnd r (λ y. y ≡ x) → Reported index list (v then o) r out out
+unfolding answered_of words_in stretches_in buffer_after words_reported stretches_reported
+reported-stopped index list k v o (Ok a) x out e h g = elim g [ ]
+reported-stopped index list k v o (Err y) x out e h g =
+    rw (← (ap refused_by g ∙ refuses k v e o x h)) (record { told = refl; words = refl; stretches = refl; left = refl })

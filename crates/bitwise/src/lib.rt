@@ -12,7 +12,6 @@ ghost use Rattle.replies.specs.Exported.{Numbers};
 use answers::answer::Number;
 use answers::refusal::Checked;
 use meaning::Format;
-use replies::reply;
 pub use replies::reply::ZvNumber;
 
 pub mod count;
@@ -30,5 +29,5 @@ pub fn body_count(body: &[u32], rows: u32) -> Result<u32, Refusal>
 pub extern "C" fn zv_body_count_bitwise(body: &[u32], rows: u32) -> ZvNumber
     ensures { Numbers (meaning.body_count Ewah rows body.now) result }
 {
-    reply::number(body_count(body, rows))
+    ZvNumber::from(body_count(body, rows))
 }

@@ -27,7 +27,6 @@ use Rattle.laws.proofs.NamedBitmaps.{column-length, column-named}
 use Rattle.laws.proofs.ColumnsHold.{pair-slices}
 use Rattle.laws.proofs.Outcomes.{refuse-answer}
 use Rattle.answers.specs.declared.refusal.Refusal.{Refusal}
-use Rattle.answers.specs.declared.answer.Written.TheVariants as written
 use Rattle.answers.specs.Told.{refused_by, refusal, Wrote}
 use Rattle.answers.proofs.Tells.{wrote-refused, wrote_none, wrote-words}
 use Rattle.pairs.specs.Passes.{Columns}
@@ -170,22 +169,22 @@ module _ (op : Pairing) (index first second : List ℕ) where
     w' : PairWritten op index first second n old out need
     w' = subst (λ (k : ℕ). PairWritten op index first second k old out need) e w
 
-    pub wrote-no-room : index_room (length old) < need → (r : Refusal) → r ≡ refusal 9 need → Wrote (write_pair index op first second (length old)) (written.Refused r) old out
+    pub wrote-no-room : index_room (length old) < need → (r : Refusal) → r ≡ refusal 9 need → Wrote (write_pair index op first second (length old)) (Err r) old out
     unfolding write_pair write_index
     wrote-no-room h r k = rw (k, w'.lacks h) (wrote_none old (pair_index op index first second n) need w'.need-is h)
 
-    pub wrote-pair : need ≤ index_room (length old) → Wrote (write_pair index op first second (length old)) (written.Words need) old out
+    pub wrote-pair : need ≤ index_room (length old) → Wrote (write_pair index op first second (length old)) (Ok need) old out
     unfolding write_pair write_index
     wrote-pair h = wrote-words old (pair_index op index first second n) need w'.need-is out h (w'.fits h ∙ ap (λ (k : ℕ). pair_index op index first second n ++ drop k old) w'.need-is)
 
   module _ (out : List ℕ) where
     pub pair-bad-first : bad_column index most_column first ≡ true → (r : Refusal) → r ≡ refusal 8 0
-        → Wrote (ask_pair index op first second (length out)) (written.Refused r) out out
+        → Wrote (ask_pair index op first second (length out)) (Err r) out out
     unfolding ask_pair refuse_if
     pair-bad-first h r e = wrote-refused out r _ (ap refused_by e ∙ rw h)
 
     pub pair-bad-second : bad_column index most_column first ≡ false → bad_column index most_column second ≡ true → (r : Refusal) → r ≡ refusal 8 0
-        → Wrote (ask_pair index op first second (length out)) (written.Refused r) out out
+        → Wrote (ask_pair index op first second (length out)) (Err r) out out
     unfolding ask_pair refuse_if
     pair-bad-second h g r e = wrote-refused out r _ (ap refused_by e ∙ rw (h, g))
 
@@ -244,12 +243,12 @@ module _ (index list : List ℕ) (k : ℕ) where
 
     module _ (out : List ℕ) (need : ℕ) (w : RankWritten op index list k old out need) where
       pub rank-no-room : length old < need → (r : Refusal) → r ≡ refusal 9 need
-          → Wrote (write (format_of index) (row_count index) (ranked_rows index op list k) (length old)) (written.Refused r) old out
+          → Wrote (write (format_of index) (row_count index) (ranked_rows index op list k) (length old)) (Err r) old out
       unfolding write
       rank-no-room h r e = rw (e, w.lacks h) (wrote_none old (ranked_body op index list k) need w.need-is h)
 
       pub rank-words : need ≤ length old
-          → Wrote (write (format_of index) (row_count index) (ranked_rows index op list k) (length old)) (written.Words need) old out
+          → Wrote (write (format_of index) (row_count index) (ranked_rows index op list k) (length old)) (Ok need) old out
       unfolding write
       rank-words h =
           wrote-words old (ranked_body op index list k) need w.need-is out h

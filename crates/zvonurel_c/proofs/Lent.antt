@@ -10,9 +10,9 @@ use Rattle.meaning.specs.Answer.{bitmap, bitmap_refusal}
 use Rattle.laws.specs.Laws.{HeadFacts}
 use Rattle.laws.proofs.BitmapPart.{part-laws}
 use Rattle.laws.proofs.Outcomes.{then-sound}
-use Rattle.answers.specs.declared.refusal.Checked.{Checked}
-use Rattle.answers.specs.declared.refusal.Checked.TheVariants as checked
-use Rattle.answers.specs.Told.{verdict_of}
+use Rattle.std.specs.Prelude.{Result, Ok, Err}
+use Rattle.answers.specs.declared.refusal.Refusal.{Refusal}
+use Rattle.answers.specs.Told.{outcome_of}
 use Rattle.answers.proofs.Checks.{sound-is}
 use Rattle.replies.specs.declared.reply.ZvPart.{ZvPart}
 use Rattle.replies.specs.Exported.{number_in, bitmap_in, word_in, if_answered, part_reply, told, Lends}
@@ -21,7 +21,7 @@ use Rattle.laws.proofs.Numbered.{number_of, bitmap-refusal}
 use Rattle.replies.proofs.Codes.{told-refused}
 
 -- what the two places of the contents are read under
-pub there : (c : Checked) (index : List ℕ) (k : ℕ) → verdict_of c ≡ bitmap_refusal index k → c ≡ checked.Sound → HeadFacts index × (k < bitmap_count index)
+pub there : (c : Result (Unit {0}) Refusal) (index : List ℕ) (k : ℕ) → outcome_of c ≡ bitmap_refusal index k → c ≡ Ok tt → HeadFacts index × (k < bitmap_count index)
 there c index k e h = let f = part-laws.known index k (sound-is c _ e h) in (f.facts.head, f.below)
 
 module _ (index : List ℕ) (k : ℕ) where

@@ -2,8 +2,8 @@
 use mathlib.Core.Path.{◌≡◌}
 use Rattle.meaning.specs.Refusal.{sound}
 use Rattle.meaning.specs.Answer.{check_body, ask_row, body_row}
-use Rattle.answers.specs.Told.{flag_of}
-use Rattle.answers.proofs.Checks.{sound-is, refuses, answers}
+use Rattle.answers.specs.Told.{outcome_of}
+use Rattle.answers.proofs.Checks.{sound-is, stopped, answers}
 use Rattle.on_bodies.proofs.Alone.{few-rows, facts}
 use Rattle.on_bodies.proofs.body_row.Lts
 use Rattle.on_bodies.proofs.body_row.Reads
@@ -16,7 +16,7 @@ In-Sound = Lts.Past-After-enum_told Tie.the-claims Reads.Pre Reads.Post Tie.hand
 
 -- where the body was found sound
 is-sound : (c : In-Sound) → check_body c.args.format c.args.rows c.args.body.now ≡ sound
-is-sound c = let k = c.check_body-checked in sound-is k.result _ k.ensures c.in-Sound.is
+is-sound c = let k = c.check_body in sound-is k.result _ k.ensures c.in_ok-check_body.was
 
 pub row-requires : goal.row-requires
 row-requires c =
@@ -25,14 +25,14 @@ row-requires c =
       sound_facts = facts _ _ _ s;
     }
 
-pub returns-in-Refused : goal.returns-in-Refused
-unfolding flag_of body_row
-returns-in-Refused c =
+pub returns-in_err-check_body : goal.returns-in_err-check_body
+unfolding outcome_of body_row
+returns-in_err-check_body c =
     let a = c.args in
-    refuses c.check_body-checked.result (check_body a.format a.rows a.body.now) c.check_body-checked.ensures (ask_row a.format a.rows a.body.now a.row) _ c.in-Refused.is
+    stopped c.check_body.result (check_body a.format a.rows a.body.now) c.check_body.ensures (ask_row a.format a.rows a.body.now a.row) c.from_residual.result _ c.in_err-check_body.was c.from_residual.ensures.1
 
-pub returns-in-Sound : goal.returns-in-Sound
+pub returns : goal.returns
 unfolding body_row
-returns-in-Sound c =
+returns c =
     let a = c.args in
-    answers c.check_body-checked.result (check_body a.format a.rows a.body.now) c.check_body-checked.ensures (ask_row a.format a.rows a.body.now a.row) (flag_of c.row.result) c.in-Sound.is c.row.ensures
+    answers c.check_body.result (check_body a.format a.rows a.body.now) c.check_body.ensures (ask_row a.format a.rows a.body.now a.row) (outcome_of c.row.result) c.in_ok-check_body.was c.row.ensures

@@ -5,18 +5,18 @@ use Rattle.zvonurel_c.proofs.zv_bitmap.Goals as goal
 
 pub start-requires : goal.start-requires
 start-requires c =
-    let both = there c.bitmap_refusal-checked.result c.args.index.now c.args.k c.bitmap_refusal-checked.ensures c.in-Sound.is in record { head_facts = both.0; k_bound = both.1 }
+    let both = there c.bitmap_refusal.result c.args.index.now c.args.k c.bitmap_refusal.ensures c.in_ok-bitmap_refusal.was in record { head_facts = both.0; k_bound = both.1 }
 
 pub words-requires : goal.words-requires
 words-requires c =
-    let both = there c.bitmap_refusal-checked.result c.args.index.now c.args.k c.bitmap_refusal-checked.ensures c.in-Sound.is in record { head_facts = both.0; k_bound = both.1 }
+    let both = there c.bitmap_refusal.result c.args.index.now c.args.k c.bitmap_refusal.ensures c.in_ok-bitmap_refusal.was in record { head_facts = both.0; k_bound = both.1 }
 
-pub returns-in-Refused : goal.returns-in-Refused
-returns-in-Refused c =
+pub returns-in_err-bitmap_refusal : goal.returns-in_err-bitmap_refusal
+returns-in_err-bitmap_refusal c =
     let a = c.args in
-    lends_none a.index.now a.k _ _ _ c.no_part.result (refused-is c.bitmap_refusal-checked.result _ c.bitmap_refusal-checked.ensures _ c.in-Refused.is) c.no_part.ensures
+    lends_none a.index.now a.k _ _ _ c.no_part.result (refused-is c.bitmap_refusal.result _ c.bitmap_refusal.ensures _ c.in_err-bitmap_refusal.was) c.no_part.ensures
 
-pub returns-in-Sound : goal.returns-in-Sound
-returns-in-Sound c =
+pub returns : goal.returns
+returns c =
     let a = c.args in
-    lends_part a.index.now a.k c.start.result c.words.result c.part.result (sound-is c.bitmap_refusal-checked.result _ c.bitmap_refusal-checked.ensures c.in-Sound.is) c.start.ensures.0 c.words.ensures.0 c.part.ensures
+    lends_part a.index.now a.k c.start.result c.words.result c.part.result (sound-is c.bitmap_refusal.result _ c.bitmap_refusal.ensures c.in_ok-bitmap_refusal.was) c.start.ensures.0 c.words.ensures.0 c.part.ensures
