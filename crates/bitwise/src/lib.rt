@@ -9,8 +9,7 @@ ghost use Rattle.meaning.specs.Answer as meaning;
 ghost use Rattle.answers.specs.Told.{outcome_of};
 ghost use Rattle.replies.specs.Exported.{Numbers};
 
-use answers::answer::Number;
-use answers::refusal::Checked;
+use answers::refusal::Refusal;
 use meaning::Format;
 pub use replies::reply::ZvNumber;
 

@@ -7,20 +7,21 @@
 // how an outcome is told in numbers.
 #![tactic(auto)]
 
-ghost use Rattle.std.specs.Prelude.{length};
+ghost use Rattle.std.specs.Prelude.{◌≡◌, length};
 ghost use Rattle.meaning.specs.declared.Format.TheVariants.{Ewah};
 ghost use Rattle.meaning.specs.Answer as meaning;
 ghost use Rattle.column_meaning.specs.Columns as columns;
 ghost use Rattle.meaning.specs.declared.Ranking.TheVariants.{Largest, Smallest};
 ghost use Rattle.laws.specs.Demands.{Asked, ThresholdDemand};
 ghost use Rattle.laws.specs.RankLaws.{RankAsked, RankDemand};
-ghost use Rattle.replies.specs.Exported.{Checks, Flags, Numbers, Values, SignedValues, Writes, Reports, Lends, Counts, written_told, answered_told};
+ghost use Rattle.replies.specs.Exported.{Checks, Flags, Numbers, Values, SignedValues, Writes, Reports, Lends, Counts, written_told, answered_told, part_code, part_reply};
 
+use replies::reply::Place;
 pub use replies::reply::{
     ZvAnswered, ZvChecked, ZvFlag, ZvHistogram, ZvNumber, ZvPart, ZvSignedValue, ZvValue, ZvWritten,
 };
 pub use zvonurel::AppendState;
-use zvonurel::{Checked, Format};
+use zvonurel::{Format, Refusal};
 
 mod alone;
 mod rewriting;
@@ -93,11 +94,18 @@ pub extern "C" fn zv_bitmap_refusal(index: &[u32], k: u32) -> ZvChecked
 pub extern "C" fn zv_bitmap(index: &[u32], k: u32) -> ZvPart
     ensures { Lends index.now k result }
 {
-    let checked = zvonurel::bitmap_refusal(index, k);
-    match checked {
-        Checked::Refused(refusal) => reply::no_part(refusal),
-        Checked::Sound => reply::part(contents::start(index, k), contents::words(index, k)),
-    }
+    ZvPart::from(place(index, k))
+}
+
+// The same, before it is told in numbers.
+fn place(index: &[u32], k: u32) -> Result<Place, Refusal>
+    ensures { part_reply result ≡ part_code index.now k }
+{
+    zvonurel::bitmap_refusal(index, k)?;
+    Ok(Place {
+        start: contents::start(index, k),
+        length: contents::words(index, k),
+    })
 }
 
 #[unsafe(no_mangle)]
