@@ -20,6 +20,7 @@ use Rattle.laws.proofs.Demanded.{named-is}
 use Rattle.answers.specs.declared.refusal.Refusal.{Refusal}
 use Rattle.std.specs.Prelude.{Result, Ok, Err}
 use Rattle.answers.specs.declared.answer.Report.{Report}
+use Rattle.answers.specs.declared.refusal.Fault.TheVariants.{BadArgument}
 use Rattle.answers.specs.Told.{refused_by, refusal, Reported, outcome_of}
 use Rattle.merge.specs.declared.evaluate.Operation.TheVariants as operation
 use Rattle.merge.specs.Operations.{chosen}
@@ -32,7 +33,7 @@ module _ (index list out : List ℕ) (rest : Outcome (List ℕ)) (a b c : Bool) 
   abbrev asked : Outcome (List ℕ)
   asked = refuse_if (a || b || c) 8 0 0 rest
 
-  module _ (r : Refusal) (e : r ≡ refusal 8 0) where
+  module _ (r : Refusal) (e : r ≡ refusal BadArgument 0) where
     refused-asked : a || b || c ≡ true → Reported index list asked (Err r) out out
     unfolding refuse_if
     refused-asked h = reported-refused index list out r asked (ap refused_by e ∙ rw h refl)
@@ -66,15 +67,13 @@ module _ (index list : List ℕ) (b : Bool) where
   abbrev counted : Outcome (List ℕ)
   counted = refuse_if b 8 0 0 (answer (histogram_of (row_count index) (named index list)))
 
-  pub counted-refused : b ≡ true → (r : Refusal) → r ≡ refusal 8 0 → (g : Result (List ℕ) Refusal) → Counted (refused_by r) g → Counted counted g
-  unfolding refuse_if
-  counted-refused h r e g w = rw h (rw e at w)
+  pub counted-refused : b ≡ true → (r : Refusal) → r ≡ refusal BadArgument 0 → outcome_of (Err r) ≡ counted
+  unfolding outcome_of refuse_if
+  counted-refused h r e = rw (h, e) refl
 
-  pub counted-sound : b ≡ false → (counts : List ℕ) → counts ≡ histogram_of (row_count index) (map (rows_of (format_of index)) (bodies_of index list)) → Counted counted (record { checked = Ok tt; counts = counts })
-  unfolding refuse_if outcome_of histogram_reported named
-  counted-sound h counts e =
-      let is : counts ≡ histogram_of (row_count index) (map (rows_at index) list) = e ∙ ap (histogram_of (row_count index)) (sym (named-is index list)) in
-      rw h (record { told = ap answer is; counts-are = is })
+  pub counted-sound : b ≡ false → (counts : List ℕ) → counts ≡ histogram_of (row_count index) (map (rows_of (format_of index)) (bodies_of index list)) → outcome_of (Ok counts) ≡ counted
+  unfolding outcome_of refuse_if named
+  counted-sound h counts e = rw h (ap answer (e ∙ ap (histogram_of (row_count index)) (sym (named-is index list))))
 
 -- ---- a table's size, and its entries, one by one
 

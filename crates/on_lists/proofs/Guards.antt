@@ -18,10 +18,7 @@ use Rattle.answers.proofs.Checks.{sound-is}
 pub reported-then : (index list : List ℕ) (k : Result (Unit {0}) Refusal) (v : Verdict) (o : Outcome (List ℕ)) (r : Result Report Refusal) (out out' : List ℕ) → outcome_of k ≡ v → k ≡ Ok tt → Reported index list o r out out' → Reported index list (v then o) r out out'
 reported-then index list k v o r out out' e h w = rw (then-sound v o (sound-is k v e h)) w
 
-pub counted-then : (k : Result (Unit {0}) Refusal) (v : Verdict) (o : Outcome (List ℕ)) (r : Result (List ℕ) Refusal) → outcome_of k ≡ v → k ≡ Ok tt → Counted o r → Counted (v then o) r
-counted-then k v o r e h w = rw (then-sound v o (sound-is k v e h)) w
-
--- what is reported of a threshold question meets demand 3
+-- what is reported of a threshold question meets its demand
 pub demand-met : (index list : List ℕ) (t : ℕ) (r : Result Report Refusal) (out out' : List ℕ) → Reported index list (threshold index list t (length out)) r out out'
     → Asked index list t → ThresholdDemand index list t out (answered_of r out') out'
 demand-met index list t r out out' w a = subst₂ (λ (o : Outcome (List ℕ)) (b : List ℕ). ThresholdDemand index list t out o b) (sym w.told) (sym w.left) (threshold-demand index list t out a)

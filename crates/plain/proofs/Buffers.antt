@@ -12,6 +12,7 @@ use Rattle.meaning.specs.declared.Format.{Format}
 use Rattle.meaning.specs.Answer.{ask_plain, write}
 use Rattle.laws.proofs.RowWords.{from-length}
 use Rattle.answers.specs.declared.refusal.Refusal.{Refusal}
+use Rattle.answers.specs.declared.refusal.Fault.TheVariants.{NoRoom}
 use Rattle.answers.specs.Told.{refusal, Wrote}
 use Rattle.answers.proofs.Tells.{wrote_none, wrote-words, write-words}
 
@@ -20,7 +21,7 @@ module _ (R : ℕ) (p : ℕ → Bool) (out : List ℕ) (n : ℕ) (is : n ≡ seg
   long : segment_count 32 R ≡ length (from_rows 32 R p)
   long = sym (from-length 32 (omega arith) R p)
 
-  pub plain-none : (r : Refusal) → r ≡ refusal 9 n → length out < n
+  pub plain-none : (r : Refusal) → r ≡ refusal NoRoom n → length out < n
       → Wrote (ask_plain R p (length out)) (Err r) out out
   unfolding ask_plain
   plain-none r e h = rw e (wrote_none out (from_rows 32 R p) n (is ∙ long) h)
