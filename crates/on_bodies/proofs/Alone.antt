@@ -17,8 +17,9 @@ use Rattle.laws.proofs.Outcomes.{refuse-answer, then-answer}
 use Rattle.laws.proofs.Lawful.{body-laws}
 use Rattle.answers.specs.declared.refusal.Refusal.{Refusal}
 use Rattle.std.specs.Prelude.{Result, Ok, Err}
+use Rattle.std.specs.Result.{IsErrAnd}
 use Rattle.answers.specs.Told.{outcome_of}
-use Rattle.answers.proofs.Checks.{sound-is, refuses, answers}
+use Rattle.answers.proofs.Checks.{sound-is, stopped, answers}
 
 pub rows-over : (F : Format) (R : ℕ) (b : List ℕ) → most_rows < R → refused 3 0 1 ≡ check_body F R b
 unfolding check_body rows_fault ◌then◌ refuse_if
@@ -42,9 +43,9 @@ facts F R b e = let p = then-answer (rows_fault R) (body_fault F 0 0 R b) tt e i
 -- ---- how many rows are set, behind the check k
 
 module _ (k : Result (Unit {0}) Refusal) (F : Format) (R : ℕ) (b : List ℕ) (e : outcome_of k ≡ check_body F R b) where
-  pub count-refused : (r : Refusal) → k ≡ Err r → outcome_of (Err r) ≡ body_count F R b
-  unfolding outcome_of body_count
-  count-refused = refuses k (check_body F R b) e (ask_count R (rows_of F b))
+  pub count-refused : (r : Result ℕ Refusal) (x : Refusal) → k ≡ Err x → IsErrAnd r (λ y. y ≡ x) → outcome_of r ≡ body_count F R b
+  unfolding body_count
+  count-refused = stopped k (check_body F R b) e (ask_count R (rows_of F b))
 
   module _ (h : k ≡ Ok tt) where
     no-fault : check_body F R b ≡ sound

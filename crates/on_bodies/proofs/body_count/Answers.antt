@@ -7,7 +7,7 @@ pub count-requires : goal.count-requires
 count-requires c = countable _ _ _ _ c.check_body.ensures c.in_ok-check_body.was
 
 pub returns-in_err-check_body : goal.returns-in_err-check_body
-returns-in_err-check_body c = count-refused _ _ _ _ c.check_body.ensures _ c.in_err-check_body.was
+returns-in_err-check_body c = count-refused _ _ _ _ c.check_body.ensures c.from_residual.result _ c.in_err-check_body.was c.from_residual.ensures.1
 
 pub returns : goal.returns
 returns c =
