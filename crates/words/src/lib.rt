@@ -4,3 +4,4 @@
 pub mod bits;
 pub mod frame;
 pub mod rows;
+pub mod vectors;
