@@ -27,7 +27,7 @@ push_segment-w-requires c =
     let x = c.loop-x in
     let all = kinds 32 c.args.rows c.args.plain.now in
     let e = word-inside c.requires.plain_rows x.x-index c.loop-x-test.true in
-    (up_to all x.x-index, x.invariant.1.drawn.tracks, rw (← e) (omega (arith, up_to-within all (x.x-index + 1), c.requires.plain_in_bounds, x.invariant.0)))
+    (up_to all x.x-index, x.invariant.1.drawn.tracks, omega (arith, ap (λ (d : Draft). length (body d)) e, up_to-within all (x.x-index + 1), c.requires.plain_in_bounds, x.invariant.0))
 
 pub loop-x-preserved : goal.loop-x-preserved
 loop-x-preserved c =
@@ -41,7 +41,7 @@ push_segment-requires c =
     let x = c.loop-x in
     let some = false-eqb _ 0 (sym c.if-is_empty.false ∙ c.is_empty.ensures) in
     let done = word-last c.requires.plain_rows x.x-index some x.auto.x-index-end c.loop-x-test.false c.last_word-end.result c.last_word-end.ensures in
-    (up_to (kinds 32 c.args.rows c.args.plain.now) x.x-index, x.invariant.1.drawn.tracks, rw done (omega (arith, c.requires.plain_in_bounds, x.invariant.0)))
+    (up_to (kinds 32 c.args.rows c.args.plain.now) x.x-index, x.invariant.1.drawn.tracks, omega (arith, ap length done, c.requires.plain_in_bounds, x.invariant.0))
 
 pub returns : goal.returns
 returns c =
