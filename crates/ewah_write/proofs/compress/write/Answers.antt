@@ -6,6 +6,7 @@ use native.Mathlib.Omega.{arith}
 use borrow.Author.Tests.{true-eqb, false-eqb}
 use lib.ListN.{length, get_or}
 use Rattle.meaning.specs.Segment.{kind, kinds}
+use Rattle.meaning.specs.Canonical.{Draft, body}
 use Rattle.laws.proofs.Prefixes.{up_to, up_to-within}
 use Rattle.ewah_write.proofs.Growing.{used-is}
 use Rattle.ewah_write.proofs.Pushing.{written_none, written-more, written_all}

@@ -42,8 +42,8 @@ loop-left-init c =
 pub at_once-k-requires : goal.at_once-k-requires
 at_once-k-requires c = omega (arith, c.loop-left.invariant.1.2)
 
-pub emit_run-r-requires : goal.emit_run-r-requires
-emit_run-r-requires c =
+pub emit_run-v-requires : goal.emit_run-v-requires
+emit_run-v-requires c =
     let h = c.loop-left in
     let k = c.at_once-k.ensures in record {
       growing = grow-fewer _ h.left k.0 h.invariant.1;
@@ -59,7 +59,7 @@ loop-left-smaller c =
 pub loop-left-preserved : goal.loop-left-preserved
 loop-left-preserved c =
     let h = c.loop-left in
-    let p = c.emit_run-r in
+    let p = c.emit_run-v in
     let em = p.ensures _ (whole c.before.before.before.before.before.before.before) in
     let k = c.at_once-k.result in
     let le = c.at_once-k.ensures.0 in
