@@ -62,16 +62,16 @@ pub rows_in-k-requires : goal.rows_in-k-requires
 rows_in-k-requires c =
     piece-low Wah (R c.before.before) (b c.before.before) c.requires.0 c.requires.1 (at c.before) c.loop-left-test.true
 
-pub put-t-requires : goal.put-t-requires
-put-t-requires c =
+pub put-s-requires : goal.put-s-requires
+put-s-requires c =
     let k = c.rows_in-k.ensures in (
       c.loop-left.invariant.2,
       rw (← k) at (piece-gives Wah (R c.before.before.before.before) (b c.before.before.before.before) c.requires.0 c.requires.1 (at c.before.before.before) c.loop-left-test.true),
       omega (arith, k, room c.before.before.before.before),
     )
 
-pub advance-d-requires : goal.advance-d-requires
-advance-d-requires c =
+pub advance-c-requires : goal.advance-c-requires
+advance-c-requires c =
     record {
       in_order = (at c.before.before.before.before.before.before.before).in_order;
       le_n = omega (arith, some c.before.before.before.before.before.before.before, c.left.ensures);
@@ -84,14 +84,14 @@ loop-left-smaller c =
 
 pub loop-left-preserved : goal.loop-left-preserved
 loop-left-preserved c =
-    let p = c.put-t.ensures in
+    let p = c.put-s.ensures in
     let k = c.rows_in-k.ensures in
     let c₀ = c.loop-left.c in
-    let stands = subst (λ (n : ℕ). Stands Wah (b c.before.before.before.before.before.before.before.before.before) c.advance-d.result (advanced n (pieces_from Wah (b c.before.before.before.before.before.before.before.before.before) c₀)))
-    c.left.ensures c.advance-d.ensures in
+    let stands = subst (λ (n : ℕ). Stands Wah (b c.before.before.before.before.before.before.before.before.before) c.advance-c.result (advanced n (pieces_from Wah (b c.before.before.before.before.before.before.before.before.before) c₀)))
+    c.left.ensures c.advance-c.ensures in
     let o = behind Wah (R c.before.before.before.before.before.before.before.before.before) (b c.before.before.before.before.before.before.before.before.before) c.requires.0 c.requires.1 (at c.before.before.before.before.before.before.before.before) c.loop-left-test.true in
     let rows = piece-rows Wah (R c.before.before.before.before.before.before.before.before.before) (b c.before.before.before.before.before.before.before.before.before) c.requires.0 c.requires.1 (at c.before.before.before.before.before.before.before.before) c.loop-left-test.true in (
-      rw (← k) at (at_next Wah (R c.before.before.before.before.before.before.before.before.before) (b c.before.before.before.before.before.before.before.before.before) c.requires.0 c.requires.1 (at c.before.before.before.before.before.before.before.before) c.loop-left-test.true c.advance-d.result stands),
+      rw (← k) at (at_next Wah (R c.before.before.before.before.before.before.before.before.before) (b c.before.before.before.before.before.before.before.before.before) c.requires.0 c.requires.1 (at c.before.before.before.before.before.before.before.before) c.loop-left-test.true c.advance-c.result stands),
       omega (arith, p.rows, k, c.loop-left.invariant.1),
       p.ready,
       p.laid (rows_of Wah (b c.before.before.before.before.before.before.before.before.before)) c.args.out.now c.loop-left.invariant.3
