@@ -19,7 +19,7 @@ fn word_at(frame: Frame, plain: &[u32], i: u32, mask: u32) -> u32
     requires rows_of_mask { mask ≡ all_set (rows_in (width frame.format) frame.rows i) }
     ensures { kind (width frame.format) result
         ≡ kind (rows_in (width frame.format) frame.rows i)
-            (get_or (from_rows (width frame.format) frame.rows (has_row 32 plain.now)) i 0) }
+        (get_or (from_rows (width frame.format) frame.rows (has_row 32 plain.now)) i 0) }
 {
     rows::spelled(plain::segment_at(plain, i, frame.format), mask, frame.full)
 }

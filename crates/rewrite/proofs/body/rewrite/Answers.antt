@@ -96,21 +96,15 @@ module _ (c : After-rows_in-k) where
         next = λ j h. ap (q c.before.before) (omega (arith, o)) ∙ rows j (omega (arith, k-is));
       }
 
-pub put-o-requires : goal.put-o-requires
-put-o-requires c =
+pub put-o-requires-clause-takes : goal.put-o-requires-clause-takes
+put-o-requires-clause-takes c =
     let facts = c.requires.rows_le_most_rows in
-    let gives = piece-gives (F c.before.before.before.before) (R c.before.before.before.before) (b c.before.before.before.before) facts.0 facts.1 (at c.before.before.before) c.loop-left-test.true in record {
-      have_bound = (c.loop-left.invariant.2, rw (← k-is c.before.before) at gives);
-      takes = (R c.before.before.before.before, q c.before.before.before.before, c.args.out.now, R c.before.before.before.before - c.loop-left.left, coming c.before.before);
-    }
+    let gives = piece-gives (F c.before.before.before.before) (R c.before.before.before.before) (b c.before.before.before.before) facts.0 facts.1 (at c.before.before.before) c.loop-left-test.true in
+    (R c.before.before.before.before, q c.before.before.before.before, c.args.out.now, R c.before.before.before.before - c.loop-left.left, coming c.before.before)
 
-pub advance-c-requires : goal.advance-c-requires
-advance-c-requires c =
-    record {
-      in_order = (at c.before.before.before.before.before.before.before).in_order;
-      le_n = omega (arith, some c.before.before.before.before.before.before.before, c.left.ensures);
-      n_bound = omega (arith, c.left.ensures);
-    }
+pub advance-c-requires-clause-le_n : goal.advance-c-requires-clause-le_n
+advance-c-requires-clause-le_n c =
+    omega (arith, some c.before.before.before.before.before.before.before, c.left.ensures)
 
 pub loop-left-smaller : goal.loop-left-smaller
 loop-left-smaller c =
@@ -144,13 +138,6 @@ module _ (c : After-loop-left) where
       let all : R c.before - c.loop-left.left ≡ R c.before = omega (arith, c.loop-left-test.false) in
       subst (λ (n : ℕ). Packed a.to (R c.before) (q c.before) a.out.now a.store c.loop-left.out n c.loop-left.o) all
       c.loop-left.invariant.3
-
-pub finish-requires : goal.finish-requires
-finish-requires c =
-    record {
-      have_bound = c.loop-left.invariant.2;
-      by_index = (R c.before.before.before, q c.before.before.before, c.args.out.now, packed c.before.before);
-    }
 
 pub returns : goal.returns
 returns c =

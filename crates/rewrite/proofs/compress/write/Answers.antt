@@ -1,10 +1,8 @@
 -- `rewrite::compress::write` meets its contract: the segments passed are in the buffer. Assumes nothing.
-use Prim.Native.Nat.{ℕ, ◌+◌, ◌-◌}
 use mathlib.Core.Bool.{true}
 use mathlib.Core.Path.{refl}
 use native.Mathlib.Omega.{arith}
-use Rattle.meaning.specs.Segment.{has_row, all_set, rows_in}
-use Rattle.meaning.specs.Format.{width}
+use Rattle.meaning.specs.Segment.{has_row}
 use Rattle.body_write.proofs.Emitting.{emitted-stored}
 use Rattle.row_write.proofs.Sending.{sent-start, sent-room, sent-on, sent-words, sent-all}
 use Rattle.rewrite.proofs.Compressing.{count, next-of, mask-of}
@@ -29,11 +27,14 @@ loop-i-preserved c =
     let real = mask-of _ _ q c.of-frame.result c.of-frame.ensures i c.mask-mask.result (c.mask-mask.ensures (omega arith) (omega arith)) in
     sent-on c.loop-i.invariant _ _ push.new.out push.result next refl push.auto.out (emitted-stored refl (push.ensures _ real))
 
-pub returns : goal.returns
-returns c =
+pub returns-clause-value : goal.returns-clause-value
+returns-clause-value c =
     let all = count c.args.format c.args.rows (has_row 32 c.args.plain.now) c.of-frame.result c.of-frame.ensures in
     let words = sent-words c.loop-i.invariant (omega (arith, c.loop-i-test.false, all, c.loop-i.invariant.within)) in
-    record {
-      value = words;
-      out_after = rw words (sent-all c.loop-i.invariant (omega (arith, c.loop-i-test.false, all, c.loop-i.invariant.within)) refl);
-    }
+    words
+
+pub returns-clause-out_after : goal.returns-clause-out_after
+returns-clause-out_after c =
+    let all = count c.args.format c.args.rows (has_row 32 c.args.plain.now) c.of-frame.result c.of-frame.ensures in
+    let words = sent-words c.loop-i.invariant (omega (arith, c.loop-i-test.false, all, c.loop-i.invariant.within)) in
+    rw words (sent-all c.loop-i.invariant (omega (arith, c.loop-i-test.false, all, c.loop-i.invariant.within)) refl)
