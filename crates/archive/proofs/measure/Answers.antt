@@ -1,7 +1,6 @@
 -- `archive::measure` meets its contract: after k rounds the words are those before body k of the new index.
 -- Assumes nothing.
 use Prim.Native.Nat.{ℕ, ◌+◌, ◌*◌, ◌≤◌, ◌<◌}
-use mathlib.Core.Bool.{false≢true}
 use mathlib.Core.Path.{◌≡◌, refl, ◌∙◌}
 use mathlib.Core.List.{List}
 use Rattle.meaning.specs.Limits.{most_bitmaps, most_contents}
@@ -45,14 +44,6 @@ module _ (l : At-loop-k) where
 
 inside : (i : In-loop-k) → i.loop-k.k < bitmap_count (index i.before)
 inside i = omega (arith, i.loop-k-test.true, all i.before)
-
-pub put_body-need-requires : goal.put_body-need-requires
-put_body-need-requires c =
-    record {
-      index_facts = c.requires;
-      k_bound = inside c.before.before;
-      k_in_bounds = λ e. absurd (false≢true e);
-    }
 
 -- with the words of body k
 module _ (c : After-put_body-need) where

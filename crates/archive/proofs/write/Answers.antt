@@ -1,13 +1,12 @@
 -- `archive::write` meets its contract: behind the head each round adds a body and its entry, and after the last one the
 -- buffer has the whole index.
 -- Assumes nothing.
-use Prim.Native.Nat.{ℕ, ◌≤◌, ◌<◌}
-use mathlib.Core.Path.{◌≡◌, ap, ◌∙◌, subst}
+use Prim.Native.Nat.{ℕ, ◌≤◌}
+use mathlib.Core.Path.{◌≡◌, ◌∙◌, subst}
 use mathlib.Core.List.{List}
 use lib.ListN.{length, length-set}
 use Rattle.meaning.specs.Limits.{most_index_words}
 use Rattle.meaning.specs.Index.{bitmap_count}
-use Rattle.meaning.specs.NewIndex.{index_room}
 use Rattle.laws.specs.Laws.{IndexFacts}
 use Rattle.laws.proofs.NewIndexes.{room_within}
 use Rattle.archive.specs.Anew.{anew, Begun}
@@ -80,22 +79,6 @@ module _ (l : At-loop-k) where
       (begun-none (t l.before.before.before.before.before.before.before) (facts l.before.before.before.before.before.before.before) l.args.out.now (fits l.before.before.before.before.before.before.before).0 kind.result rows.result rounds
       (kind.ensures ∙ new-kind index to l.requires.index_facts (fits l.before.before.before.before.before.before.before).1) (rows.ensures ∙ new-rows index to l.requires.index_facts (fits l.before.before.before.before.before.before.before).1)
       (all ∙ count l.before.before.before.before.before.before.before))
-
-pub write_body-at-requires : goal.write_body-at-requires
-write_body-at-requires c =
-    let below : c.loop-k.k < bitmap_count c.args.index.now = omega (arith, c.loop-k-test.true, all c.before.before.before) in record {
-      index_facts = c.requires.index_facts;
-      k_bound = below;
-      at_value = (c.loop-k.invariant.0, omega (arith, c.requires.to_len_bound, ap index_room (begun c.before.before.before).long));
-    }
-
-pub loop-k-preserved : goal.loop-k-preserved
-loop-k-preserved c =
-    let r = c.write_body-at in
-    (r.ensures.0, λ old g. r.ensures.1 old (c.loop-k.invariant.1 old g))
-
-pub shape_of-out : goal.shape_of-out
-shape_of-out c = (begun c.before.before).long
 
 pub returns : goal.returns
 returns c =
