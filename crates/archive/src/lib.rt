@@ -43,10 +43,8 @@ fn measure(index: &[u32], to: Format, out: &mut [u32]) -> usize
 {
     let n = contents::bitmaps(index);
     let mut need = contents::entry_place(index, n);
-    let mut k: u32 = 0;
-    while k < n {
+    for k in 0..n {
         need += put_body(index, k, to, out, false);
-        k += 1;
     }
     need
 }
@@ -79,11 +77,8 @@ fn write(index: &[u32], to: Format, out: &mut [u32])
     out[1] = contents::rows(index);
     out[2] = n;
     let mut at = contents::entry_place(index, n);
-    let mut k: u32 = 0;
-    while k < n {
-        let end = write_body(index, k, to, out, at);
-        at = end;
-        k += 1;
+    for k in 0..n {
+        at = write_body(index, k, to, out, at);
     }
 }
 

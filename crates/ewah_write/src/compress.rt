@@ -24,20 +24,15 @@ pub fn measure(plain: &[u32], rows: u32) -> usize
     requires { PlainRows rows plain.now }
     ensures { result ≡ length (ewah_of (kinds 32 rows plain.now)) }
 {
-    if plain.len() == 0 {
+    if plain.is_empty() {
         return 0;
     }
-    let last = plain.len() - 1;
     let end = last_word(plain, rows);
     let mut w = writer::start();
-    let mut i: usize = 0;
-    while i < last {
-        let r = writer::grow_segment(w, plain[i]);
-        w = r;
-        i += 1;
+    for x in &plain[..plain.len() - 1] {
+        w = writer::grow_segment(w, *x);
     }
-    let done = writer::grow_segment(w, end);
-    done.used
+    writer::grow_segment(w, end).used
 }
 
 // The body from the front of `out`, in exactly the words that `measure` counts; words behind it keep their values.
@@ -48,18 +43,13 @@ pub fn write(plain: &[u32], rows: u32, out: &mut [u32]) -> usize
     ensures out_after { out.new
         ≡ ewah_of (kinds 32 rows plain.now) ++ drop result out.old }
 {
-    if plain.len() == 0 {
+    if plain.is_empty() {
         return 0;
     }
-    let last = plain.len() - 1;
     let end = last_word(plain, rows);
     let mut w = writer::start();
-    let mut i: usize = 0;
-    while i < last {
-        let r = writer::push_segment(out, w, plain[i]);
-        w = r;
-        i += 1;
+    for x in &plain[..plain.len() - 1] {
+        w = writer::push_segment(out, w, *x);
     }
-    let done = writer::push_segment(out, w, end);
-    done.used
+    writer::push_segment(out, w, end).used
 }

@@ -3,4 +3,5 @@
 #![tactic(auto)]
 
 pub mod compress;
+pub mod dirty;
 pub mod writer;

@@ -31,7 +31,7 @@ use Rattle.laws.proofs.Decoded.{flat-pieces, pieces-some, decoded-words}
 use Rattle.laws.proofs.Encoded.{encoded-decodes}
 use Rattle.ewah_write.specs.declared.writer.Writer.{Writer}
 use Rattle.ewah_write.specs.Drafts.{Tracks}
-use Rattle.resume.specs.Scan.{is_mixed}
+use Rattle.ewah_write.specs.Mixed.{is_mixed}
 use Rattle.resume.specs.Resume.{whole_of, PlaceOf, draft_of, Resumes, LastMarker, Walked}
 use Rattle.resume.proofs.Shortening.{drawn-resumes}
 

@@ -19,7 +19,8 @@ use Rattle.laws.specs.Demands.{Words}
 use Rattle.laws.proofs.Segments.{both, fits-clean, last-le}
 use Rattle.laws.proofs.Decoded.{value-marker, clean-marker, dirty-marker}
 use Rattle.laws.proofs.RowWords.{from-below, from_last}
-use Rattle.resume.specs.Scan.{follows_of, is_mixed, all_mixed}
+use Rattle.resume.specs.Scan.{follows_of}
+use Rattle.ewah_write.specs.Mixed.{is_mixed, all_mixed}
 
 -- ---- the walk, word by word
 
@@ -51,12 +52,12 @@ scan-marker v c d m v' c' d' ev ec ed = rw (ev, ec, ed)
 
 -- dirty words
 pub scan-mixed : (v c d : ℕ) (xs : List ℕ) → all_mixed xs ≡ true → foldl scan_step (at v c d (length xs)) xs ≡ at v c d 0
-unfolding scan_step all_mixed
+unfolding scan_step
 scan-mixed v c d [] e = refl
 scan-mixed v c d (x ∷ xs) e = let p = both (is_mixed x) (all_mixed xs) e in rw p.0 (scan-mixed v c d xs p.1)
 
 pub scan-clean : (v c d : ℕ) (xs : List ℕ) → all_mixed xs ≡ false → foldl scan_step (at v c d (length xs)) xs ≡ failed
-unfolding scan_step all_mixed
+unfolding scan_step
 scan-clean v c d [] e = absurd (true≢false e)
 scan-clean v c d (x ∷ xs) e = go (is_mixed x) e (scan-clean v c d xs)
   where
@@ -82,7 +83,6 @@ follow-dirty u k e v d d' f g =
 -- ---- the drafts of a writer
 
 mixed-more : (xs : List ℕ) (x : ℕ) → all_mixed xs ≡ true → is_mixed x ≡ true → all_mixed (xs ++ x ∷ []) ≡ true
-unfolding all_mixed
 mixed-more [] x e m = rw m
 mixed-more (y ∷ ys) x e m = let p = both (is_mixed y) (all_mixed ys) e in rw p.0 (mixed-more ys x p.1 m)
 
@@ -126,7 +126,7 @@ module _ (u : ℕ) where
   opened-fine : (b : List ℕ) (v c d : ℕ) (s : Segment) → scanned u b ≡ at v c d 0 → Seen s
       → ((z : ℕ) → s ≡ clean z → (eqb d 0 && eqb v z && ltb c most_clean) ≡ false)
       → ((x : ℕ) → s ≡ mixed x → d ≡ most_dirty) → Fine (opened b s)
-  unfolding opened follows_of all_mixed
+  unfolding opened follows_of
   opened-fine b v c d (clean z) q o h g = record {
     v₀ = v;
     c₀ = c;

@@ -12,7 +12,7 @@ use native.Mathlib.Numerals.{add-one}
 use native.Mathlib.Decide.{dec_le}
 use borrow.Author.Tests.{eq-eqb, ne_eqb, lt-ltb, le-ltb, le-leb, lt-leb}
 use Rattle.meaning.specs.Limits.{most_clean, most_dirty}
-use Rattle.resume.specs.Scan.{follows_of, is_mixed, all_mixed}
+use Rattle.resume.specs.Scan.{follows_of}
 
 -- marker (v', c', d') behind (v, c, d)
 module _ (v c d v' c' d' : ℕ) where
@@ -44,28 +44,3 @@ module _ (v c d v' c' d' : ℕ) where
         | yes l ↦ rw (le-leb most_clean c l, le-ltb c most_clean l)
         | no l ↦ (let m : c < most_clean = omega arith in rw (lt-leb most_clean c m, lt-ltb c most_clean m))
       ])
-
--- at word i the answer is that of the words from i on
-module _ (ws : List ℕ) (i : ℕ) (rest : all_mixed (drop i ws) ≡ all_mixed ws) where
-  next : i < length ws → all_mixed ws ≡ is_mixed (get_or ws i 0) && all_mixed (drop (i + 1) ws)
-  unfolding all_mixed
-  next h =
-      sym rest
-      ∙ ap all_mixed (drop-cons ws i 0 h)
-      ∙ ap (λ (k : ℕ). is_mixed (get_or ws i 0) && all_mixed (drop k ws)) (sym (add-one i))
-
-  pub zeros : i < length ws → get_or ws i 0 ≡ 0 → false ≡ all_mixed ws
-  unfolding is_mixed
-  zeros h e = rw (next h, eq-eqb (get_or ws i 0) 0 e)
-
-  pub all_ones : i < length ws → (get_or ws i 0 ≡ 0 → ⊥) → get_or ws i 0 ≡ 4294967295 → false ≡ all_mixed ws
-  unfolding is_mixed
-  all_ones h g e = rw (next h, ne_eqb (get_or ws i 0) 0 g, eq-eqb (get_or ws i 0) 4294967295 e)
-
-  pub one-mixed : i < length ws → (get_or ws i 0 ≡ 0 → ⊥) → (get_or ws i 0 ≡ 4294967295 → ⊥) → all_mixed (drop (i + 1) ws) ≡ all_mixed ws
-  unfolding is_mixed
-  one-mixed h g e = rw (next h, ne_eqb (get_or ws i 0) 0 g, ne_eqb (get_or ws i 0) 4294967295 e)
-
-  pub none_left : length ws ≤ i → true ≡ all_mixed ws
-  unfolding all_mixed
-  none_left h = sym (ap all_mixed (drop_of_length-le ws h)) ∙ rest

@@ -28,7 +28,8 @@ use Rattle.ewah.proofs.MarkerStep.{read_step}
 use Rattle.ewah_write.specs.declared.writer.Writer.{Writer}
 use Rattle.ewah_write.specs.Drafts.{Tracks, Drawn}
 use Rattle.ewah_write.proofs.Growing.{used-is, taken_is}
-use Rattle.resume.specs.Scan.{follows_of, is_mixed, all_mixed}
+use Rattle.resume.specs.Scan.{follows_of}
+use Rattle.ewah_write.specs.Mixed.{is_mixed, all_mixed}
 use Rattle.resume.specs.Resume.{draft_of, LastMarker, Walked}
 use Rattle.resume.proofs.Scanned.{Scan, failed, at, scan_step, scanned, canonical-passes}
 use Rattle.resume.proofs.Scanned.{scan-failed, scan-marker, scan-mixed, scan-clean, follow-clean, follow-dirty}
@@ -53,7 +54,7 @@ kind-run (suc c) v h = ap₂ (λ (s : Segment) (l : List Segment). s ∷ l) (kin
 -- ---- mixed words
 
 mixed-kinds : (xs : List ℕ) → all_mixed xs ≡ true → map (kind 32) xs ≡ map mixed xs
-unfolding all_mixed is_mixed all_set
+unfolding is_mixed all_set
 mixed-kinds [] e = refl
 mixed-kinds (x ∷ xs) e =
     let p = both (is_mixed x) (all_mixed xs) e in
@@ -65,13 +66,11 @@ mixed-kinds (x ∷ xs) e =
     (mixed-kinds xs p.1)
 
 mixed-take : (d : ℕ) (xs : List ℕ) → all_mixed xs ≡ true → all_mixed (take d xs) ≡ true
-unfolding all_mixed
 mixed-take zero xs e = refl
 mixed-take (suc d) [] e = refl
 mixed-take (suc d) (x ∷ xs) e = let p = both (is_mixed x) (all_mixed xs) e in rw p.0 (mixed-take d xs p.1)
 
 mixed-at : (xs : List ℕ) (k : ℕ) → all_mixed xs ≡ true → k < length xs → is_mixed (get_or xs k 0) ≡ true
-unfolding all_mixed
 mixed-at [] k e h = absurd (omega arith)
 mixed-at (x ∷ xs) zero e h = (both (is_mixed x) (all_mixed xs) e).0
 mixed-at (x ∷ xs) (suc k) e h = mixed-at xs k (both (is_mixed x) (all_mixed xs) e).1 (omega arith)

@@ -10,10 +10,9 @@ use Rattle.meaning.specs.declared.Format.TheVariants.{Ewah}
 use Rattle.ewah.specs.Markers.{InRange}
 use Rattle.ewah_write.specs.declared.writer.Writer.{Writer}
 use Rattle.ewah_write.specs.Drafts.{Tracks, Drawn}
-use Rattle.resume.specs.Scan.{is_mixed}
+use Rattle.ewah_write.specs.Mixed.{is_mixed}
 use Rattle.resume.specs.declared.Place.{Place}
-use Rattle.resume.specs.declared.Resumed.{Resumed}
-use Rattle.resume.specs.declared.Resumed.TheVariants.{Not, At}
+use Rattle.std.specs.Prelude.{Option, None, Some}
 
 -- the draft of the segments that the R rows p fill whole
 abbrev pub whole_of : (R : ℕ) → (ℕ → Bool) → Draft
@@ -32,9 +31,9 @@ pub record PlaceOf (R : ℕ) (p : ℕ → Bool) (out : List ℕ) (r : Place) : T
   pub part-is : r.part ≡ word_of (R % 32) (λ j. p (R / 32 * 32 + j))
 
 -- the body's writer, or that it is not in canonical form
-abbrev pub ResumedIs : (R : ℕ) → List ℕ → Resumed → Type 0
-ResumedIs R b Not = Canonical Ewah R b → ⊥
-ResumedIs R b (At r) = Canonical Ewah R b × PlaceOf R (rows_of Ewah b) b r
+abbrev pub ResumedIs : (R : ℕ) → List ℕ → Option Place → Type 0
+ResumedIs R b None = Canonical Ewah R b → ⊥
+ResumedIs R b (Some r) = Canonical Ewah R b × PlaceOf R (rows_of Ewah b) b r
 
 -- ---- what the walk knows, and hands on at its end
 

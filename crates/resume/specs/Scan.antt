@@ -1,6 +1,6 @@
 -- What a walk over an EWAH body tests at each marker, to know whether the body is in canonical form. Request 9.
 -- Assumes nothing.
-use Rattle.std.specs.Prelude.{ℕ, Bool, true, cond, not, ◌&&◌, List, [], ◌∷◌, eqb, ltb}
+use Rattle.std.specs.Prelude.{ℕ, Bool, cond, not, ◌&&◌, eqb, ltb}
 use Rattle.meaning.specs.Limits.{most_clean, most_dirty}
 
 -- behind a marker (v, c, d) the marker (v', c', d') may stand: it has a clean run that the first could not take, or dirty words that
@@ -10,12 +10,3 @@ follows_of v c d v' c' d' =
     cond (eqb c' 0)
     (eqb v' 0 && not (eqb d' 0) && eqb d most_dirty)
     (not (eqb d 0 && eqb v v' && ltb c most_clean))
-
--- neither all zeros nor all ones
-unfoldable pub is_mixed : ℕ → Bool
-is_mixed x = not (eqb x 0) && not (eqb x 4294967295)
-
-unfoldable pub all_mixed : List ℕ → Bool
-unfolding is_mixed
-all_mixed [] = true
-all_mixed (x ∷ xs) = is_mixed x && all_mixed xs

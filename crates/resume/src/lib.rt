@@ -6,11 +6,12 @@
 ghost use Rattle.std.specs.Prelude.{◌≡◌, List, ℕ, ◌-◌, ◌≤◌};
 ghost use Rattle.meaning.specs.Limits.{most_rows};
 ghost use Rattle.laws.specs.Laws.{EwahFacts};
-ghost use Rattle.resume.specs.Scan.{follows_of, all_mixed};
+ghost use Rattle.resume.specs.Scan.{follows_of};
 ghost use Rattle.resume.specs.Resume.{ResumedIs, Resumes, LastMarker, Walked, draft_of};
 
 use ewah::marker;
 use ewah::marker::Marker;
+use ewah_write::dirty;
 use ewah_write::writer;
 use ewah_write::writer::Writer;
 use meaning::{MOST_CLEAN, MOST_DIRTY};
@@ -22,12 +23,6 @@ use words::bits;
 pub struct Place {
     pub writer: Writer,
     pub part: u32,
-}
-
-#[derive(Clone, Copy)]
-pub enum Resumed {
-    Not,
-    At(Place),
 }
 
 // Whether marker m may stand behind the marker `last`: it has a clean run that `last` could not take, or dirty words
@@ -51,24 +46,6 @@ fn follows(last: Marker, m: Marker) -> bool
         return true;
     }
     MOST_CLEAN <= last.clean
-}
-
-// Whether each of the words is a mixed segment.
-fn all_mixed(ws: &[u32]) -> bool
-    ensures { result ≡ all_mixed ws.now }
-{
-    let mut i = 0;
-    while i < ws.len() {
-        let x = ws[i];
-        if x == 0 {
-            return false;
-        }
-        if x == 0xFFFF_FFFF {
-            return false;
-        }
-        i += 1;
-    }
-    true
 }
 
 // The writer before the last segment: the last marker counts one fewer, and where it counted that one alone, it is the
@@ -108,20 +85,20 @@ fn back(before: Writer, w: Writer) -> Writer
 
 // The end of the walk. A last segment of fewer rows than 32 is taken back, and its word is its rows: of a run the value
 // in each row, else the body's last word, which in canonical form has not all of them set.
-fn end(body: &[u32], rows: u32, before: Writer, w: Writer) -> Resumed
+fn end(body: &[u32], rows: u32, before: Writer, w: Writer) -> Option<Place>
     requires { EwahFacts rows body.now × Walked body.now before w }
     ensures { ResumedIs rows body.now result }
 {
     let have = rows & 31;
     if have == 0 {
-        return Resumed::At(Place { writer: w, part: 0 });
+        return Some(Place { writer: w, part: 0 });
     }
     let all = bits::low_ones(have);
     let whole = back(before, w);
     let last = w.last;
     if last.dirty == 0 {
         let run = last.value * all;
-        return Resumed::At(Place {
+        return Some(Place {
             writer: whole,
             part: run,
         });
@@ -129,16 +106,16 @@ fn end(body: &[u32], rows: u32, before: Writer, w: Writer) -> Resumed
     let at = body.len() - 1;
     let x = body[at];
     if x == all {
-        return Resumed::Not;
+        return None;
     }
-    Resumed::At(Place {
+    Some(Place {
         writer: whole,
         part: x,
     })
 }
 
-// Of a sound body of so many rows: its writer, or that it is not in canonical form. The walk reads each word once.
-pub fn resume(body: &[u32], rows: u32) -> Resumed
+// Of a sound body of so many rows: its writer, if it is in canonical form. The walk reads each word once.
+pub fn resume(body: &[u32], rows: u32) -> Option<Place>
     requires { (rows ≤ most_rows) × EwahFacts rows body.now }
     ensures { ResumedIs rows body.now result }
 {
@@ -150,10 +127,10 @@ pub fn resume(body: &[u32], rows: u32) -> Resumed
         let from = at + 1;
         let next = from + m.dirty as usize;
         if !follows(w.last, m) {
-            return Resumed::Not;
+            return None;
         }
-        if !all_mixed(&body[from..next]) {
-            return Resumed::Not;
+        if !dirty::all_mixed(&body[from..next]) {
+            return None;
         }
         before = w;
         w = Writer {

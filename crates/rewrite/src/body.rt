@@ -29,13 +29,11 @@ pub fn rewrite(
     let mut c = cursor::open(from, body);
     let mut o = output::start(to);
     let mut left = rows;
+    // Kept: a loop by hand, (d): a turn takes a piece, with as many rows as that has, so no range has its turns.
     while left != 0 {
         let k = piece::rows_in(c, width, left);
-        let piece = c.piece;
-        let t = output::put(to, out, o, piece, k, store);
-        o = t;
-        let d = cursor::advance(from, body, c, cursor::left(c));
-        c = d;
+        o = output::put(to, out, o, c.piece, k, store);
+        c = cursor::advance(from, body, c, cursor::left(c));
         left -= k;
     }
     output::finish(to, out, o, store)

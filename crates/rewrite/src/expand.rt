@@ -35,13 +35,11 @@ pub fn expand(body: &[u32], rows: u32, out: &mut [u32])
     let mut c = cursor::open(Format::Wah, body);
     let mut s = fill::start();
     let mut left = rows;
+    // Kept: a loop by hand, (d): a turn takes a piece, with as many rows as that has, so no range has its turns.
     while left != 0 {
         let k = piece::rows_in(c, 31, left);
-        let piece = c.piece;
-        let t = put(out, s, piece, k);
-        s = t;
-        let d = cursor::advance(Format::Wah, body, c, cursor::left(c));
-        c = d;
+        s = put(out, s, c.piece, k);
+        c = cursor::advance(Format::Wah, body, c, cursor::left(c));
         left -= k;
     }
     fill::finish(out, s);

@@ -5,7 +5,6 @@ ghost use Rattle.meaning.specs.Segment.{clean};
 ghost use Rattle.meaning.specs.Format.{width, most_run};
 ghost use Rattle.body_write.specs.Bodies.{Growing, RoomFor, Emitted};
 
-use crate::piece;
 use body_write::writer;
 use ewah_write::writer::Writer;
 use meaning::{Format, MOST_CLEAN};
@@ -17,7 +16,7 @@ fn at_once(format: Format, n: u32) -> u32
     ensures { (result ≤ n) × (result ≤ most_run format) × (1 ≤ n → 1 ≤ result) }
 {
     match format {
-        Format::Ewah => piece::smaller(n, MOST_CLEAN),
+        Format::Ewah => n.min(MOST_CLEAN),
         Format::Wah => n,
     }
 }
@@ -33,10 +32,10 @@ pub fn run(format: Format, out: &mut [u32], w: Writer, value: u32, n: u32, store
     let full = rows::full(format);
     let mut v = w;
     let mut left = n;
+    // Kept: a loop by hand, (d): a step takes as many segments as a marker can, so no range has its turns.
     while left != 0 {
         let k = at_once(format, left);
-        let r = writer::emit_run(format, out, v, value, k, full, store);
-        v = r;
+        v = writer::emit_run(format, out, v, value, k, full, store);
         left -= k;
     }
     v

@@ -1,7 +1,6 @@
 -- `archive::measure` meets its contract: after k rounds the words are those before body k of the new index.
 -- Assumes nothing.
 use Prim.Native.Nat.{ℕ, ◌+◌, ◌*◌, ◌≤◌, ◌<◌}
-use mathlib.Core.Bool.{false≢true}
 use mathlib.Core.Path.{◌≡◌, refl, ◌∙◌}
 use mathlib.Core.List.{List}
 use Rattle.meaning.specs.Limits.{most_bitmaps, most_contents}
@@ -28,7 +27,6 @@ After-put_body-need = Lts.After-put_body Tie.the-claims Reads.Pre Reads.Post goa
 pub loop-k-init : goal.loop-k-init
 loop-k-init c =
     let n = c.bitmaps-n in (
-      omega arith,
       c.entry_place-need.ensures.0 ∙ new-place c.args.index.now c.args.to c.requires n.result n.ensures,
       refl,
     )
@@ -47,14 +45,6 @@ module _ (l : At-loop-k) where
 inside : (i : In-loop-k) → i.loop-k.k < bitmap_count (index i.before)
 inside i = omega (arith, i.loop-k-test.true, all i.before)
 
-pub put_body-need-requires : goal.put_body-need-requires
-put_body-need-requires c =
-    record {
-      index_facts = c.requires;
-      k_bound = inside c.before.before;
-      k_in_bounds = λ e. absurd (false≢true e);
-    }
-
 -- with the words of body k
 module _ (c : After-put_body-need) where
   abbrev k : ℕ
@@ -63,7 +53,7 @@ module _ (c : After-put_body-need) where
   next : c.loop-k.need + c.put_body-need.result ≡ body_place (t c.before.before.before) (k + 1)
   next =
       let e = new-next (index c.before.before.before) c.args.to c.requires k (inside c.before.before) in
-      omega (arith, c.loop-k.invariant.1, c.put_body-need.ensures.words_are, e)
+      omega (arith, c.loop-k.invariant.0, c.put_body-need.ensures.words_are, e)
 
   low : body_place (t c.before.before.before) (k + 1) ≤ most_contents + most_body_words * most_bitmaps
   low = new-low (index c.before.before.before) c.args.to c.requires (k + 1) (omega (arith, inside c.before.before))
@@ -74,9 +64,9 @@ overflow_add-need c =
 
 pub loop-k-preserved : goal.loop-k-preserved
 loop-k-preserved c =
-    (omega (arith, c.loop-k-test.true), next c.before.before.before, c.put_body-need.ensures.kept refl ∙ c.loop-k.invariant.2)
+    (next c.before.before.before, c.put_body-need.ensures.kept refl ∙ c.loop-k.invariant.1)
 
 pub returns : goal.returns
 returns c =
-    let e : c.loop-k.k ≡ bitmap_count (index c.before.before) = omega (arith, c.loop-k.invariant.0, c.loop-k-test.false, all c.before.before) in
-    (c.loop-k.invariant.1 ∙ new-end (index c.before.before) c.args.to c.requires c.loop-k.k e, c.loop-k.invariant.2)
+    let e : c.loop-k.k ≡ bitmap_count (index c.before.before) = omega (arith, c.loop-k.auto.k-end, c.loop-k-test.false, all c.before.before) in
+    (c.loop-k.invariant.0 ∙ new-end (index c.before.before) c.args.to c.requires c.loop-k.k e, c.loop-k.invariant.1)

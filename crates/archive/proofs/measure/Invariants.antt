@@ -1,13 +1,9 @@
 -- `archive::measure` meets its contract: after k rounds the words are those before body k of the new index.
 -- Assumes nothing.
-use Prim.Native.Nat.{◌-◌, ◌≤◌}
 use mathlib.Core.Path.{◌≡◌}
 use Rattle.meaning.specs.Index.{body_place}
 use Rattle.archive.specs.Anew.{anew}
 use Rattle.archive.proofs.measure.Given as goal
 
 abbrev pub invariant-loop-k : goal.invariant-loop-k
-invariant-loop-k l = (l.k ≤ l.n) × (l.need ≡ body_place (anew l.index l.to) l.k) × (l.out ≡ l.initial.out)
-
-abbrev pub decreases-loop-k : goal.decreases-loop-k
-decreases-loop-k l = l.n - l.k
+invariant-loop-k l = (l.need ≡ body_place (anew l.index l.to) l.k) × (l.out ≡ l.initial.out)

@@ -31,12 +31,9 @@ module _ (r : After-rows) where
       read-rows r.args.index.now r.requires.index_facts r.args.k r.requires.k_bound _ _ _
       r.format.ensures r.rows.ensures r.body.ensures.result_value r.args.to
 
-pub rewrite-requires : goal.rewrite-requires
-rewrite-requires c =
-    record {
-      rows_le_most_rows = is-sound c.before.before;
-      body_in_bounds = λ h. omega (arith, ap length (its-rows c.before.before), c.requires.k_in_bounds h);
-    }
+pub rewrite-requires-clause-body_in_bounds : goal.rewrite-requires-clause-body_in_bounds
+rewrite-requires-clause-body_in_bounds c =
+    λ h. omega (arith, ap length (its-rows c.before.before), c.requires.k_in_bounds h)
 
 pub returns : goal.returns
 returns c =

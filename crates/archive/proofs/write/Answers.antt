@@ -1,13 +1,12 @@
 -- `archive::write` meets its contract: behind the head each round adds a body and its entry, and after the last one the
 -- buffer has the whole index.
 -- Assumes nothing.
-use Prim.Native.Nat.{ℕ, ◌≤◌, ◌<◌}
-use mathlib.Core.Path.{◌≡◌, ap, ◌∙◌, subst}
+use Prim.Native.Nat.{ℕ, ◌≤◌}
+use mathlib.Core.Path.{◌≡◌, ◌∙◌, subst}
 use mathlib.Core.List.{List}
 use lib.ListN.{length, length-set}
 use Rattle.meaning.specs.Limits.{most_index_words}
 use Rattle.meaning.specs.Index.{bitmap_count}
-use Rattle.meaning.specs.NewIndex.{index_room}
 use Rattle.laws.specs.Laws.{IndexFacts}
 use Rattle.laws.proofs.NewIndexes.{room_within}
 use Rattle.archive.specs.Anew.{anew, Begun}
@@ -56,7 +55,6 @@ bounds-out-2 c = simp length-set (omega (arith, three c.before.before.before.bef
 pub loop-k-init : goal.loop-k-init
 loop-k-init c =
     let n = c.bitmaps-n in (
-      omega arith,
       c.entry_place-at.ensures.0 ∙ new-place c.args.index.now c.args.to c.requires.index_facts n.result n.ensures,
       λ old g. g,
     )
@@ -77,29 +75,13 @@ module _ (l : At-loop-k) where
       let to = l.args.to in
       let rows = l.rows in
       let kind = l.kind in
-      l.loop-k.invariant.2 l.args.out.now
+      l.loop-k.invariant.1 l.args.out.now
       (begun-none (t l.before.before.before.before.before.before.before) (facts l.before.before.before.before.before.before.before) l.args.out.now (fits l.before.before.before.before.before.before.before).0 kind.result rows.result rounds
       (kind.ensures ∙ new-kind index to l.requires.index_facts (fits l.before.before.before.before.before.before.before).1) (rows.ensures ∙ new-rows index to l.requires.index_facts (fits l.before.before.before.before.before.before.before).1)
       (all ∙ count l.before.before.before.before.before.before.before))
 
-pub write_body-end-requires : goal.write_body-end-requires
-write_body-end-requires c =
-    let below : c.loop-k.k < bitmap_count c.args.index.now = omega (arith, c.loop-k-test.true, all c.before.before.before) in record {
-      index_facts = c.requires.index_facts;
-      k_bound = below;
-      at_value = (c.loop-k.invariant.1, omega (arith, c.requires.to_len_bound, ap index_room (begun c.before.before.before).long));
-    }
-
-pub loop-k-preserved : goal.loop-k-preserved
-loop-k-preserved c =
-    let r = c.write_body-end in
-    (omega (arith, c.loop-k-test.true), r.ensures.0, λ old g. r.ensures.1 old (c.loop-k.invariant.2 old g))
-
-pub shape_of-out : goal.shape_of-out
-shape_of-out c = (begun c.before.before).long
-
 pub returns : goal.returns
 returns c =
-    let e : c.loop-k.k ≡ bitmap_count (t c.before.before.before.before.before.before.before.before.before) = omega (arith, c.loop-k.invariant.0, c.loop-k-test.false, all c.before.before, count c.before.before.before.before.before.before.before.before.before) in
+    let e : c.loop-k.k ≡ bitmap_count (t c.before.before.before.before.before.before.before.before.before) = omega (arith, c.loop-k.auto.k-end, c.loop-k-test.false, all c.before.before, count c.before.before.before.before.before.before.before.before.before) in
     begun_all (t c.before.before.before.before.before.before.before.before.before) (facts c.before.before.before.before.before.before.before.before.before) c.args.out.now c.loop-k.out (fits c.before.before.before.before.before.before.before.before.before).0
     (subst (λ (k : ℕ). Begun (t c.before.before.before.before.before.before.before.before.before) c.args.out.now c.loop-k.out k) e (begun c.before.before))

@@ -81,13 +81,9 @@ slice_bounds-put_body-count c = omega (arith, fits c.before.before.before)
 pub slice_bounds-put_body-start : goal.slice_bounds-put_body-start
 slice_bounds-put_body-start c = omega (arith, fits c.before.before.before)
 
-pub put_body-words-requires : goal.put_body-words-requires
-put_body-words-requires c =
-    record {
-      index_facts = c.requires.index_facts;
-      k_bound = c.requires.k_bound;
-      k_in_bounds = λ e. omega (arith, ap length (is_body c.before.before.before.before), part_room (out c.before.before.before.before) (b c.before.before.before.before) (at c.before.before.before.before) (fits c.before.before.before.before));
-    }
+pub put_body-words-requires-clause-k_in_bounds : goal.put_body-words-requires-clause-k_in_bounds
+put_body-words-requires-clause-k_in_bounds c =
+    λ e. omega (arith, ap length (is_body c.before.before.before.before), part_room (out c.before.before.before.before) (b c.before.before.before.before) (at c.before.before.before.before) (fits c.before.before.before.before))
 
 -- behind both calls: what came back for the body, the buffer's length, and the entry in it
 module _ (c : After-entry_place-entry) where
@@ -122,12 +118,6 @@ overflow_cast-out-2 c = record { fits = omega (arith, few_words c.before) }
 
 pub bounds-out-entry-2 : goal.bounds-out-entry-2
 bounds-out-entry-2 c = simp length-set (omega (arith, long c.before, entry-low c.before))
-
-pub overflow_add-result : goal.overflow_add-result
-overflow_add-result c = record { fits = omega (arith, few_words c.before) }
-
-pub shape_of-out : goal.shape_of-out
-shape_of-out c = simp length-set (long c.before)
 
 pub returns : goal.returns
 unfolding entry_place

@@ -6,7 +6,8 @@ use mathlib.Core.List.{List}
 use native.Mathlib.Omega.{arith}
 use lib.ListN.{length, get_or, take, drop}
 use Rattle.laws.proofs.Parts.{part-is}
-use Rattle.resume.specs.Scan.{follows_of, all_mixed}
+use Rattle.resume.specs.Scan.{follows_of}
+use Rattle.ewah_write.specs.Mixed.{all_mixed}
 use Rattle.resume.proofs.Walking.{stood-start, stood-end, dirty-fit, not-follows, not-mixed, stood-next}
 use Rattle.resume.proofs.resume.Lts
 use Rattle.resume.proofs.resume.Reads

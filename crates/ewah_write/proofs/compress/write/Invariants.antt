@@ -1,5 +1,4 @@
 -- `ewah_write::compress::write` meets its contract: the draft of the words passed is in the buffer. Assumes nothing.
-use Prim.Native.Nat.{◌-◌, ◌≤◌}
 use mathlib.Core.Path.{◌≡◌}
 use lib.ListN.{length}
 use Rattle.meaning.specs.Segment.{kinds}
@@ -7,8 +6,5 @@ use Rattle.laws.proofs.Prefixes.{up_to}
 use Rattle.ewah_write.proofs.Pushing.{Written}
 use Rattle.ewah_write.proofs.compress.write.Given as goal
 
-abbrev pub invariant-loop-i : goal.invariant-loop-i
-invariant-loop-i l = (l.i ≤ l.last) × (length l.out ≡ length l.initial.out) × Written l.initial.out l.out l.w (up_to (kinds 32 l.rows l.plain) l.i)
-
-abbrev pub decreases-loop-i : goal.decreases-loop-i
-decreases-loop-i l = l.last - l.i
+abbrev pub invariant-loop-x : goal.invariant-loop-x
+invariant-loop-x l = (length l.out ≡ length l.initial.out) × Written l.initial.out l.out l.w (up_to (kinds 32 l.rows l.plain) l.x-index)

@@ -96,21 +96,15 @@ module _ (c : After-rows_in-k) where
         next = λ j h. ap (q c.before.before) (omega (arith, o)) ∙ rows j (omega (arith, k-is));
       }
 
-pub put-t-requires : goal.put-t-requires
-put-t-requires c =
+pub put-o-requires-clause-takes : goal.put-o-requires-clause-takes
+put-o-requires-clause-takes c =
     let facts = c.requires.rows_le_most_rows in
-    let gives = piece-gives (F c.before.before.before.before) (R c.before.before.before.before) (b c.before.before.before.before) facts.0 facts.1 (at c.before.before.before) c.loop-left-test.true in record {
-      have_bound = (c.loop-left.invariant.2, rw (← k-is c.before.before) at gives);
-      takes = (R c.before.before.before.before, q c.before.before.before.before, c.args.out.now, R c.before.before.before.before - c.loop-left.left, coming c.before.before);
-    }
+    let gives = piece-gives (F c.before.before.before.before) (R c.before.before.before.before) (b c.before.before.before.before) facts.0 facts.1 (at c.before.before.before) c.loop-left-test.true in
+    (R c.before.before.before.before, q c.before.before.before.before, c.args.out.now, R c.before.before.before.before - c.loop-left.left, coming c.before.before)
 
-pub advance-d-requires : goal.advance-d-requires
-advance-d-requires c =
-    record {
-      in_order = (at c.before.before.before.before.before.before.before).in_order;
-      le_n = omega (arith, some c.before.before.before.before.before.before.before, c.left.ensures);
-      n_bound = omega (arith, c.left.ensures);
-    }
+pub advance-c-requires-clause-le_n : goal.advance-c-requires-clause-le_n
+advance-c-requires-clause-le_n c =
+    omega (arith, some c.before.before.before.before.before.before.before, c.left.ensures)
 
 pub loop-left-smaller : goal.loop-left-smaller
 loop-left-smaller c =
@@ -121,12 +115,12 @@ pub loop-left-preserved : goal.loop-left-preserved
 loop-left-preserved c =
     let a = c.args in
     let facts = c.requires.rows_le_most_rows in
-    let put = c.put-t in
+    let put = c.put-o in
     let k = c.rows_in-k.result in
     let left = c.loop-left.left in
-    let stands = subst (λ (n : ℕ). Stands (F c.before.before.before.before.before.before.before.before.before) (b c.before.before.before.before.before.before.before.before.before) c.advance-d.result (advanced n (pieces_from (F c.before.before.before.before.before.before.before.before.before) (b c.before.before.before.before.before.before.before.before.before) c.loop-left.c)))
-    c.left.ensures c.advance-d.ensures in
-    let next = at_next (F c.before.before.before.before.before.before.before.before.before) (R c.before.before.before.before.before.before.before.before.before) (b c.before.before.before.before.before.before.before.before.before) facts.0 facts.1 (at c.before.before.before.before.before.before.before.before) c.loop-left-test.true c.advance-d.result stands in
+    let stands = subst (λ (n : ℕ). Stands (F c.before.before.before.before.before.before.before.before.before) (b c.before.before.before.before.before.before.before.before.before) c.advance-c.result (advanced n (pieces_from (F c.before.before.before.before.before.before.before.before.before) (b c.before.before.before.before.before.before.before.before.before) c.loop-left.c)))
+    c.left.ensures c.advance-c.ensures in
+    let next = at_next (F c.before.before.before.before.before.before.before.before.before) (R c.before.before.before.before.before.before.before.before.before) (b c.before.before.before.before.before.before.before.before.before) facts.0 facts.1 (at c.before.before.before.before.before.before.before.before) c.loop-left-test.true c.advance-c.result stands in
     let d : R c.before.before.before.before.before.before.before.before.before - left + k ≡ R c.before.before.before.before.before.before.before.before.before - (left - k) = omega (arith, k-is c.before.before.before.before.before.before.before, c.loop-left.invariant.1) in (
       rw (← k-is c.before.before.before.before.before.before.before) at next,
       omega (arith, c.loop-left.invariant.1),
@@ -144,13 +138,6 @@ module _ (c : After-loop-left) where
       let all : R c.before - c.loop-left.left ≡ R c.before = omega (arith, c.loop-left-test.false) in
       subst (λ (n : ℕ). Packed a.to (R c.before) (q c.before) a.out.now a.store c.loop-left.out n c.loop-left.o) all
       c.loop-left.invariant.3
-
-pub finish-requires : goal.finish-requires
-finish-requires c =
-    record {
-      have_bound = c.loop-left.invariant.2;
-      by_index = (R c.before.before.before, q c.before.before.before, c.args.out.now, packed c.before.before);
-    }
 
 pub returns : goal.returns
 returns c =

@@ -1,5 +1,4 @@
 -- `rewrite::compress::measure` meets its contract: the writer stands for the segments passed. Assumes nothing.
-use Prim.Native.Nat.{◌-◌}
 use mathlib.Core.Bool.{false}
 use mathlib.Core.List.{[]}
 use Rattle.meaning.specs.Segment.{has_row}
@@ -8,6 +7,3 @@ use Rattle.rewrite.proofs.compress.measure.Given as goal
 
 abbrev pub invariant-loop-i : goal.invariant-loop-i
 invariant-loop-i l = Sent l.format l.rows (has_row 32 l.plain) [] false [] l.i l.w
-
-abbrev pub decreases-loop-i : goal.decreases-loop-i
-decreases-loop-i l = l.segments - l.i

@@ -1,5 +1,4 @@
 -- `rewrite::compress::write` meets its contract: the segments passed are in the buffer. Assumes nothing.
-use Prim.Native.Nat.{◌-◌}
 use mathlib.Core.Bool.{true}
 use Rattle.meaning.specs.Segment.{has_row}
 use Rattle.row_write.specs.Sending.{Sent}
@@ -7,6 +6,3 @@ use Rattle.rewrite.proofs.compress.write.Given as goal
 
 abbrev pub invariant-loop-i : goal.invariant-loop-i
 invariant-loop-i l = Sent l.format l.rows (has_row 32 l.plain) l.initial.out true l.out l.i l.w
-
-abbrev pub decreases-loop-i : goal.decreases-loop-i
-decreases-loop-i l = l.segments - l.i

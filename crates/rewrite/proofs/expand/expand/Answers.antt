@@ -1,14 +1,12 @@
 -- `rewrite::expand::expand` meets its contract. The invariant: the cursor stands behind the rows that were put.
 -- Assumes nothing.
 use Prim.Native.Nat.{ℕ, ◌+◌, ◌*◌, ◌≤◌}
-use mathlib.Core.Path.{◌≡◌, ap, subst, ◌∙◌}
-use mathlib.Core.List.{List, ◌++◌}
-use lib.ListN.{length, drop}
+use mathlib.Core.Path.{ap, subst, ◌∙◌}
+use mathlib.Core.List.{List}
+use lib.ListN.{length}
 use native.Mathlib.Omega.{arith}
-use Rattle.meaning.specs.Segment.{segment_count, from_rows}
 use Rattle.meaning.specs.declared.Format.TheVariants.{Wah}
 use Rattle.meaning.specs.Format.{rows_of}
-use Rattle.laws.proofs.Formats.{facts-some}
 use Rattle.laws.proofs.RowWords.{rows_fit}
 use Rattle.laws.specs.Ahead.{advanced}
 use Rattle.ewah.specs.Cursors.{Stands, left_of, pieces_from}
@@ -46,9 +44,6 @@ module _ (c : In-loop-left) where
   some : 1 ≤ left_of c.loop-left.c.piece
   some = piece-some Wah (R c.before) (b c.before) c.requires.0 c.requires.1 at c.loop-left-test.true
 
-pub open-c-requires : goal.open-c-requires
-open-c-requires c = facts-some Wah c.args.rows c.args.body.now c.requires.1
-
 pub loop-left-init : goal.loop-left-init
 loop-left-init c =
     let b = c.args.body.now in (
@@ -62,21 +57,17 @@ pub rows_in-k-requires : goal.rows_in-k-requires
 rows_in-k-requires c =
     piece-low Wah (R c.before.before) (b c.before.before) c.requires.0 c.requires.1 (at c.before) c.loop-left-test.true
 
-pub put-t-requires : goal.put-t-requires
-put-t-requires c =
+pub put-s-requires : goal.put-s-requires
+put-s-requires c =
     let k = c.rows_in-k.ensures in (
       c.loop-left.invariant.2,
       rw (← k) at (piece-gives Wah (R c.before.before.before.before) (b c.before.before.before.before) c.requires.0 c.requires.1 (at c.before.before.before) c.loop-left-test.true),
       omega (arith, k, room c.before.before.before.before),
     )
 
-pub advance-d-requires : goal.advance-d-requires
-advance-d-requires c =
-    record {
-      in_order = (at c.before.before.before.before.before.before.before).in_order;
-      le_n = omega (arith, some c.before.before.before.before.before.before.before, c.left.ensures);
-      n_bound = omega (arith, c.left.ensures);
-    }
+pub advance-c-requires-clause-le_n : goal.advance-c-requires-clause-le_n
+advance-c-requires-clause-le_n c =
+    omega (arith, some c.before.before.before.before.before.before.before, c.left.ensures)
 
 pub loop-left-smaller : goal.loop-left-smaller
 loop-left-smaller c =
@@ -84,14 +75,14 @@ loop-left-smaller c =
 
 pub loop-left-preserved : goal.loop-left-preserved
 loop-left-preserved c =
-    let p = c.put-t.ensures in
+    let p = c.put-s.ensures in
     let k = c.rows_in-k.ensures in
     let c₀ = c.loop-left.c in
-    let stands = subst (λ (n : ℕ). Stands Wah (b c.before.before.before.before.before.before.before.before.before) c.advance-d.result (advanced n (pieces_from Wah (b c.before.before.before.before.before.before.before.before.before) c₀)))
-    c.left.ensures c.advance-d.ensures in
+    let stands = subst (λ (n : ℕ). Stands Wah (b c.before.before.before.before.before.before.before.before.before) c.advance-c.result (advanced n (pieces_from Wah (b c.before.before.before.before.before.before.before.before.before) c₀)))
+    c.left.ensures c.advance-c.ensures in
     let o = behind Wah (R c.before.before.before.before.before.before.before.before.before) (b c.before.before.before.before.before.before.before.before.before) c.requires.0 c.requires.1 (at c.before.before.before.before.before.before.before.before) c.loop-left-test.true in
     let rows = piece-rows Wah (R c.before.before.before.before.before.before.before.before.before) (b c.before.before.before.before.before.before.before.before.before) c.requires.0 c.requires.1 (at c.before.before.before.before.before.before.before.before) c.loop-left-test.true in (
-      rw (← k) at (at_next Wah (R c.before.before.before.before.before.before.before.before.before) (b c.before.before.before.before.before.before.before.before.before) c.requires.0 c.requires.1 (at c.before.before.before.before.before.before.before.before) c.loop-left-test.true c.advance-d.result stands),
+      rw (← k) at (at_next Wah (R c.before.before.before.before.before.before.before.before.before) (b c.before.before.before.before.before.before.before.before.before) c.requires.0 c.requires.1 (at c.before.before.before.before.before.before.before.before) c.loop-left-test.true c.advance-c.result stands),
       omega (arith, p.rows, k, c.loop-left.invariant.1),
       p.ready,
       p.laid (rows_of Wah (b c.before.before.before.before.before.before.before.before.before)) c.args.out.now c.loop-left.invariant.3
@@ -100,10 +91,3 @@ loop-left-preserved c =
 
 pub finish-requires : goal.finish-requires
 finish-requires c = (c.loop-left.invariant.2, omega (arith, room c.before.before.before))
-
-pub returns : goal.returns
-returns c =
-    let e : rows_done c.loop-left.s ≡ R c.before.before.before.before.before.before = omega (arith, c.loop-left-test.false, c.loop-left.invariant.1) in
-    let out = c.args.out.now in
-    c.finish.ensures (rows_of Wah (b c.before.before.before.before.before.before)) out c.loop-left.invariant.3
-    ∙ ap (λ (n : ℕ). from_rows 32 n (rows_of Wah (b c.before.before.before.before.before.before)) ++ drop (segment_count 32 n) out) e

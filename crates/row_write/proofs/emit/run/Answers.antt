@@ -28,38 +28,16 @@ module _ (t : At-loop-left) where
   unfolding all_set
   whole = t.full-full.ensures
 
-pub loop-left-init : goal.loop-left-init
-loop-left-init c =
-    let a = c.args in
-    let none : a.n - a.n ≡ 0 = omega arith in (
-      omega arith,
-      c.requires.growing,
-      c.requires.room_for,
-      refl,
-      rw none (emitted-none a.format a.out.now a.w a.store),
-    )
-
-pub at_once-k-requires : goal.at_once-k-requires
-at_once-k-requires c = omega (arith, c.loop-left.invariant.1.2)
-
-pub emit_run-r-requires : goal.emit_run-r-requires
-emit_run-r-requires c =
+pub emit_run-v-requires-clause-room_for : goal.emit_run-v-requires-clause-room_for
+emit_run-v-requires-clause-room_for c =
     let h = c.loop-left in
-    let k = c.at_once-k.ensures in record {
-      growing = grow-fewer _ h.left k.0 h.invariant.1;
-      value_bound = (c.requires.value_bound, k.2 (omega (arith, c.loop-left-test.true)), k.1);
-      room_for = λ e. run-first (g c.before.before.before) _ h.left k.0 (h.invariant.2 e);
-    }
-
-pub loop-left-smaller : goal.loop-left-smaller
-loop-left-smaller c =
     let k = c.at_once-k.ensures in
-    omega (arith, c.loop-left-test.true, k.2 (omega (arith, c.loop-left-test.true)), k.0)
+    λ e. run-first (g c.before.before.before) _ h.left k.0 (h.invariant.2 e)
 
 pub loop-left-preserved : goal.loop-left-preserved
 loop-left-preserved c =
     let h = c.loop-left in
-    let p = c.emit_run-r in
+    let p = c.emit_run-v in
     let em = p.ensures _ (whole c.before.before.before.before.before.before.before) in
     let k = c.at_once-k.result in
     let le = c.at_once-k.ensures.0 in
@@ -76,9 +54,3 @@ loop-left-preserved c =
       long ∙ h.invariant.3,
       rw is at (emitted-more (replicate done (g c.before.before.before.before.before.before.before)) (replicate k (g c.before.before.before.before.before.before.before)) all h.invariant.4 em),
     )
-
-pub returns : goal.returns
-returns c =
-    let a = c.args in
-    let e : a.n - c.loop-left.left ≡ a.n = omega (arith, c.loop-left-test.false) in
-    rw e at c.loop-left.invariant.4

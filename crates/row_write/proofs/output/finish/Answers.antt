@@ -23,10 +23,6 @@ returns-then-held-eq0 c =
     λ R q old p.
     finished-whole c.args.format R q old c.args.store p c.if-held-eq0.true
 
-pub low_ones-mask-requires : goal.low_ones-mask-requires
-low_ones-mask-requires c =
-    omega (arith, c.requires.have_bound, width-le c.args.format)
-
 -- the word of the segment begun, as the writer takes it
 module _ (c : After-spelled-x) where
   abbrev have : ℕ
@@ -52,17 +48,15 @@ module _ (c : After-spelled-x) where
       ∙ ap (λ (z : ℕ). kind have (z % 2 ^ have)) x
       ∙ ap (kind have) (mod-eq_of_lt low)
 
-pub emit_segment-v-requires : goal.emit_segment-v-requires
-emit_segment-v-requires c =
+pub emit_segment-v-requires-clause-room_for : goal.emit_segment-v-requires-clause-room_for
+emit_segment-v-requires-clause-room_for c =
     let F = c.args.format in
     let g = c.requires.by_index in
     let p = g.3 in
     let x = c.spelled-x.result in
-    let some = c.if-held-eq0.false in record {
-      growing = last-growing F g.0 g.1 g.2 c.args.store p x some (few c.before) (is c.before);
-      room_for = λ e. sent-room p.sent _
-          (last-next F g.0 g.1 g.2 c.args.store p x some (few c.before) (is c.before)) e;
-    }
+    let some = c.if-held-eq0.false in
+    λ e. sent-room p.sent _
+    (last-next F g.0 g.1 g.2 c.args.store p x some (few c.before) (is c.before)) e
 
 pub returns : goal.returns
 returns c =

@@ -29,22 +29,11 @@ module _ (c : After-low_ones) where
       ap (λ (x : ℕ). is_set (c.args.value * x) j) c.low_ones.ensures
       ∙ fill-set c.args.k c.args.value j c.requires.have_bound.2 h
 
-pub overflow_mul-value : goal.overflow_mul-value
-overflow_mul-value c =
-    let k = c.args.k in
-    let most : 2 ^ k ≤ 2 ^ 32 = pow_mono {i = k} {j = 32} c.requires.have_bound.1 in
-    record { fits = omega (arith, low c) }
+pub put_word-requires-clause-takes : goal.put_word-requires-clause-takes
+put_word-requires-clause-takes c =
+    let p = c.requires in
+    takes_same c.args.k (λ j h. sym (rows c j h)) p.takes
 
-pub put_word-requires : goal.put_word-requires
-put_word-requires c =
-    let p = c.requires in record {
-      have_bound = (p.have_bound.0, p.have_bound.1, low c);
-      takes = takes_same c.args.k (λ j h. sym (rows c j h)) p.takes;
-    }
-
-pub returns : goal.returns
-returns c =
-    record {
-      have_value = c.put_word.ensures.have_value;
-      put_on = put_same c.args.k (rows c.before.before.before.before) c.put_word.ensures.put_on;
-    }
+pub returns-clause-put_on : goal.returns-clause-put_on
+returns-clause-put_on c =
+    put_same c.args.k (rows c.before.before.before.before) c.put_word.ensures.put_on

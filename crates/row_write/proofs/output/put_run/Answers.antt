@@ -24,25 +24,6 @@ After-put_part-a = Lts.After-put_part2 Tie.the-claims Reads.Pre Reads.Post Tie.h
 abbrev After-put_whole-b : Type 0
 After-put_whole-b = Lts.After-put_whole Tie.the-claims Reads.Pre Reads.Post Tie.handed_clauses
 
-pub lacking-k-requires : goal.lacking-k-requires
-lacking-k-requires c =
-    omega (arith, c.width-w.ensures, c.requires.have_bound.0)
-
-pub put_part-requires : goal.put_part-requires
-put_part-requires c =
-    let w = c.width-w.ensures in
-    let few = c.lacking-k.ensures.0 in record {
-      have_bound = (c.requires.have_bound.0, omega (arith, c.if-n-k.true, few, w, width-le c.args.format), c.requires.have_bound.1);
-      takes = c.requires.takes;
-    }
-
-pub returns-then-n-k : goal.returns-then-n-k
-returns-then-n-k c =
-    let a = c.args in record {
-      have_bound_2 = omega (arith, c.put_part.ensures.have_value, mod-lt (a.o.packer.have + a.n) (width-pos a.format));
-      put_on = c.put_part.ensures.put_on;
-    }
-
 -- where the segment begun is filled up
 module _ (c : Else-n-k) where
   abbrev F : Format
@@ -81,13 +62,6 @@ module _ (c : Else-n-k) where
       c.args.n
   takes = c.requires.takes
 
-pub put_part-a-requires : goal.put_part-a-requires
-put_part-a-requires c =
-    let p = c.requires in record {
-      have_bound = (p.have_bound.0, first-few c.before, p.have_bound.1);
-      takes = takes_first (k c.before) c.args.n (omega (arith, parts c.before)) (takes c.before);
-    }
-
 -- the segment begun is full, and went on
 module _ (c : After-put_part-a) where
   none : c.put_part-a.result.packer.have ≡ 0
@@ -102,16 +76,9 @@ module _ (c : After-put_part-a) where
       takes-after {a = k c.before.before} (λ j h. refl) refl c.put_part-a.ensures.put_on
       (takes_first (k c.before.before + n c.before.before * width (F c.before.before)) c.args.n (omega (arith, parts c.before.before)) (takes c.before.before))
 
-pub nonzero_div-left : goal.nonzero_div-left
-nonzero_div-left c =
-    omega (arith, w-is c.before.before.before.before.before, width-pos (F c.before.before.before.before.before))
-
-pub put_whole-b-requires : goal.put_whole-b-requires
-put_whole-b-requires c =
-    record {
-      have_value = (none c.before.before.before, c.requires.have_bound.1);
-      takes = takes_whole c.before.before.before;
-    }
+pub put_whole-b-requires-clause-takes : goal.put_whole-b-requires-clause-takes
+put_whole-b-requires-clause-takes c =
+    takes_whole c.before.before.before
 
 -- the whole segments went on, too
 module _ (c : After-put_whole-b) where
@@ -119,23 +86,15 @@ module _ (c : After-put_whole-b) where
       (λ j. eqb c.args.value 1) (k c.before.before.before.before.before.before + n c.before.before.before.before.before.before * width (F c.before.before.before.before.before.before)) c.put_whole-b.result
   joined = put-join {a = k c.before.before.before.before.before.before} (λ j h. refl) refl c.put_part-a.ensures.put_on c.put_whole-b.ensures.put_on
 
-pub nonzero_rem-left : goal.nonzero_rem-left
-nonzero_rem-left c =
-    omega (arith, w-is c.before.before.before.before.before.before.before.before.before, width-pos (F c.before.before.before.before.before.before.before.before.before))
-
-pub put_part-requires-2 : goal.put_part-requires-2
-put_part-requires-2 c =
+pub put_part-requires-2-clause-takes : goal.put_part-requires-2-clause-takes
+put_part-requires-2-clause-takes c =
     let p = c.requires in
     let few = rest-few c.before.before.before.before.before.before.before.before.before in
-    let one = width-pos (F c.before.before.before.before.before.before.before.before.before) in record {
-      have_bound = (omega (arith, c.put_whole-b.ensures.have_value_2, one), omega (arith, few, width-le (F c.before.before.before.before.before.before.before.before.before)), p.have_bound.1);
-      takes = takes-after {a = k c.before.before.before.before.before.before.before.before.before + n c.before.before.before.before.before.before.before.before.before * width (F c.before.before.before.before.before.before.before.before.before)} (λ j h. refl) (parts c.before.before.before.before.before.before.before.before.before) (joined c.before.before.before) (takes c.before.before.before.before.before.before.before.before.before);
-    }
+    let one = width-pos (F c.before.before.before.before.before.before.before.before.before) in
+    takes-after {a = k c.before.before.before.before.before.before.before.before.before + n c.before.before.before.before.before.before.before.before.before * width (F c.before.before.before.before.before.before.before.before.before)} (λ j h. refl) (parts c.before.before.before.before.before.before.before.before.before) (joined c.before.before.before) (takes c.before.before.before.before.before.before.before.before.before)
 
-pub returns : goal.returns
-returns c =
+pub returns-clause-put_on : goal.returns-clause-put_on
+returns-clause-put_on c =
     let have = c.put_whole-b.result.packer.have in
-    let rest = left c.before.before.before.before.before.before.before.before.before.before.before.before.before % c.width-w.result in record {
-      have_bound_2 = omega (arith, c.put_part-2.ensures.have_value, mod-lt (have + rest) (width-pos (F c.before.before.before.before.before.before.before.before.before.before.before.before.before)));
-      put_on = put-join {a = k c.before.before.before.before.before.before.before.before.before.before.before.before.before + n c.before.before.before.before.before.before.before.before.before.before.before.before.before * width (F c.before.before.before.before.before.before.before.before.before.before.before.before.before)} (λ j h. refl) (parts c.before.before.before.before.before.before.before.before.before.before.before.before.before) (joined c.before.before.before.before.before.before.before) c.put_part-2.ensures.put_on;
-    }
+    let rest = left c.before.before.before.before.before.before.before.before.before.before.before.before.before % c.width-w.result in
+    put-join {a = k c.before.before.before.before.before.before.before.before.before.before.before.before.before + n c.before.before.before.before.before.before.before.before.before.before.before.before.before * width (F c.before.before.before.before.before.before.before.before.before.before.before.before.before)} (λ j h. refl) (parts c.before.before.before.before.before.before.before.before.before.before.before.before.before) (joined c.before.before.before.before.before.before.before) c.put_part-2.ensures.put_on

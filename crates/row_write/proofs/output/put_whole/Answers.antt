@@ -16,43 +16,26 @@ use Rattle.row_write.proofs.output.put_whole.Goals as goal
 abbrev Else-n-eq0 : Type 0
 Else-n-eq0 = Lts.Else1 Tie.the-claims Reads.Pre Reads.Post Tie.handed_clauses
 
-pub returns-then-n-eq0 : goal.returns-then-n-eq0
-returns-then-n-eq0 c =
-    let a = c.args in
-    let F = a.format in
-    let none : a.n * width F ≡ 0 = ap (λ (k : ℕ). k * width F) c.if-n-eq0.true ∙ zero-mul (width F) in record {
-      have_value_2 = c.requires.have_value.0;
-      put_on = record {
-        on = λ R q old d g.
-            subst (λ (k : ℕ). Packed F R q old a.store a.out.now k a.o) (omega (arith, none)) g.packed;
-      };
-    }
-
 -- where there is a segment
 module _ (c : Else-n-eq0) where
   some : 1 ≤ c.args.n
   some = omega (arith, c.if-n-eq0.false)
 
-pub run-v-requires : goal.run-v-requires
-run-v-requires c =
+pub run-v-requires-clause-room_for : goal.run-v-requires-clause-room_for
+run-v-requires-clause-room_for c =
     let a = c.args in
     let p = c.requires.have_value in
-    let g = c.requires.takes in record {
-      growing = run-growing a.format g.0 g.1 g.2 a.store a.value a.n p.1 (some c.before.before.before) p.0 g.4;
-      value_bound = p.1;
-      room_for = λ e. sent-room g.4.packed.sent _
-          (run-next a.format g.0 g.1 g.2 a.store a.value a.n p.1 (some c.before.before.before) p.0 g.4) e;
-    }
+    let g = c.requires.takes in
+    λ e. sent-room g.4.packed.sent _
+    (run-next a.format g.0 g.1 g.2 a.store a.value a.n p.1 (some c.before.before.before) p.0 g.4) e
 
-pub returns : goal.returns
-returns c =
+pub returns-clause-put_on : goal.returns-clause-put_on
+returns-clause-put_on c =
     let a = c.args in
     let p = c.requires.have_value in
-    let run = c.run-v in record {
-      have_value_2 = p.0;
-      put_on = record {
-        on = λ R q old d g.
-            packed-run a.format R q old a.store a.value a.n p.1 (some c.before.before.before.before.before.before.before) p.0 g _ _ run.auto.out refl
-            run.ensures;
-      };
+    let run = c.run-v in
+    record {
+      on = λ R q old d g.
+          packed-run a.format R q old a.store a.value a.n p.1 (some c.before.before.before.before.before.before.before) p.0 g _ _ run.auto.out refl
+          run.ensures;
     }

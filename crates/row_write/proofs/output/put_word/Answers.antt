@@ -18,10 +18,6 @@ use Rattle.row_write.proofs.output.put_word.Goals as goal
 abbrev After-add : Type 0
 After-add = Lts.After-add Tie.the-claims Reads.Pre Reads.Post Tie.handed_clauses
 
-pub add-requires : goal.add-requires
-add-requires c =
-    (omega (arith, c.requires.have_bound.0, width-le c.args.format), c.requires.takes.4.packed.low, c.requires.have_bound.1, c.requires.have_bound.2)
-
 -- with the rows added
 module _ (c : After-add) where
   abbrev more : Output
@@ -41,12 +37,10 @@ pub take_whole-requires : goal.take_whole-requires
 take_whole-requires c =
     takes-after {b = 0} (λ j h. refl) refl c.take_whole-once.ensures.put_on (takes c.before.before.before.before.before)
 
-pub returns : goal.returns
-returns c =
+pub returns-clause-put_on : goal.returns-clause-put_on
+returns-clause-put_on c =
     let F = c.args.format in
     let have = c.add.ensures.have in
-    let most : c.add.result.have ≤ width F + width F = omega (arith, have, c.requires.have_bound, width-ge F) in record {
-      have_value = taken_twice (width F) _ _ _ (width-pos F) most c.take_whole-once.ensures.format_value c.take_whole.ensures.format_value ∙ ap (λ (n : ℕ). n % width F) have;
-      put_on = put-join {a = c.args.k} {b = 0} (λ j h. absurd (omega arith)) (omega arith)
-          (put-join {a = c.args.k} {b = 0} (λ j h. absurd (omega arith)) (omega arith) (added c.before.before.before.before.before.before.before.before.before) c.take_whole-once.ensures.put_on) c.take_whole.ensures.put_on;
-    }
+    let most : c.add.result.have ≤ width F + width F = omega (arith, have, c.requires.have_bound, width-ge F) in
+    put-join {a = c.args.k} {b = 0} (λ j h. absurd (omega arith)) (omega arith)
+    (put-join {a = c.args.k} {b = 0} (λ j h. absurd (omega arith)) (omega arith) (added c.before.before.before.before.before.before.before.before.before) c.take_whole-once.ensures.put_on) c.take_whole.ensures.put_on

@@ -31,11 +31,6 @@ module _ (c : Then-full) where
       let h = leb-true w.result c.args.o.packer.have (sym c.full.ensures ∙ c.if-full.true) in
       omega (arith, w.ensures, h)
 
-pub take-cut-requires : goal.take-cut-requires
-take-cut-requires c =
-    let w = c.width-width.ensures in
-    (omega (arith, w, width-le c.args.format), omega (arith, w, whole c.before), c.requires.4.packed.low)
-
 -- it is taken
 module _ (c : After-take-cut) where
   cut-is : Split (width c.args.format) c.args.o.packer c.take-cut.result
@@ -43,34 +38,21 @@ module _ (c : After-take-cut) where
       subst (λ (n : ℕ). Split n c.args.o.packer c.take-cut.result)
       c.width-width.ensures c.take-cut.ensures
 
-pub emit_segment-v-requires : goal.emit_segment-v-requires
-emit_segment-v-requires c =
+pub emit_segment-v-requires-clause-room_for : goal.emit_segment-v-requires-clause-room_for
+emit_segment-v-requires-clause-room_for c =
     let F = c.args.format in
     let g = c.requires in
     let p = g.4.packed in
-    let all : g.3 ≤ g.0 = omega (arith, g.4.within) in record {
-      growing = take-growing F g.0 g.1 g.2 c.args.store p all c.take-cut.result (whole c.before.before.before.before) (cut-is c.before.before.before);
-      room_for = λ e. sent-room p.sent _
-          (take_next F g.0 g.1 g.2 c.args.store p all c.take-cut.result (whole c.before.before.before.before) (cut-is c.before.before.before)) e;
-    }
+    let all : g.3 ≤ g.0 = omega (arith, g.4.within) in
+    λ e. sent-room p.sent _
+    (take_next F g.0 g.1 g.2 c.args.store p all c.take-cut.result (whole c.before.before.before.before) (cut-is c.before.before.before)) e
 
-pub returns-then-full : goal.returns-then-full
+pub returns-then-full-clause-put_on : goal.returns-then-full-clause-put_on
 unfolding all_set
-returns-then-full c =
+returns-then-full-clause-put_on c =
     let h = whole c.before.before.before.before.before.before.before.before in
     let split = cut-is c.before.before.before.before.before.before.before in
-    let emit = c.emit_segment-v in record {
-      format_value = (λ g. omega (arith, split.have), λ g. absurd (omega (arith, h)));
-      put_on = put-none (λ j. false)
-          (λ R q old d p all. packed-taken c.args.format R q old c.args.store p all c.take-cut.result h split _ _
-          emit.auto.out refl (emit.ensures _ c.full-then-full.ensures));
-    }
-
-pub returns : goal.returns
-returns c =
-    let w = c.width-width in
-    let have = c.args.o.packer.have in
-    let short : have < w.result = leb-false w.result have (sym c.full.ensures ∙ c.if-full.false) in record {
-      format_value = (λ g. absurd (omega (arith, w.ensures, short)), λ g. refl);
-      put_on = put-none (λ j. false) (λ R q old d p all. p);
-    }
+    let emit = c.emit_segment-v in
+    put-none (λ j. false)
+    (λ R q old d p all. packed-taken c.args.format R q old c.args.store p all c.take-cut.result h split _ _
+    emit.auto.out refl (emit.ensures _ c.full-then-full.ensures))
