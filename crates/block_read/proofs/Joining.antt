@@ -134,19 +134,22 @@ module _ (F : Format) (b : List ℕ) (c : Cursor) (n : ℕ) (r : Cursor) where
   }
 
   -- a row by itself, put back into a block of rows, is a row of the block
-  pub row-of-block : (even : Bool) (x y : List ℕ) (at : ℕ) → at + block_segments ≤ length x
-      → (even ≡ false → n ≤ block_segments) → RowTaken F b c n even (take block_segments (drop at x)) 0 y r
-      → RowTaken F b c n even x at (put_mid at block_segments x y) r
+  pub row-of-block : (even : Bool) (x y : List ℕ) (at end : ℕ) → end ≡ at + block_segments → end ≤ length x
+      → (even ≡ false → n ≤ block_segments) → RowTaken F b c n even (take (end - at) (drop at x)) 0 y r
+      → RowTaken F b c n even x at (put_mid at (end - at) x y) r
   unfolding word_at
-  row-of-block even x y at h few t = record {
+  row-of-block even x y at end e h few t = record {
     goes = t.goes;
     words = λ o a i l.
-        part-inside x y at block_segments h long (cond even 0 i) (within-row even n i few l)
+        part-inside x y at (end - at) fits long (cond even 0 i) (omega (arith, within-row even n i few l))
         ∙ let z : 0 + cond even 0 i ≡ cond even 0 i = omega arith in rw z at (t.words o a i l);
-    long = part-long x y at block_segments h long;
-    before = part-before x y at block_segments h long;
-    behind = part-behind x y at block_segments h long;
+    long = part-long x y at (end - at) fits long;
+    before = part-before x y at (end - at) fits long;
+    behind = λ i l. part-behind x y at (end - at) fits long i (omega arith);
   }
     where
-      long : length y ≡ block_segments
-      long = t.long ∙ search (rules, places)
+      fits : at + (end - at) ≤ length x
+      fits = omega arith
+
+      long : length y ≡ end - at
+      long = t.long ∙ part-length x at end (omega arith) h
