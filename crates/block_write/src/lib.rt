@@ -12,7 +12,7 @@ ghost use Rattle.meaning.specs.declared.Format.{Format};
 ghost use Rattle.meaning.specs.declared.Format.TheVariants.{Ewah};
 ghost use Rattle.ewah_write.specs.Drafts as ewah;
 ghost use Rattle.body_write.specs.Bodies.{Growing, RoomFor, Emitted};
-ghost use Rattle.block_write.specs.Rowed.{row_segments, CleanWord, Joined};
+ghost use Rattle.block_write.specs.Rowed.{row_length, row_segments, CleanWord, Joined};
 
 use body_write::writer;
 use ewah::marker;
@@ -20,6 +20,13 @@ use ewah::marker::Marker;
 use ewah_write::writer::Writer;
 use meaning::{Format, MOST_DIRTY};
 use words::rows;
+
+// The words that a row of n segments has: one where all are alike.
+pub fn row_length(n: u32, even: bool) -> usize
+    ensures { result ≡ row_length n even }
+{
+    if even { 1 } else { n as usize }
+}
 
 // The value of the clean segments whose word is x.
 fn clean_value(x: u32) -> u32
