@@ -1,16 +1,21 @@
 -- Set bits of vectors and of parts of a list of words, as sums of what each word has.
 -- Assumes nothing.
 use Prim.Native.Nat.{ℕ, zero, suc, ◌+◌, ◌-◌, ◌*◌, ◌^◌, ◌≤◌, ◌<◌}
-use mathlib.Core.Path.{◌≡◌, refl, ap, ◌∙◌}
-use mathlib.Core.List.{List}
-use lib.ListN.{get_or, take, drop, replicate, get_or-replicate}
+use mathlib.Core.Path.{◌≡◌, refl, sym, ap, ◌∙◌}
+use mathlib.Core.List.{List, []}
+use lib.ListN.{length, get_or, take, drop, replicate, get_or-replicate}
+use lib.Seq.{take-length, get_or-take, get_or-drop}
+use Rattle.std.proofs.lemmas.List.{drop-drop}
+use lib.ListN.{length-drop}
 use native.Mathlib.Numerals.{add-one}
+use native.Mathlib.Nat.{zero-add}
 use native.Mathlib.Omega.{arith}
 use Rattle.meaning.specs.Rows.{sum_below, count_below}
 use Rattle.meaning.specs.Limits.{most_segments}
 use Rattle.meaning.specs.Segment.{bit_at, is_set, ones}
 use Rattle.laws.proofs.Counting.{count-le, zero-count, ones-block}
 use Rattle.laws.proofs.Sums.{sum-ext, sum-zero, sum-join}
+use Rattle.std.specs.Simd.{first_chunks}
 use Rattle.words.specs.Sums.{Added, PartOf}
 use Rattle.words.proofs.BitLaws.{bit-set}
 use Rattle.popcount.specs.Counts.{lanes, pair_size, block_size, set_bits, set_in}
@@ -108,9 +113,11 @@ set-join x at m n =
     (sum-ext n (λ i. set_at x (at + (m + i))) (λ i. set_at x (at + m + i))
     (λ i l. ap (set_at x) (omega arith)))
 
--- the vectors of a pair
-pub set_pair : (x : List ℕ) (at : ℕ) → set_in x at pair_size ≡ set_in x at lanes + set_in x (at + lanes) lanes
-set_pair x at = set-join x at lanes lanes
+-- the adder's sum of two parts that follow one another and of a third vector
+pub pair-added : {x a b c d e : List ℕ} {at : ℕ} → PartOf lanes x at a → PartOf lanes x (at + lanes) b → Added lanes a b c d e
+    → set_bits d + 2 * set_bits e ≡ set_in x at pair_size + set_bits c
+pair-added {x = x} {a = a} {b = b} {c = c} {d = d} {e = e} {at = at} p q s =
+    omega (arith, set-added a b c d e s, part-bits p, part-bits q, set-join x at lanes lanes)
 
 -- the pairs of a block
 pub set-block : (x : List ℕ) (at : ℕ)
@@ -134,9 +141,13 @@ pub part-set : (x : List ℕ) (at n : ℕ) → ones 32 (take n (drop at x)) ≡ 
 unfolding set_in
 part-set x at n = ones-block 32 x at n
 
-pub set-none : (x : List ℕ) (at : ℕ) → set_in x at (at - at) ≡ 0
+-- all words
+pub set-all : (x : List ℕ) → ones 32 x ≡ set_in x 0 (length x)
+set-all x = ap (ones 32) (sym (take-length x)) ∙ part-set x 0 (length x)
+
+pub set-none : (x : List ℕ) (at : ℕ) → set_in x at 0 ≡ 0
 unfolding set_in sum_below
-set-none x at = let e : at - at ≡ 0 = omega arith in rw e
+set-none x at = refl
 
 -- a word more
 pub set_next : (x : List ℕ) (at n : ℕ) → set_in x at (n + 1) ≡ set_in x at n + set_at x (at + n)
@@ -147,32 +158,56 @@ pub set-le : (x : List ℕ) (at n : ℕ) → set_in x at n ≤ n * 32
 unfolding set_in
 set-le x at n = sum-most (λ i. set_at x (at + i)) (λ i. count-le 32 (is_set (get_or x (at + i) 0))) n
 
--- ---- words from `from` to i, counted so far
+-- ---- the first i words, counted so far
 
-module _ (x : List ℕ) (from i : ℕ) (h : from ≤ i) where
+module _ (x : List ℕ) (i n : ℕ) (e : n ≡ set_in x 0 i) where
   -- the next word
-  pub each_next : (n : ℕ) → n ≡ set_in x from (i - from) → n + set_at x i ≡ set_in x from (i + 1 - from)
-  each_next n e =
-      let p : from + (i - from) ≡ i = omega arith in
-      let q : i + 1 - from ≡ i - from + 1 = omega arith in
-      rw (q, set_next x from (i - from), p) (omega (arith, e))
-
-  -- the next block, of whose set bits 16 times s have left the planes
-  pub block-next : (n s v v' : ℕ) → v + 16 * n ≡ set_in x from (i - from)
-      → v' + 16 * s ≡ set_in x i block_size + v → v' + 16 * (n + s) ≡ set_in x from (i + block_size - from)
-  block-next n s v v' p q =
-      let o : from + (i - from) ≡ i = omega arith in
-      let r : i + block_size - from ≡ i - from + block_size = omega arith in
-      rw (r, set-join x from (i - from) block_size, o) (omega (arith, p, q))
+  pub each_next : n + set_at x i ≡ set_in x 0 (i + 1)
+  each_next = let z : 0 + i ≡ i = omega arith in rw (set_next x 0 i, z) (ap (λ (m : ℕ). m + set_at x i) e)
 
   -- what is counted fits a word
-  pub fits_word : i ≤ from + most_segments → (m : ℕ) → m ≡ set_in x from (i - from) → m < 2 ^ 32
-  fits_word l m e = omega (arith, e, set-le x from (i - from))
+  pub fits_word : i ≤ most_segments → n < 2 ^ 32
+  fits_word l = omega (arith, e, set-le x 0 i)
 
--- a part, and what is behind it up to its end
-pub set-parts : (x : List ℕ) (from mid to : ℕ) → from ≤ mid → mid ≤ to
-    → set_in x from (mid - from) + set_in x mid (to - mid) ≡ set_in x from (to - from)
-set-parts x from mid to h l =
-    let o : from + (mid - from) ≡ mid = omega arith in
-    let r : to - from ≡ mid - from + (to - mid) = omega arith in
-    rw (r, set-join x from (mid - from) (to - mid), o) refl
+-- ---- words in blocks
+
+-- one of the blocks
+pub chunk-is : (n k i : ℕ) (x : List ℕ) → i < k → get_or (first_chunks n k x) i [] ≡ take n (drop (i * n) x)
+chunk-is n zero i x h = absurd (omega arith)
+chunk-is n (suc k) zero x h = let z : 0 * n ≡ 0 = omega arith in rw z
+chunk-is n (suc k) (suc i) x h =
+    let e : suc i * n ≡ n + i * n = omega arith in
+    chunk-is n k i (drop n x) (omega arith) ∙ rw e (ap (take n) (drop-drop (i * n) n x))
+
+-- a part's own words
+pub part-own : (x : List ℕ) (at n : ℕ) → set_in (take n (drop at x)) 0 n ≡ set_in x at n
+unfolding set_in
+part-own x at n =
+    sum-ext n (λ w. set_at (take n (drop at x)) (0 + w)) (λ w. set_at x (at + w))
+    (λ w l. ap (set_at (take n (drop at x))) (zero-add w) ∙ ap (λ (y : ℕ). count_below 32 (is_set y)) (get_or-take n (drop at x) w 0 l ∙ get_or-drop at x w 0))
+
+-- the words behind a place
+pub set-behind : (x : List ℕ) (at : ℕ) → at ≤ length x → ones 32 (drop at x) ≡ set_in x at (length x - at)
+set-behind x at h =
+    ap (ones 32) (sym (take-length (drop at x)) ∙ ap (λ (n : ℕ). take n (drop at x)) (length-drop at x)) ∙ part-set x at (length x - at)
+
+-- the blocks before block i, of whose set bits 16 * n have left the planes, and that one
+pub block-next : (x : List ℕ) (i n s v v' : ℕ) → v + 16 * n ≡ set_in x 0 (i * block_size)
+    → v' + 16 * s ≡ set_in (take block_size (drop (i * block_size) x)) 0 block_size + v
+    → v' + 16 * (n + s) ≡ set_in x 0 ((i + 1) * block_size)
+block-next x i n s v v' p q =
+    let m = i * block_size in
+    let e : (i + 1) * block_size ≡ m + block_size = omega arith in
+    let z : 0 + m ≡ m = omega arith in
+    rw (e, set-join x 0 m block_size, z) (omega (arith, p, q, part-own x m block_size))
+
+-- the blocks, and what is behind them
+pub blocks-behind : (x : List ℕ) (m v c : ℕ) → m ≤ length x → v ≡ set_in x 0 m → c ≡ ones 32 (drop m x) → v + c ≡ ones 32 x
+blocks-behind x m v c h p q =
+    let e : length x ≡ m + (length x - m) = omega arith in
+    let z : 0 + m ≡ m = omega arith in
+    omega (arith, p, q, set-behind x m h, set-all x ∙ ap (set_in x 0) e ∙ set-join x 0 m (length x - m) ∙ ap (λ (k : ℕ). set_in x 0 m + set_in x k (length x - m)) z)
+
+-- of so few words the count fits a word
+pub ones-fit : (x : List ℕ) → length x ≤ most_segments → ones 32 x < 2 ^ 32
+ones-fit x l = fits_word x (length x) (ones 32 x) (set-all x) l

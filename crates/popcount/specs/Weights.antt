@@ -1,12 +1,12 @@
 -- What sums and planes of digits hold.
 -- Assumes nothing.
 use Rattle.std.specs.Prelude.{ℕ, ◌+◌, ◌*◌}
-use Rattle.popcount.specs.Counts.{set_bits}
-use Rattle.popcount.specs.declared.vector.Sums.{Sums}
+use Rattle.popcount.specs.Counts.{lanes, set_bits}
+use Rattle.words.specs.declared.vectors.Sums.{Sums}
 use Rattle.popcount.specs.declared.planes.Planes.{Planes}
 
 -- how many set bits were added up to these digits and carries
-unfoldable pub summed : Sums → ℕ
+unfoldable pub summed : Sums lanes → ℕ
 unfolding set_bits
 summed s = set_bits s.digits + 2 * set_bits s.carries
 

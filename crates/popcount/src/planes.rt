@@ -1,12 +1,14 @@
 // Counters that lie across vectors, the planes: at each place a plane has one binary digit of how many bits were set
 // there so far. The carries out of the highest plane leave with each block. The contracts speak of sums over all places
 // alone.
-ghost use Rattle.std.specs.Prelude.{◌≡◌, ◌+◌, ◌*◌, ◌≤◌, length};
+ghost use Rattle.std.specs.Prelude.{◌≡◌, ◌+◌, ◌*◌, ◌≤◌};
 ghost use Rattle.popcount.specs.Counts.{pair_size, block_size, set_bits, set_in};
 ghost use Rattle.popcount.specs.Weights.{summed, weight};
 
-use crate::vector;
-use crate::vector::{LANES, Sums};
+use crate::{BLOCK, vector};
+use vector::LANES;
+use words::vectors;
+use words::vectors::Sums;
 
 // How many words two vectors have.
 const PAIR: usize = 2 * LANES;
@@ -25,85 +27,64 @@ pub struct Planes {
 pub fn empty() -> Planes
     ensures { weight result ≡ 0 }
 {
-    let zeros: [u32; LANES] = [0; LANES];
     Planes {
-        ones: zeros,
-        twos: zeros,
-        fours: zeros,
-        eights: zeros,
-        sixteens: zeros,
+        ones: [0; LANES],
+        twos: [0; LANES],
+        fours: [0; LANES],
+        eights: [0; LANES],
+        sixteens: [0; LANES],
     }
 }
 
 // The two vectors of words from `at` on added to a vector of ones.
-fn add_pair(ws: &[u32], at: usize, ones: [u32; LANES]) -> Sums
-    requires { at + pair_size ≤ length ws.now }
-    ensures { summed result ≡ set_in ws.now at pair_size + set_bits ones }
+fn add_pair(block: &[u32; BLOCK], at: usize, ones: [u32; LANES]) -> Sums<LANES>
+    requires { at + pair_size ≤ block_size }
+    ensures { summed result ≡ set_in block.now at pair_size + set_bits ones }
 {
-    vector::add(vector::load(ws, at), vector::load(ws, at + LANES), ones)
-}
-
-// The same, added to the digits of the pair before.
-fn next_pair(ws: &[u32], at: usize, before: Sums) -> Sums
-    requires { at + pair_size ≤ length ws.now }
-    ensures { summed result ≡ set_in ws.now at pair_size + set_bits before.digits }
-{
-    let ones = before.digits;
-    add_pair(ws, at, ones)
+    vectors::add(
+        vectors::part(block, at),
+        vectors::part(block, at + LANES),
+        ones,
+    )
 }
 
 // The carries of two sums added to a vector of their weight.
-fn add_carries(s: Sums, t: Sums, plane: [u32; LANES]) -> Sums
+fn add_carries(s: Sums<LANES>, t: Sums<LANES>, plane: [u32; LANES]) -> Sums<LANES>
     ensures { summed result ≡ set_bits s.carries + set_bits t.carries + set_bits plane }
 {
-    let a = s.carries;
-    let b = t.carries;
-    vector::add(a, b, plane)
+    vectors::add(s.carries, t.carries, plane)
 }
 
-// The same, added to the digits of the carries before.
-fn next_carries(s: Sums, t: Sums, before: Sums) -> Sums
-    ensures { summed result ≡ set_bits s.carries + set_bits t.carries + set_bits before.digits }
+// A block of words added to the planes: 8 pairs of vectors, whose carries are twos, theirs fours, theirs eights, and theirs the
+// sixteens.
+pub fn add_block(block: &[u32; BLOCK], p: Planes) -> Planes
+    ensures { weight result + 16 * set_bits result.sixteens ≡ set_in block.now 0 block_size + weight p }
 {
-    let plane = before.digits;
-    add_carries(s, t, plane)
-}
-
-// The block of words from `at` on added to the planes: 8 pairs of vectors, whose carries are twos, theirs fours, theirs
-// eights, and theirs the sixteens.
-pub fn add_block(ws: &[u32], at: usize, p: Planes) -> Planes
-    requires { at + block_size ≤ length ws.now }
-    ensures { weight result + 16 * set_bits result.sixteens ≡ set_in ws.now at block_size + weight p }
-{
-    let ones = p.ones;
-    let twos = p.twos;
-    let fours = p.fours;
-    let eights = p.eights;
-    let a0 = add_pair(ws, at, ones);
-    let a1 = next_pair(ws, at + PAIR, a0);
-    let a2 = next_pair(ws, at + 2 * PAIR, a1);
-    let a3 = next_pair(ws, at + 3 * PAIR, a2);
-    let a4 = next_pair(ws, at + 4 * PAIR, a3);
-    let a5 = next_pair(ws, at + 5 * PAIR, a4);
-    let a6 = next_pair(ws, at + 6 * PAIR, a5);
-    let a7 = next_pair(ws, at + 7 * PAIR, a6);
-    let b0 = add_carries(a0, a1, twos);
-    let b1 = next_carries(a2, a3, b0);
-    let b2 = next_carries(a4, a5, b1);
-    let b3 = next_carries(a6, a7, b2);
-    let c0 = add_carries(b0, b1, fours);
-    let c1 = next_carries(b2, b3, c0);
-    let d = add_carries(c0, c1, eights);
-    let left_ones = a7.digits;
-    let left_twos = b3.digits;
-    let left_fours = c1.digits;
-    let left_eights = d.digits;
+    let a0 = add_pair(block, 0, p.ones);
+    let a1 = add_pair(block, PAIR, a0.digits);
+    let a2 = add_pair(block, 2 * PAIR, a1.digits);
+    let a3 = add_pair(block, 3 * PAIR, a2.digits);
+    let a4 = add_pair(block, 4 * PAIR, a3.digits);
+    let a5 = add_pair(block, 5 * PAIR, a4.digits);
+    let a6 = add_pair(block, 6 * PAIR, a5.digits);
+    let a7 = add_pair(block, 7 * PAIR, a6.digits);
+    let b0 = add_carries(a0, a1, p.twos);
+    let b1 = add_carries(a2, a3, b0.digits);
+    let b2 = add_carries(a4, a5, b1.digits);
+    let b3 = add_carries(a6, a7, b2.digits);
+    let c0 = add_carries(b0, b1, p.fours);
+    let c1 = add_carries(b2, b3, c0.digits);
+    let d = add_carries(c0, c1, p.eights);
+    let ones = a7.digits;
+    let twos = b3.digits;
+    let fours = c1.digits;
+    let eights = d.digits;
     let sixteens = d.carries;
     Planes {
-        ones: left_ones,
-        twos: left_twos,
-        fours: left_fours,
-        eights: left_eights,
+        ones,
+        twos,
+        fours,
+        eights,
         sixteens,
     }
 }
@@ -112,12 +93,8 @@ pub fn add_block(ws: &[u32], at: usize, p: Planes) -> Planes
 pub fn weigh(p: Planes) -> u32
     ensures { result ≡ weight p }
 {
-    let ones = p.ones;
-    let twos = p.twos;
-    let fours = p.fours;
-    let eights = p.eights;
-    vector::set_bits(ones)
-        + 2 * vector::set_bits(twos)
-        + 4 * vector::set_bits(fours)
-        + 8 * vector::set_bits(eights)
+    vector::set_bits(p.ones)
+        + 2 * vector::set_bits(p.twos)
+        + 4 * vector::set_bits(p.fours)
+        + 8 * vector::set_bits(p.eights)
 }

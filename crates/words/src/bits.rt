@@ -35,15 +35,13 @@ pub fn nth(x: u32, n: u32) -> u32
     ensures { (result ≡ nth_below 32 (is_set x) n) × (result < 32) }
 {
     let mut passed = 0;
-    let mut j = 0;
-    while j < 32 {
+    for j in 0..32 {
         if has(x, j) {
             if passed == n {
                 return j;
             }
             passed += 1;
         }
-        j += 1;
     }
-    j
+    0
 }

@@ -2,4 +2,6 @@
 #![tactic(auto)]
 
 pub mod bits;
+pub mod frame;
 pub mod rows;
+pub mod vectors;

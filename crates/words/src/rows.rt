@@ -1,5 +1,5 @@
-// Rows laid out in segments: how many segments, and which bits of one are rows. A segment has 32 rows in plain words,
-// and in a body the width of its format.
+// Rows laid out in segments: how many segments, and which bits of one are rows. A segment has 32 rows in plain words and in EWAH
+// bodies, and 31 in WAH bodies.
 ghost use Rattle.std.specs.Prelude.{◌≡◌, cond, ℕ, ◌%◌, ◌-◌, ◌^◌, ◌≤◌, ◌<◌, leb};
 ghost use Rattle.meaning.specs.Segment.{segment_count, last_rows, last_limit, rows_in, all_set, clean, mixed, kind};
 ghost use Rattle.meaning.specs.Format.{width};
@@ -8,30 +8,30 @@ ghost use Rattle.meaning.specs.declared.Format.{Format};
 use crate::bits;
 use meaning::Format;
 
-// ---- plain words, and EWAH
+// ---- segments of W rows
 
 // How many segments that many rows have.
-pub fn segment_count(rows: u32) -> u32
-    requires { rows ≤ 4294967264 }
-    ensures { result ≡ segment_count 32 rows }
+pub fn segment_count<const W: u32>(rows: u32) -> u32
+    requires { (2 ≤ W) × (W ≤ 32) × (rows ≤ 4294967264) }
+    ensures { result ≡ segment_count W rows }
 {
-    (rows + 31) >> 5
+    (rows + (W - 1)) / W
 }
 
 // How many rows the last segment has.
-pub fn last_rows(rows: u32) -> u32
-    requires { 1 ≤ rows }
-    ensures { (result ≡ last_rows 32 rows) × (1 ≤ result) × (result ≤ 32) }
+pub fn last_rows<const W: u32>(rows: u32) -> u32
+    requires { (2 ≤ W) × (W ≤ 32) × (1 ≤ rows) }
+    ensures { (result ≡ last_rows W rows) × (1 ≤ result) × (result ≤ W) }
 {
-    ((rows - 1) & 31) + 1
+    (rows - 1) % W + 1
 }
 
-// Whether a word sets a pad bit as the last segment of that many rows.
-pub fn sets_pad(rows: u32, x: u32) -> bool
-    requires { 1 ≤ rows }
-    ensures { result ≡ leb (last_limit 32 rows) x }
+// Whether a word sets a pad bit as the last segment of that many rows. A shift tells it, with no mask to work out.
+pub fn sets_pad<const W: u32>(rows: u32, x: u32) -> bool
+    requires { (2 ≤ W) × (W ≤ 32) × (1 ≤ rows) }
+    ensures { result ≡ leb (last_limit W rows) x }
 {
-    bits::low_ones(last_rows(rows)) < x
+    (x as u64) >> last_rows::<W>(rows) != 0
 }
 
 // ---- either format
@@ -62,8 +62,8 @@ pub fn segments(format: Format, rows: u32) -> u32
     ensures { result ≡ segment_count (width format) rows }
 {
     match format {
-        Format::Ewah => segment_count(rows),
-        Format::Wah => (rows + 30) / 31,
+        Format::Ewah => segment_count::<32>(rows),
+        Format::Wah => segment_count::<31>(rows),
     }
 }
 
@@ -73,18 +73,9 @@ fn last_rows_of(format: Format, rows: u32) -> u32
     ensures { (result ≡ last_rows (width format) rows) × (1 ≤ result) × (result ≤ width format) }
 {
     match format {
-        Format::Ewah => last_rows(rows),
-        Format::Wah => (rows - 1) % 31 + 1,
+        Format::Ewah => last_rows::<32>(rows),
+        Format::Wah => last_rows::<31>(rows),
     }
-}
-
-// Whether a word of 31 bits sets a pad bit as the last WAH segment of that many rows. A shift by at most 31 tells it,
-// with no mask to work out before EWAH bodies too.
-pub fn wah_sets_pad(rows: u32, x: u32) -> bool
-    requires { 1 ≤ rows }
-    ensures { result ≡ leb (last_limit 31 rows) x }
-{
-    x >> last_rows_of(Format::Wah, rows) != 0
 }
 
 // The bits of the last segment that are rows.

@@ -1,12 +1,8 @@
--- `popcount::planes::add_pair` meets its contract: `set_pair`, and what `vector::add` promises.
--- Assumes nothing.
-use mathlib.Core.Path.{◌∙◌}
-use Rattle.popcount.proofs.Counted.{set_pair, part-bits}
-use native.Mathlib.Omega.{arith}
+-- `popcount::planes::add_pair` meets its contract, by `pair-added`. Assumes nothing.
+use Rattle.popcount.specs.Weights.{summed}
+use Rattle.popcount.proofs.Counted.{pair-added}
 use Rattle.popcount.proofs.planes.add_pair.Goals as goal
 
 pub returns : goal.returns
-returns c =
-    let a = c.args in
-    c.add.ensures
-    ∙ omega (arith, part-bits c.load-2.ensures, part-bits c.load.ensures, set_pair a.ws.now a.at)
+unfolding summed
+returns c = pair-added c.part.ensures c.part-2.ensures c.add.ensures

