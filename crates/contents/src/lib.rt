@@ -9,7 +9,7 @@ ghost use Rattle.meaning.specs.Index.{format_of, row_count, bitmap_count, entry_
 ghost use Rattle.laws.specs.Laws.{HeadFacts, EntryFacts};
 ghost use Rattle.meaning.specs.NewIndex.{index_room};
 
-use meaning::{ENTRY_WORDS, EWAH_KIND, Format, HEAD_WORDS, MOST_INDEX_WORDS, WAH_KIND};
+use meaning::{ENTRY_WORDS, Format, HEAD_WORDS, MOST_INDEX_WORDS};
 
 // A word as a number of words.
 pub fn wide(x: u32) -> usize
@@ -23,33 +23,26 @@ pub fn format(index: &[u32]) -> Format
     requires { head_words ≤ length index.now }
     ensures { result ≡ format_of index.now }
 {
-    if index[0] == WAH_KIND {
-        return Format::Wah;
-    }
-    Format::Ewah
+    Format::try_from(index[0]).unwrap_or(Format::Ewah)
 }
 
 // What word 0 states of an index with bodies of a format.
 pub fn kind(format: Format) -> u32
     ensures { result ≡ kind_of format }
 {
-    match format {
-        Format::Ewah => EWAH_KIND,
-        Format::Wah => WAH_KIND,
-    }
+    u32::from(format)
 }
 
 // Of a buffer of so many words those that a new index can take.
+#[tactic(auto, unfolding(meaning::specs::NewIndex::index_room))]
 pub fn room(words: usize) -> usize
     ensures { result ≡ index_room words }
 {
-    if words < MOST_INDEX_WORDS {
-        return words;
-    }
-    MOST_INDEX_WORDS
+    words.min(MOST_INDEX_WORDS)
 }
 
 // How many rows each bitmap has.
+#[tactic(auto, unfolding(meaning::specs::Index::row_count))]
 pub fn rows(index: &[u32]) -> u32
     requires { head_words ≤ length index.now }
     ensures { result ≡ row_count index.now }
@@ -58,6 +51,7 @@ pub fn rows(index: &[u32]) -> u32
 }
 
 // How many bitmaps there are.
+#[tactic(auto, unfolding(meaning::specs::Index::bitmap_count))]
 pub fn bitmaps(index: &[u32]) -> u32
     requires { head_words ≤ length index.now }
     ensures { result ≡ bitmap_count index.now }
@@ -66,6 +60,7 @@ pub fn bitmaps(index: &[u32]) -> u32
 }
 
 // Where entry k stands.
+#[tactic(auto, unfolding(meaning::specs::Index::entry_place))]
 pub fn entry_place(index: &[u32], k: u32) -> usize
     requires { k ≤ most_bitmaps }
     ensures { (result ≡ entry_place index.now k) × (result ≤ most_contents) }

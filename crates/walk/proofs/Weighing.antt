@@ -6,7 +6,7 @@ use mathlib.Core.List.{List}
 use native.Mathlib.Nat.{zero-div}
 use native.Mathlib.Numerals.{add-one}
 use native.Mathlib.Omega.{arith}
-use lib.ListN.{length, replicate}
+use lib.ListN.{replicate}
 use Rattle.meaning.specs.Limits.{most_named, counter_planes}
 use Rattle.meaning.specs.Rows.{sum_below}
 use Rattle.meaning.specs.Segment.{bit_at}
@@ -35,30 +35,6 @@ low_bit : (p : code.Piece) (j : ℕ) → bit_in p j ≤ 1
 low_bit (Clean v n) j = omega arith
 low_bit (Dirty x) j = omega (arith, bit-lt x j)
 
-module _ (s : Survey) (p : code.Piece) where
-  pub weigh-clean : Room s → (v n least : ℕ) → p ≡ Clean v n → least ≡ min s.least n
-      → Weighed s p (record { least = least; ones = s.ones + v; dirty = s.dirty; planes = s.planes })
-  weigh-clean room v n least e l =
-      record {
-        least-is = rw e l;
-        ones_is = rw e refl;
-        dirty-is = rw e (omega arith);
-        long = room.long;
-        counts = λ j h. rw e (omega arith);
-      }
-
-  pub weigh-dirty : (x least : ℕ) (planes : List ℕ) → p ≡ Dirty x → least ≡ min s.least 1
-      → (length planes ≡ counter_planes) × ((j : ℕ) → j < 32 → count_at planes j ≡ count_at s.planes j + bit_at x j)
-      → Weighed s p (record { least = least; ones = s.ones; dirty = s.dirty + 1; planes = planes })
-  weigh-dirty x least planes e l a =
-      record {
-        least-is = rw e l;
-        ones_is = rw e (omega arith);
-        dirty-is = rw e refl;
-        long = a.0;
-        counts = λ j h. rw e (a.1 j h);
-      }
-
 -- ---- the first m places
 
 -- planes that count nothing
@@ -67,7 +43,7 @@ unfolding count_at bit_at
 count-zero zero j = refl
 count-zero (suc k) j = rw (zero-div, count-zero k j)
 
-pub surveyed-none : (ns : List ℕ) → Surveyed ns 0 (record { least = 4294967295; ones = 0; dirty = 0; planes = replicate counter_planes 0 })
+pub surveyed-none : (ns : List Cursor) → Surveyed ns 0 (record { least = 4294967295; ones = 0; dirty = 0; planes = replicate counter_planes 0 })
 unfolding least_below sum_below
 surveyed-none ns = record { least-is = refl; ones_is = refl; dirty-is = refl; long = refl; counts = λ j h. count-zero counter_planes j }
 
@@ -76,7 +52,7 @@ unfolding least_below
 least-ext zero f g h = refl
 least-ext (suc m) f g h = ap₂ min (least-ext m f g (λ i l. h i (omega arith))) (h m (omega arith))
 
-module _ (ns : List ℕ) (m : ℕ) (s : Survey) (a : Surveyed ns m s) where
+module _ (ns : List Cursor) (m : ℕ) (s : Survey) (a : Surveyed ns m s) where
   pub surveyed-more : (r : Survey) → Weighed s (cursor_of ns m).piece r → Surveyed ns (m + 1) r
   unfolding least_below sum_below
   surveyed-more r w =
@@ -99,7 +75,7 @@ module _ (ns : List ℕ) (m : ℕ) (s : Survey) (a : Surveyed ns m s) where
       }
 
   -- it is the survey of any numbers that have the same cursors
-  pub surveyed-same : (ns' : List ℕ) → ((i : ℕ) → i < m → cursor_of ns' i ≡ cursor_of ns i) → Surveyed ns' m s
+  pub surveyed-same : (ns' : List Cursor) → ((i : ℕ) → i < m → cursor_of ns' i ≡ cursor_of ns i) → Surveyed ns' m s
   surveyed-same ns' h =
       record {
         least-is = a.least-is ∙ least-ext m (λ i. left_of (cursor_of ns i).piece) (λ i. left_of (cursor_of ns' i).piece) (λ i g. by left_of i g);

@@ -5,6 +5,7 @@ use Rattle.meaning.specs.Limits.{most_named, counter_planes}
 use Rattle.meaning.specs.Rows.{sum_below}
 use Rattle.meaning.specs.Segment.{bit_at}
 use Rattle.meaning.specs.declared.Format.{Format}
+use Rattle.ewah.specs.declared.cursor.Cursor.{Cursor}
 use Rattle.ewah.specs.declared.cursor.Piece as code
 use Rattle.ewah.specs.declared.cursor.Piece.TheVariants.{Clean, Dirty}
 use Rattle.ewah.specs.Cursors.{InOrder, left_of}
@@ -48,23 +49,21 @@ pub record Weighed (s : Survey) (p : code.Piece) (r : Survey) : Type 0 where
   pub counts : (j : ℕ) → j < 32 → count_at r.planes j ≡ count_at s.planes j + bit_in p j
 
 -- s is the survey of the first m places
-pub record Surveyed (ns : List ℕ) (m : ℕ) (s : Survey) : Type 0 where
-  pub least-is : s.least ≡ least_below m (λ i. left_of (cursor_of ns i).piece)
-  pub ones_is : s.ones ≡ sum_below m (λ i. ones_in (cursor_of ns i).piece)
-  pub dirty-is : s.dirty ≡ sum_below m (λ i. dirty_in (cursor_of ns i).piece)
+pub record Surveyed (cs : List Cursor) (m : ℕ) (s : Survey) : Type 0 where
+  pub least-is : s.least ≡ least_below m (λ i. left_of (cursor_of cs i).piece)
+  pub ones_is : s.ones ≡ sum_below m (λ i. ones_in (cursor_of cs i).piece)
+  pub dirty-is : s.dirty ≡ sum_below m (λ i. dirty_in (cursor_of cs i).piece)
   pub long : length s.planes ≡ counter_planes
-  pub counts : (j : ℕ) → j < 32 → count_at s.planes j ≡ sum_below m (λ i. bit_in (cursor_of ns i).piece j)
+  pub counts : (j : ℕ) → j < 32 → count_at s.planes j ≡ sum_below m (λ i. bit_in (cursor_of cs i).piece j)
 
--- the cursor at place i of a body b went n segments on, from any segment o, and its piece was counted in
-pub record Moved (F : Format) (b ns : List ℕ) (i n : ℕ) (ns' : List ℕ) (s r : Survey) : Type 0 where
-  pub long : length ns' ≡ length ns
-  pub others : (k : ℕ) → (k ≡ i → ⊥) → cursor_of ns' k ≡ cursor_of ns k
-  pub in_order : InOrder F b (cursor_of ns' i)
-  pub on : (o : ℕ) → CursorAt F b o (cursor_of ns i) → CursorAt F b (o + n) (cursor_of ns' i)
-  pub weighed : Weighed s (cursor_of ns' i).piece r
+-- the cursor c on a body b went n segments on, from any segment o, to c', and its piece was counted in
+pub record Moved (F : Format) (b : List ℕ) (c : Cursor) (n : ℕ) (c' : Cursor) (s r : Survey) : Type 0 where
+  pub in_order : InOrder F b c'
+  pub on : (o : ℕ) → CursorAt F b o c → CursorAt F b (o + n) c'
+  pub weighed : Weighed s c'.piece r
 
 -- all cursors of the list did
-pub record MovedAll (F : Format) (index list ns : List ℕ) (n : ℕ) (ns' : List ℕ) (s : Survey) : Type 0 where
-  pub long : length ns' ≡ length ns
-  pub on : (o : ℕ) → Standing F index list ns (length list) o → Standing F index list ns' (length list) (o + n)
-  pub surveyed : Surveyed ns' (length list) s
+pub record MovedAll (F : Format) (index list : List ℕ) (cs : List Cursor) (n : ℕ) (cs' : List Cursor) (s : Survey) : Type 0 where
+  pub long : length cs' ≡ length cs
+  pub on : (o : ℕ) → Standing F index list cs (length list) o → Standing F index list cs' (length list) (o + n)
+  pub surveyed : Surveyed cs' (length list) s

@@ -1,16 +1,14 @@
-// What the cursors of a query stand on: the stretch up to the first end of a piece,
-// and how many bitmaps have each row there.
-ghost use Rattle.std.specs.Prelude.{◌≡◌, List, ℕ, ◌≤◌, ◌<◌, min, length, get_or};
+// What the cursors of a query stand on: the stretch up to the first end of a piece, and how many bitmaps have each row there.
+ghost use Rattle.std.specs.Prelude.{◌≡◌, List, ℕ, ◌≤◌, ◌<◌, length, get_or};
 ghost use Rattle.meaning.specs.Limits.{most_named};
 ghost use Rattle.laws.specs.Laws.{HeadFacts, EntryFacts, IndexFacts};
 ghost use Rattle.meaning.specs.Index.{format_of, bitmap_count, body_at};
 ghost use Rattle.ewah.specs.Cursors.{ValueLow, InOrder, left_of};
-ghost use Rattle.walk.specs.Queries.{cursor_of, PlaceIn, PlacesIn, Listed, Standing};
+ghost use Rattle.walk.specs.Queries.{cursor_of, Listed, Standing};
 ghost use Rattle.walk.specs.Surveys.{Room, Weighed, Surveyed, Moved, MovedAll};
 
-use crate::query;
 use bodies::cursor;
-use ewah::cursor::Piece;
+use ewah::cursor::{Cursor, Piece};
 use meaning::{Format, PLANES};
 
 // The fewest segments that a piece has left, the places in a run of ones, those on a dirty word, and for each row the
@@ -25,21 +23,14 @@ pub struct Survey {
 
 // Of no places.
 pub fn nothing() -> Survey
-    ensures { (ns : List ℕ) → Surveyed ns 0 result }
+    ensures { (cs : List Cursor) → Surveyed cs 0 result }
 {
     Survey {
-        least: 0xFFFF_FFFF,
+        least: u32::MAX,
         ones: 0,
         dirty: 0,
         planes: [0; PLANES],
     }
-}
-
-// The smaller of two numbers.
-pub fn smaller(a: u32, b: u32) -> u32
-    ensures { result ≡ min a b }
-{
-    if a < b { a } else { b }
 }
 
 // One piece more.
@@ -48,103 +39,83 @@ fn weigh(s: Survey, piece: Piece) -> Survey
     requires room { Room s }
     ensures { Weighed s piece result }
 {
-    let planes = s.planes;
     match piece {
         Piece::Clean(value, n) => Survey {
-            least: smaller(s.least, n),
+            least: s.least.min(n),
             ones: s.ones + value,
-            dirty: s.dirty,
-            planes,
+            ..s
         },
         Piece::Dirty(x) => Survey {
-            least: smaller(s.least, 1),
-            ones: s.ones,
+            least: s.least.min(1),
             dirty: s.dirty + 1,
-            planes: counters::add(planes, x),
+            planes: counters::add(s.planes, x),
+            ..s
         },
     }
 }
 
-// Place i, whose bitmap is k: its cursor goes n segments on, and its piece is counted in.
-fn move_place(
-    format: Format,
-    index: &[u32],
-    k: u32,
-    numbers: &mut [u32],
-    i: usize,
-    n: u32,
-    s: Survey,
-) -> Survey
+// A cursor goes n segments on in the body of bitmap k, and its piece is counted in.
+fn move_place(format: Format, index: &[u32], k: u32, c: &mut Cursor, n: u32, s: Survey) -> Survey
     requires head_facts { HeadFacts index.now }
     requires entry_facts { EntryFacts index.now }
-    requires k_bound { (k < bitmap_count index.now) × (i < most_named) × PlaceIn numbers.old i
-        × (1 ≤ n) × (n ≤ left_of (cursor_of numbers.old i).piece) }
-    requires in_order { InOrder format (body_at index.now k) (cursor_of numbers.old i) }
+    requires k_bound { (k < bitmap_count index.now) × (1 ≤ n) × (n ≤ left_of c.old.piece) }
+    requires in_order { InOrder format (body_at index.now k) c.old }
     requires room { Room s }
-    ensures { Moved format (body_at index.now k)
-        numbers.old i n numbers.new s result }
+    ensures { Moved format (body_at index.now k) c.old n c.new s result }
 {
-    let c = query::cursor_at(numbers, i);
-    let d = cursor::advance(format, contents::body(index, k), c, n);
-    query::set_cursor(numbers, i, d);
-    let piece = d.piece;
-    weigh(s, piece)
+    *c = cursor::advance(format, contents::body(index, k), *c, n);
+    weigh(s, c.piece)
 }
 
 // Every cursor goes n segments on in its body, which has the index's format.
-pub fn advance(format: Format, index: &[u32], list: &[u32], numbers: &mut [u32], n: u32) -> Survey
+pub fn advance(
+    format: Format,
+    index: &[u32],
+    list: &[u32],
+    cursors: &mut [Cursor],
+    n: u32,
+) -> Survey
     requires format_value { format ≡ format_of index.now }
     requires head_facts { HeadFacts index.now }
     requires entry_facts { EntryFacts index.now }
     requires listed { Listed index.now list.now }
-    requires places_in { PlacesIn numbers.old (length list.now) × (1 ≤ n) × ((i : ℕ) → i < length list.now
-        → (n ≤ left_of (cursor_of numbers.old i).piece)
-        × InOrder (format_of index.now) (body_at index.now (get_or list.now i 0)) (cursor_of numbers.old i)) }
+    requires cursors_len { (length cursors.old ≡ length list.now) × (1 ≤ n) × ((i : ℕ) → i < length list.now
+        → (n ≤ left_of (cursor_of cursors.old i).piece)
+        × InOrder (format_of index.now) (body_at index.now (get_or list.now i 0)) (cursor_of cursors.old i)) }
     ensures { MovedAll (format_of index.now) index.now list.now
-        numbers.old n numbers.new result }
+        cursors.old n cursors.new result }
 {
     let mut s = nothing();
-    let mut i: usize = 0;
-    while i < list.len() {
-        let r = move_place(format, index, list[i], numbers, i, n, s);
-        s = r;
-        i += 1;
+    for i in 0..list.len() {
+        s = move_place(format, index, list[i], &mut cursors[i], n, s);
     }
     s
 }
 
 // A cursor for each place of the list, on the first piece of its body.
-pub fn open(format: Format, index: &[u32], list: &[u32], numbers: &mut [u32])
+pub fn open(format: Format, index: &[u32], list: &[u32], cursors: &mut [Cursor])
     requires format_value { format ≡ format_of index.now }
     requires index_facts { IndexFacts index.now }
     requires listed { Listed index.now list.now }
-    requires places_in { PlacesIn numbers.old (length list.now) }
-    ensures { (length numbers.new ≡ length numbers.old)
-        × Standing (format_of index.now) index.now list.now numbers.new
+    requires cursors_len { length cursors.old ≡ length list.now }
+    ensures { (length cursors.new ≡ length list.now)
+        × Standing (format_of index.now) index.now list.now cursors.new
         (length list.now) 0 }
 {
-    let mut i: usize = 0;
-    while i < list.len() {
-        let c = cursor::open(format, contents::body(index, list[i]));
-        query::set_cursor(numbers, i, c);
-        i += 1;
+    for i in 0..list.len() {
+        cursors[i] = cursor::open(format, contents::body(index, list[i]));
     }
 }
 
-// The survey of the first `len` places.
-pub fn all(numbers: &[u32], len: usize) -> Survey
-    requires { (len ≤ most_named) × PlacesIn numbers.now len
-        × ((i : ℕ) → i < len → ValueLow (cursor_of numbers.now i).piece) }
-    ensures { Surveyed numbers.now len result }
+// The survey of all places.
+pub fn all(cursors: &[Cursor]) -> Survey
+    requires { (length cursors.now ≤ most_named)
+        × ((i : ℕ) → i < length cursors.now → ValueLow (cursor_of cursors.now i).piece) }
+    ensures { Surveyed cursors.now (length cursors.now) result }
 {
     let mut s = nothing();
-    let mut i: usize = 0;
-    while i < len {
-        let c = query::cursor_at(numbers, i);
-        let piece = c.piece;
-        let r = weigh(s, piece);
-        s = r;
-        i += 1;
+    for c in cursors {
+        s = weigh(s, c.piece);
     }
     s
 }

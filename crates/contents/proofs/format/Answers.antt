@@ -1,9 +1,7 @@
--- `contents::format` meets its contract: word 0 states WAH, or else EWAH. Assumes nothing.
-use Rattle.contents.proofs.Stated.{wah-stated, ewah-stated}
+-- `contents::format` meets its contract: a word that states no format counts as EWAH's. Assumes nothing.
+use mathlib.Core.Path.{◌∙◌}
+use Rattle.contents.proofs.Stated.{told}
 use Rattle.contents.proofs.format.Goals as goal
 
-pub returns-then-index-eq-WAH_KIND : goal.returns-then-index-eq-WAH_KIND
-returns-then-index-eq-WAH_KIND c = wah-stated c.args.index.now c.if-index-eq-WAH_KIND.true
-
 pub returns : goal.returns
-returns c = ewah-stated c.args.index.now c.if-index-eq-WAH_KIND.false
+returns c = c.unwrap_or.ensures ∙ told c.args.index.now c.try_from.result c.try_from.ensures

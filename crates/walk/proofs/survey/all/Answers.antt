@@ -1,28 +1,18 @@
--- `walk::survey::all` meets its contract. The invariant: the survey is that of the first i places.
+-- `walk::survey::all` meets its contract. The invariant: the survey is that of the places passed.
 -- Assumes nothing.
-use mathlib.Core.Path.{◌≡◌}
-use Rattle.walk.proofs.Weighing.{surveyed-more, surveyed-room}
 use native.Mathlib.Omega.{arith}
+use Rattle.walk.proofs.Weighing.{surveyed-more, surveyed-room}
 use Rattle.walk.proofs.survey.all.Goals as goal
 
-pub loop-i-init : goal.loop-i-init
-loop-i-init c = (omega arith, c.nothing-s.ensures c.args.numbers.now)
+pub loop-c-init : goal.loop-c-init
+loop-c-init c = c.nothing-s.ensures c.args.cursors.now
 
-pub weigh-r-requires : goal.weigh-r-requires
-weigh-r-requires c =
-    let l = c.loop-i in
-    let low = c.requires.2 in record {
-      value_low = rw c.cursor_at-c.ensures (low l.i (omega arith));
-      room = surveyed-room c.args.numbers.now l.i l.s l.invariant.1 (omega arith) (λ k h. low k (omega arith));
-    }
+pub weigh-s-requires-clause-room : goal.weigh-s-requires-clause-room
+weigh-s-requires-clause-room c =
+    let l = c.loop-c in
+    surveyed-room c.args.cursors.now l.c-index l.s l.invariant (omega (arith, c.loop-c-test.true, c.requires.0)) (λ k h. c.requires.1 k (omega (arith, h, c.loop-c-test.true)))
 
-pub loop-i-preserved : goal.loop-i-preserved
-loop-i-preserved c =
-    let l = c.loop-i in
-    (omega arith, surveyed-more c.args.numbers.now l.i l.s l.invariant.1 c.weigh-r.result (rw c.cursor_at-c.ensures at c.weigh-r.ensures))
-
-pub returns : goal.returns
-returns c =
-    let l = c.loop-i in
-    let i-is : l.i ≡ c.args.len = omega arith in
-    rw i-is at l.invariant.1
+pub loop-c-preserved : goal.loop-c-preserved
+loop-c-preserved c =
+    let l = c.loop-c in
+    surveyed-more c.args.cursors.now l.c-index l.s l.invariant c.weigh-s.result c.weigh-s.ensures
