@@ -14,7 +14,7 @@ use answers::answer::Written;
 use answers::refusal::{Checked, Refusal};
 use meaning::MOST_ROWS;
 use plain::compress;
-use resume::{Place, Resumed};
+use resume::Place;
 
 // 12: state and buffer do not belong together.
 fn mismatched() -> Refusal
@@ -28,29 +28,29 @@ fn mismatched() -> Refusal
 }
 
 // The writer of a body of so many rows, or that it is no canonical body of them.
-fn find_in(body: &[u32], rows: u32) -> Resumed
+fn find_in(body: &[u32], rows: u32) -> Option<Place>
     requires { rows ≤ most_rows }
     ensures { ResumedIs rows body.now result }
 {
     let checked = ewah::check::check(body, rows, 0, 0);
     match checked {
-        Checked::Refused(_) => Resumed::Not,
+        Checked::Refused(_) => None,
         Checked::Sound => resume::resume(body, rows),
     }
 }
 
 // The writer's place in its buffer, or that state and buffer do not belong together.
-fn find(room: u64, rows: u64, words: u64, out: &[u32]) -> Resumed
+fn find(room: u64, rows: u64, words: u64, out: &[u32]) -> Option<Place>
     ensures { FoundIs (state_of room rows words) out.now result }
 {
     if out.len() as u64 != room {
-        return Resumed::Not;
+        return None;
     }
     if (MOST_ROWS as u64) < rows {
-        return Resumed::Not;
+        return None;
     }
     if room < words {
-        return Resumed::Not;
+        return None;
     }
     find_in(&out[0..words as usize], rows as u32)
 }
@@ -87,8 +87,8 @@ fn answer_batch(
 {
     let found = find(room, rows, words, out);
     match found {
-        Resumed::Not => Written::Refused(mismatched()),
-        Resumed::At(p) => append_at(p, rows as u32, out, more, plain),
+        None => Written::Refused(mismatched()),
+        Some(p) => append_at(p, rows as u32, out, more, plain),
     }
 }
 
