@@ -26,8 +26,7 @@ use Rattle.batches.specs.declared.AppendState.{AppendState}
 use Rattle.batches.specs.Append.{Batch, followed, in_use, append, state_after}
 use Rattle.batches.proofs.OneBatch.{taken-batch}
 use Rattle.resume.specs.declared.Place.{Place}
-use Rattle.resume.specs.declared.Resumed.{Resumed}
-use Rattle.resume.specs.declared.Resumed.TheVariants.{Not, At}
+use Rattle.std.specs.Prelude.{Option, None, Some}
 use Rattle.resume.specs.Resume.{restored, PlaceOf, ResumedIs}
 use Rattle.appending.specs.Stepping.{behind, FoundIs, Stepped}
 
@@ -59,9 +58,9 @@ in_buffer {r = r} n out g =
 
 -- the three tests on numbers passed, and the words in use were walked
 pub found : (s : AppendState) (out : List ℕ) → length out ≡ s.room → s.rows ≤ most_rows → s.words ≤ length out
-    → (r : Resumed) → ResumedIs s.rows (in_use s out) r → FoundIs s out r
-found s out same few inside Not h = λ m. h m.form
-found s out same few inside (At r) h =
+    → (r : Option Place) → ResumedIs s.rows (in_use s out) r → FoundIs s out r
+found s out same few inside None h = λ m. h m.form
+found s out same few inside (Some r) h =
     (record { room = same; few = few; inside = inside; form = h.0 }, in_buffer s.words out h.1)
 
 -- ---- the answer

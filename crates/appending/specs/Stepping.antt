@@ -12,8 +12,8 @@ use Rattle.batches.specs.declared.AppendState.{AppendState}
 use Rattle.batches.specs.Append.{Batch, followed, in_use, append, state_after}
 use Rattle.batches.specs.AppendLaws.{Matches}
 use Rattle.resume.specs.Resume.{PlaceOf}
-use Rattle.resume.specs.declared.Resumed.{Resumed}
-use Rattle.resume.specs.declared.Resumed.TheVariants.{Not, At}
+use Rattle.std.specs.Prelude.{Option, None, Some}
+use Rattle.resume.specs.declared.Place.{Place}
 use Rattle.appending.specs.declared.Step.{Step}
 
 -- a state of three numbers, and a batch
@@ -31,9 +31,9 @@ behind R p b room =
     write Ewah (R + b.rows) (followed R p (has_row 32 b.plain)) room)
 
 -- the writer's place in its buffer, or that state and buffer do not belong together
-abbrev pub FoundIs : AppendState → List ℕ → Resumed → Type 0
-FoundIs s out Not = Matches s out → ⊥
-FoundIs s out (At r) = Matches s out × PlaceOf s.rows (rows_of Ewah (in_use s out)) out r
+abbrev pub FoundIs : AppendState → List ℕ → Option Place → Type 0
+FoundIs s out None = Matches s out → ⊥
+FoundIs s out (Some r) = Matches s out × PlaceOf s.rows (rows_of Ewah (in_use s out)) out r
 
 -- the answer and the buffer afterwards are the batch's, and the numbers those of the state afterwards
 pub record Stepped (s : AppendState) (out : List ℕ) (b : Batch) (r : Step) (out' : List ℕ) : Type 0 where

@@ -13,9 +13,9 @@ use answers::answer;
 use answers::refusal::{Fault, Refusal};
 use meaning::MOST_ROWS;
 use plain::compress;
-use resume::{Place, Resumed};
+use resume::Place;
 
-// 12: state and buffer do not belong together.
+// State and buffer do not belong together.
 fn mismatched() -> Refusal
     ensures { result ≡ refusal Mismatched 0 }
 {
@@ -27,29 +27,22 @@ fn mismatched() -> Refusal
 }
 
 // The writer of a body of so many rows, or that it is no canonical body of them.
-fn find_in(body: &[u32], rows: u32) -> Resumed
+fn find_in(body: &[u32], rows: u32) -> Option<Place>
     requires { rows ≤ most_rows }
     ensures { ResumedIs rows body.now result }
 {
-    let checked = ewah::check::check(body, rows, 0, 0);
-    match checked {
-        Err(_) => Resumed::Not,
+    match ewah::check::check(body, rows, 0, 0) {
+        Err(_) => None,
         Ok(()) => resume::resume(body, rows),
     }
 }
 
 // The writer's place in its buffer, or that state and buffer do not belong together.
-fn find(room: u64, rows: u64, words: u64, out: &[u32]) -> Resumed
+fn find(room: u64, rows: u64, words: u64, out: &[u32]) -> Option<Place>
     ensures { FoundIs (state_of room rows words) out.now result }
 {
-    if out.len() as u64 != room {
-        return Resumed::Not;
-    }
-    if (MOST_ROWS as u64) < rows {
-        return Resumed::Not;
-    }
-    if room < words {
-        return Resumed::Not;
+    if out.len() as u64 != room || MOST_ROWS as u64 < rows || room < words {
+        return None;
     }
     find_in(&out[0..words as usize], rows as u32)
 }
@@ -81,10 +74,9 @@ fn answer_batch(
     ensures { Wrote (batches.append (state_of room rows words) out.old (batch_of more plain.now))
         result out.old out.new }
 {
-    let found = find(room, rows, words, out);
-    match found {
-        Resumed::Not => Err(mismatched()),
-        Resumed::At(p) => append_at(p, rows as u32, out, more, plain),
+    match find(room, rows, words, out) {
+        None => Err(mismatched()),
+        Some(p) => append_at(p, rows as u32, out, more, plain),
     }
 }
 

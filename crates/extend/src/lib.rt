@@ -22,8 +22,8 @@ use ewah_write::writer::Writer;
 use meaning::Format;
 use repack::packer::Packer;
 use resume::Place;
+use row_write::output;
 use row_write::output::Output;
-use row_write::{output, piece};
 
 // The rows of a batch, behind those that the output has, and then the last segment, stored where `store` says so. How
 // many words the body has.
@@ -36,14 +36,10 @@ fn feed(out: &mut [u32], o: Output, plain: &[u32], rows: u32, store: bool) -> us
 {
     let mut v = o;
     let mut left = rows;
-    let mut i: usize = 0;
-    while i < plain.len() {
-        let x = plain[i];
-        let k = piece::smaller(left, 32);
-        let r = output::put(Format::Ewah, out, v, Piece::Dirty(x), k, store);
-        v = r;
+    for x in plain {
+        let k = left.min(32);
+        v = output::put(Format::Ewah, out, v, Piece::Dirty(*x), k, store);
         left -= k;
-        i += 1;
     }
     output::finish(Format::Ewah, out, v, store)
 }

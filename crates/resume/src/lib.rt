@@ -27,25 +27,14 @@ pub struct Place {
 
 // Whether marker m may stand behind the marker `last`: it has a clean run that `last` could not take, or dirty words
 // that it could not.
+#[tactic(auto, unfolding(crate::specs::Scan::follows_of))]
 fn follows(last: Marker, m: Marker) -> bool
     ensures { result ≡ follows_of last.value last.clean last.dirty m.value m.clean m.dirty }
 {
     if m.clean == 0 {
-        if m.value != 0 {
-            return false;
-        }
-        if m.dirty == 0 {
-            return false;
-        }
-        return last.dirty == MOST_DIRTY;
+        return m.value == 0 && m.dirty != 0 && last.dirty == MOST_DIRTY;
     }
-    if last.dirty != 0 {
-        return true;
-    }
-    if last.value != m.value {
-        return true;
-    }
-    MOST_CLEAN <= last.clean
+    last.dirty != 0 || last.value != m.value || MOST_CLEAN <= last.clean
 }
 
 // The writer before the last segment: the last marker counts one fewer, and where it counted that one alone, it is the

@@ -12,8 +12,8 @@ use Rattle.answers.proofs.Tells.{wrote-refused}
 use Rattle.batches.specs.declared.AppendState.{AppendState}
 use Rattle.batches.specs.Append.{in_use}
 use Rattle.batches.proofs.Ordered.{no-match, is-match}
-use Rattle.resume.specs.declared.Resumed.{Resumed}
-use Rattle.resume.specs.declared.Resumed.TheVariants.{At}
+use Rattle.std.specs.Prelude.{Option, None, Some}
+use Rattle.resume.specs.declared.Place.{Place}
 use Rattle.appending.specs.Stepping.{state_of, batch_of, FoundIs}
 use Rattle.appending.proofs.answer_batch.Lts
 use Rattle.appending.proofs.answer_batch.Reads
@@ -32,8 +32,8 @@ module _ (k : In-At) where
   abbrev buffer : List ℕ
   buffer = k.args.out.now
 
-  placed : FoundIs state buffer (At k.in-At.p)
-  placed = subst (λ (r : Resumed). FoundIs state buffer r) k.in-At.is k.find-found.ensures
+  placed : FoundIs state buffer (Some k.in-Some.p)
+  placed = subst (λ (r : Option Place). FoundIs state buffer r) k.in-Some.is k.find-found.ensures
 
 pub overflow_cast-rows : goal.overflow_cast-rows
 overflow_cast-rows c = record { fits = omega (arith, (placed c.before).0.few) }
@@ -45,17 +45,17 @@ append_at-requires c =
       by_index = (rows_of Ewah (in_use (state c.before.before) (buffer c.before.before)), (placed c.before.before).1);
     }
 
-pub returns-in-Not : goal.returns-in-Not
-returns-in-Not c =
+pub returns-in-None : goal.returns-in-None
+returns-in-None c =
     let a = c.args in
     let s = state_of a.room a.rows a.words in
     wrote-refused a.out.now _ _
     (ap refused_by c.mismatched.ensures
     ∙ sym (no-match s a.out.now (batch_of a.more a.plain.now)
-    (subst (λ (r : Resumed). FoundIs s a.out.now r) c.in-Not.is c.find-found.ensures)))
+    (subst (λ (r : Option Place). FoundIs s a.out.now r) c.in-None.is c.find-found.ensures)))
 
-pub returns-in-At : goal.returns-in-At
-returns-in-At c =
+pub returns-in-Some : goal.returns-in-Some
+returns-in-Some c =
     let b = batch_of c.args.more c.args.plain.now in
     subst (λ (o : Outcome (List ℕ)). Wrote o c.append_at.result (buffer c.before.before.before.before.before) c.append_at.new.out)
     (sym (is-match (state c.before.before.before.before.before) (buffer c.before.before.before.before.before) b (placed c.before.before.before.before.before).0))
