@@ -2,4 +2,5 @@
 #![tactic(auto)]
 
 pub mod bits;
+pub mod frame;
 pub mod rows;
