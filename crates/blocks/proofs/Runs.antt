@@ -105,7 +105,7 @@ module _ (F : Format) (R i : ℕ) where
 
 -- ---- the words of a list
 
-module _ (index list ns x : List ℕ) (o n : ℕ) (some : 1 ≤ n) (b : BlockOf index list o n true x) where
+module _ (index list : List ℕ) (cs : List Cursor) (x : List ℕ) (o n : ℕ) (some : 1 ≤ n) (b : BlockOf index list o n true x) where
   abbrev F : Format
   F = format_of index
 
@@ -114,11 +114,11 @@ module _ (index list ns x : List ℕ) (o n : ℕ) (some : 1 ≤ n) (b : BlockOf 
   unfolding word_at
   word k h = b.has k 0 h (omega arith) ∙ ap (λ (i : ℕ). get_or (segments_of F (place_body index list k)) i 0) (omega arith)
 
-  pub alike : Standing (format_of index) index list ns (length list) o
+  pub alike : Standing (format_of index) index list cs (length list) o
       → ((k : ℕ) → k < length list → o < length (segments_of (format_of index) (place_body index list k)))
-      → ((k : ℕ) → k < length list → 2 ≤ left_of (cursor_of ns k).piece) → AllAlike (width (format_of index)) x
+      → ((k : ℕ) → k < length list → 2 ≤ left_of (cursor_of cs k).piece) → AllAlike (width (format_of index)) x
   alike st inside left k j l = elim (dec_le (suc k) (length list)) [
-    | yes h ↦ rw (word k h) (run-bits F (place_body index list k) o (cursor_of ns k) (st k h) (inside k h) (left k h) j l)
+    | yes h ↦ rw (word k h) (run-bits F (place_body index list k) o (cursor_of cs k) (st k h) (inside k h) (left k h) j l)
     | no h ↦ rw (b.rest (k * block_segments + 0) (omega arith)) (zero_clear j ∙ sym (zero_clear 0))
   ]
 

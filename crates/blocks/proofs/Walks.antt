@@ -14,6 +14,7 @@ use Rattle.meaning.specs.Limits.{block_segments}
 use Rattle.meaning.specs.declared.Format.TheVariants.{Ewah, Wah}
 use Rattle.laws.specs.Laws.{IndexFacts}
 use Rattle.laws.proofs.Formats.{facts-count}
+use Rattle.ewah.specs.declared.cursor.Cursor.{Cursor}
 use Rattle.ewah.specs.Cursors.{left_of}
 use Rattle.walk.specs.Queries.{place_body, cursor_of, Listed}
 use Rattle.gather.specs.Gathered.{StandingBefore, Gathered}
@@ -31,10 +32,10 @@ count-is {index} {list} facts listed k h =
     facts-count (format_of index) (row_count index) (place_body index list k)
     (facts.bodies (get_or list k 0) (listed.its k h))
 
-module _ {index list ns : List ℕ} {o : ℕ} (g : Walking index list ns o) where
-  module _ {n : ℕ} {even : Bool} {x ns' x' : List ℕ}
-      (gd : Gathered (format_of index) index list ns n even x ns' x') where
-    pub walking_on : Walking index list ns' (o + n)
+module _ {index list : List ℕ} {cs : List Cursor} {o : ℕ} (g : Walking index list cs o) where
+  module _ {n : ℕ} {even : Bool} {x : List ℕ} {cs' : List Cursor} {x' : List ℕ}
+      (gd : Gathered (format_of index) index list cs n even x cs' x') where
+    pub walking_on : Walking index list cs' (o + n)
     walking_on = record { standing = gd.on o g.standing; long = gd.long ∙ g.long }
 
     pub still-cleared : Cleared list x → Cleared list x'
@@ -44,13 +45,13 @@ module _ {index list ns : List ℕ} {o : ℕ} (g : Walking index list ns o) wher
     block_of z = record { has = gd.words o g.standing; rest = (still-cleared z).past }
 
   module _ (facts : IndexFacts index) (listed : Listed index list) where
-    pub before : (n : ℕ) → o + n ≤ S index → StandingBefore (format_of index) index list ns n
+    pub before : (n : ℕ) → o + n ≤ S index → StandingBefore (format_of index) index list cs n
     before n l = (o, g.standing, λ k h. omega (arith, count-is facts listed k h))
 
     pub all_alike : {n : ℕ} {x : List ℕ} → 1 ≤ n → o + n ≤ S index → BlockOf index list o n true x
-        → ((k : ℕ) → k < length list → 2 ≤ left_of (cursor_of ns k).piece) → AllAlike (width (format_of index)) x
+        → ((k : ℕ) → k < length list → 2 ≤ left_of (cursor_of cs k).piece) → AllAlike (width (format_of index)) x
     all_alike {n} {x} some l b left =
-        alike index list ns x o n some b g.standing (λ k h. omega (arith, count-is facts listed k h)) left
+        alike index list cs x o n some b g.standing (λ k h. omega (arith, count-is facts listed k h)) left
 
 -- a run can be as long as a block
 pub block-low : (F : Format) → block_segments ≤ most_run F
@@ -59,9 +60,9 @@ block-low Wah = omega arith
 
 -- ---- the next segments, where no piece ends before `near`
 
-module _ {index list ns : List ℕ} {near end o n : ℕ} {even : Bool} (g : Walking index list ns o)
+module _ {index list : List ℕ} {cs : List Cursor} {near end o n : ℕ} {even : Bool} (g : Walking index list cs o)
     (some : 1 ≤ length list) (ch : Chosen near end o n even)
-    (far : (k : ℕ) → k < length list → near ≤ left_of (cursor_of ns k).piece) where
+    (far : (k : ℕ) → k < length list → near ≤ left_of (cursor_of cs k).piece) where
   -- a run is no longer than the format can say
   pub run-low : n ≤ most_run (format_of index)
   run-low = go even refl
@@ -70,9 +71,9 @@ module _ {index list ns : List ℕ} {near end o n : ℕ} {even : Bool} (g : Walk
       go true e = omega (arith, ch.in_pieces e, far 0 some, (g.standing 0 some).in_order.left-low)
       go false e = omega (arith, ch.in_block e, block-low (format_of index))
 
-  pub next-block : IndexFacts index → Listed index list → end ≤ S index → {x ns' x' : List ℕ} → Cleared list x
-      → Gathered (format_of index) index list ns n even x ns' x' → NextBlock index list o end n even ns' x'
-  next-block facts listed h {x} {ns'} {x'} z gd = record {
+  pub next-block : IndexFacts index → Listed index list → end ≤ S index → {x : List ℕ} {cs' : List Cursor} {x' : List ℕ} → Cleared list x
+      → Gathered (format_of index) index list cs n even x cs' x' → NextBlock index list o end n even cs' x'
+  next-block facts listed h {x} {cs'} {x'} z gd = record {
     some = ch.some;
     within = ch.within;
     in_block = ch.in_block;

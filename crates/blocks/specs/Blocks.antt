@@ -1,10 +1,11 @@
 -- The next segments of the places of one list, as a block: how many there are, and what its words are.
 -- Assumes nothing.
 use Rattle.std.specs.Prelude.{ℕ, ◌+◌, ◌*◌, ◌≤◌, ◌<◌, Bool, true, false, ◌≡◌, List, length, get_or}
-use Rattle.meaning.specs.Limits.{block_segments, block_words, short_numbers}
+use Rattle.meaning.specs.Limits.{block_segments, block_words}
 use Rattle.meaning.specs.Segment.{is_set}
 use Rattle.meaning.specs.Format.{width, most_run, segments_of}
 use Rattle.meaning.specs.Index.{format_of}
+use Rattle.ewah.specs.declared.cursor.Cursor.{Cursor}
 use Rattle.block_read.specs.Taken.{word_at}
 use Rattle.walk.specs.Queries.{Standing, place_body}
 
@@ -18,10 +19,10 @@ pub record Chosen (near end o n : ℕ) (even : Bool) : Type 0 where
   pub several : even ≡ true → 2 ≤ n
   pub in_block : even ≡ false → n ≤ block_segments
 
--- every cursor stands at segment o of its body
-pub record Walking (index list ns : List ℕ) (o : ℕ) : Type 0 where
-  pub standing : Standing (format_of index) index list ns (length list) o
-  pub long : length ns ≡ short_numbers
+-- there is a cursor for each place, and every one stands at segment o of its body
+pub record Walking (index list : List ℕ) (cs : List Cursor) (o : ℕ) : Type 0 where
+  pub standing : Standing (format_of index) index list cs (length list) o
+  pub long : length cs ≡ length list
 
 -- a block whose rows past a list's are empty
 pub record Cleared (list x : List ℕ) : Type 0 where
@@ -41,13 +42,13 @@ AllAlike w x =
 
 -- the n segments from o on, none behind `end`, became the block x', in a run one clean word for each place, and the
 -- cursors went on
-pub record NextBlock (index list : List ℕ) (o end n : ℕ) (even : Bool) (ns' x' : List ℕ) : Type 0 where
+pub record NextBlock (index list : List ℕ) (o end n : ℕ) (even : Bool) (cs' : List Cursor) (x' : List ℕ) : Type 0 where
   pub some : 1 ≤ n
   pub within : o + n ≤ end
   pub in_block : even ≡ false → n ≤ block_segments
   pub several : even ≡ true → 2 ≤ n
   pub in-run : n ≤ most_run (format_of index)
-  pub walking : Walking index list ns' (o + n)
+  pub walking : Walking index list cs' (o + n)
   pub cleared : Cleared list x'
   pub block : BlockOf index list o n even x'
   pub alike : even ≡ true → AllAlike (width (format_of index)) x'

@@ -5,7 +5,6 @@ ghost use Rattle.meaning.specs.Limits.{block_segments};
 ghost use Rattle.blocks.specs.Blocks.{Chosen};
 
 use meaning::BLOCK_SEGMENTS;
-use walk::survey;
 
 // So many segments, and whether all of them are alike in every place.
 #[derive(Clone, Copy)]
@@ -18,10 +17,7 @@ pub struct Step {
 fn is_run(near: u32, ahead: u32) -> bool
     ensures { result ≡ true → (block_segments ≤ near) × (2 ≤ ahead) }
 {
-    if contents::wide(near) < BLOCK_SEGMENTS {
-        return false;
-    }
-    2 <= ahead
+    BLOCK_SEGMENTS <= contents::wide(near) && 2 <= ahead
 }
 
 // The next segments from segment o on, up to `end` at most, where the nearest end of a piece is `near` segments on. Behind a run
@@ -33,7 +29,7 @@ pub fn choose(near: u32, o: u32, end: u32, behind_run: bool) -> Step
     let ahead = end - o;
     if is_run(near, ahead) {
         return Step {
-            n: survey::smaller(near, ahead),
+            n: near.min(ahead),
             even: true,
         };
     }
@@ -41,7 +37,7 @@ pub fn choose(near: u32, o: u32, end: u32, behind_run: bool) -> Step
         return Step { n: 1, even: false };
     }
     Step {
-        n: survey::smaller(BLOCK_SEGMENTS as u32, ahead),
+        n: ahead.min(BLOCK_SEGMENTS as u32),
         even: false,
     }
 }

@@ -10,6 +10,7 @@ ghost use Rattle.blocks.specs.Blocks.{Walking, Cleared, NextBlock};
 
 use crate::choose;
 use crate::choose::Step;
+use ewah::cursor::Cursor;
 use meaning::{BLOCK_WORDS, Format};
 
 // Every cursor goes on from segment o, to `end` at most; row k of x becomes the words of place k, and is cleared behind
@@ -18,7 +19,7 @@ pub fn next(
     format: Format,
     index: &[u32],
     list: &[u32],
-    numbers: &mut [u32],
+    cursors: &mut [Cursor],
     x: &mut [u32; BLOCK_WORDS],
     o: u32,
     end: u32,
@@ -26,15 +27,15 @@ pub fn next(
 ) -> Step
     requires index_facts { IndexFacts index.now }
     requires listed { Listed index.now list.now }
-    requires walking { Walking index.now list.now numbers.old o }
+    requires walking { Walking index.now list.now cursors.old o }
     requires cleared { Cleared list.now x.old }
     requires format_value { (format ≡ format_of index.now) × (1 ≤ length list.now) × (length list.now ≤ most_value_column)
         × (o < end) × (end ≤ segment_count (width (format_of index.now)) (row_count index.now)) }
     ensures { NextBlock index.now list.now o end result.n result.even
-        numbers.new x.new }
+        cursors.new x.new }
 {
-    let near = gather::nearest(numbers, list.len());
+    let near = gather::nearest(cursors);
     let step = choose::choose(near, o, end, behind_run);
-    gather::gather(format, index, list, numbers, step.n, step.even, x);
+    gather::gather(format, index, list, cursors, step.n, step.even, x);
     step
 }

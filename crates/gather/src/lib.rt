@@ -2,50 +2,36 @@
 // Calls here have a `requires`; the public ones of `zvonurel` test their input first.
 #![tactic(auto)]
 
-ghost use Rattle.std.specs.Prelude.{true, false, ◌≡◌, ℕ, ◌≤◌, ◌<◌, length};
-ghost use Rattle.meaning.specs.Limits.{most_named, most_value_column, block_segments, block_words};
+ghost use Rattle.std.specs.Prelude.{true, false, ◌≡◌, ℕ, ◌*◌, ◌≤◌, ◌<◌, length};
+ghost use Rattle.meaning.specs.Limits.{most_value_column, block_segments, block_words};
 ghost use Rattle.meaning.specs.Index.{format_of, bitmap_count, body_at};
 ghost use Rattle.laws.specs.Laws.{HeadFacts, EntryFacts};
 ghost use Rattle.ewah.specs.Cursors.{left_of};
-ghost use Rattle.walk.specs.Queries.{cursor_of, PlaceIn, PlacesIn, Listed};
-ghost use Rattle.gather.specs.Gathered.{StandsBefore, StandingBefore, PlaceTaken, Gathered};
+ghost use Rattle.block_read.specs.Taken.{RowTaken};
+ghost use Rattle.walk.specs.Queries.{cursor_of, Listed};
+ghost use Rattle.gather.specs.Gathered.{StandsBefore, StandingBefore, Gathered};
 
-use meaning::{BLOCK_SEGMENTS, BLOCK_WORDS, Format, PLACE_NUMBERS};
-use walk::{query, survey};
+use bodies::cursor;
+use ewah::cursor::Cursor;
+use meaning::{BLOCK_SEGMENTS, BLOCK_WORDS, Format};
 
-// How many segments the piece at place k has left, from its two numbers.
-fn left(numbers: &[u32], k: usize) -> u32
-    requires { (k < most_named) × PlaceIn numbers.now k }
-    ensures { result ≡ left_of (cursor_of numbers.now k).piece }
+// The fewest segments that one of the places has left in its piece; no place has fewer.
+pub fn nearest(cursors: &[Cursor]) -> u32
+    ensures { (k : ℕ) → k < length cursors.now → result ≤ left_of (cursor_of cursors.now k).piece }
 {
-    let at = PLACE_NUMBERS * k;
-    let tag = numbers[at];
-    if tag == 2 {
-        return 1;
-    }
-    numbers[at + 1]
-}
-
-// The fewest segments that one of the first `len` places has left in its piece; no place has fewer.
-pub fn nearest(numbers: &[u32], len: usize) -> u32
-    requires { (len ≤ most_named) × PlacesIn numbers.now len }
-    ensures { (k : ℕ) → k < len → result ≤ left_of (cursor_of numbers.now k).piece }
-{
-    let mut least: u32 = 0xFFFF_FFFF;
-    let mut k: usize = 0;
-    while k < len {
-        least = survey::smaller(least, left(numbers, k));
-        k += 1;
+    let mut least = u32::MAX;
+    for c in cursors {
+        least = least.min(cursor::left(*c));
     }
     least
 }
 
-// Place k, whose bitmap has the number b, goes n segments on; row k of x becomes their words.
+// The cursor of place k, whose bitmap has the number b, goes n segments on; row k of x becomes their words.
 fn take_place(
     format: Format,
     index: &[u32],
     b: u32,
-    numbers: &mut [u32],
+    c: &mut Cursor,
     k: usize,
     n: u32,
     even: bool,
@@ -53,18 +39,15 @@ fn take_place(
 )
     requires head_facts { HeadFacts index.now }
     requires entry_facts { EntryFacts index.now }
-    requires stands_before { StandsBefore format (body_at index.now b) (cursor_of numbers.old k) n }
-    requires b_bound { (b < bitmap_count index.now) × (k < most_value_column) × PlaceIn numbers.old k
-        × (length x.old ≡ block_words) × (1 ≤ n)
-        × (even ≡ true → n ≤ left_of (cursor_of numbers.old k).piece) × (even ≡ false → n ≤ block_segments) }
-    ensures { PlaceTaken format (body_at index.now b) numbers.old k n even
-        x.old numbers.new x.new }
+    requires stands_before { StandsBefore format (body_at index.now b) c.old n }
+    requires b_bound { (b < bitmap_count index.now) × (k < most_value_column) × (length x.old ≡ block_words) × (1 ≤ n)
+        × (even ≡ true → n ≤ left_of c.old.piece) × (even ≡ false → n ≤ block_segments) }
+    ensures { RowTaken format (body_at index.now b) c.old n even
+        x.old (k * block_segments) x.new c.new }
 {
-    let c = query::cursor_at(numbers, k);
     let from = k * BLOCK_SEGMENTS;
     let row = &mut x[from..from + BLOCK_SEGMENTS];
-    let d = block_read::take(format, contents::body(index, b), c, row, n, even);
-    query::set_cursor(numbers, k, d);
+    *c = block_read::take(format, contents::body(index, b), *c, row, n, even);
 }
 
 // Every cursor goes n segments on in its body, which has the index's format; row k of x becomes the words of place k.
@@ -72,7 +55,7 @@ pub fn gather(
     format: Format,
     index: &[u32],
     list: &[u32],
-    numbers: &mut [u32],
+    cursors: &mut [Cursor],
     n: u32,
     even: bool,
     x: &mut [u32; BLOCK_WORDS],
@@ -81,17 +64,15 @@ pub fn gather(
     requires head_facts { HeadFacts index.now }
     requires entry_facts { EntryFacts index.now }
     requires listed { Listed index.now list.now }
-    requires standing_before { StandingBefore (format_of index.now) index.now list.now numbers.old n }
-    requires places_in { PlacesIn numbers.old (length list.now) × (length x.old ≡ block_words)
+    requires standing_before { StandingBefore (format_of index.now) index.now list.now cursors.old n }
+    requires cursors_len { (length cursors.old ≡ length list.now) × (length x.old ≡ block_words)
         × (length list.now ≤ most_value_column) × (1 ≤ n)
-        × (even ≡ true → (k : ℕ) → k < length list.now → n ≤ left_of (cursor_of numbers.old k).piece)
+        × (even ≡ true → (k : ℕ) → k < length list.now → n ≤ left_of (cursor_of cursors.old k).piece)
         × (even ≡ false → n ≤ block_segments) }
     ensures { Gathered (format_of index.now) index.now list.now
-        numbers.old n even x.old numbers.new x.new }
+        cursors.old n even x.old cursors.new x.new }
 {
-    let mut k: usize = 0;
-    while k < list.len() {
-        take_place(format, index, list[k], numbers, k, n, even, x);
-        k += 1;
+    for k in 0..list.len() {
+        take_place(format, index, list[k], &mut cursors[k], k, n, even, x);
     }
 }
