@@ -5,7 +5,7 @@
 ghost use Rattle.std.specs.Prelude.{◌≡◌};
 ghost use Rattle.answers.specs.Told.{Wrote};
 ghost use Rattle.batches.specs.Append as batches;
-ghost use Rattle.appending.specs.Stepping.{batch_of};
+ghost use Rattle.appending.specs.Batched.{batch_of};
 
 use answers::refusal::Refusal;
 use batches::AppendState;
@@ -30,8 +30,8 @@ pub fn append(state: &mut AppendState, out: &mut [u32], rows: u32, plain: &[u32]
         ≡ batches.state_after (batches.append state.old out.old (batch_of rows plain.now))
         state.old rows }
 {
-    let s = appending::next(state.room, state.rows, state.words, out, rows, plain);
-    state.rows = s.rows;
-    state.words = s.words;
-    s.told
+    let words = appending::answer_batch(*state, out, rows, plain)?;
+    state.rows += rows as u64;
+    state.words = words as u64;
+    Ok(words)
 }

@@ -2,7 +2,7 @@
 // buffer to `zv_append`.
 ghost use Rattle.std.specs.Prelude.{◌≡◌};
 ghost use Rattle.batches.specs.Append as batches;
-ghost use Rattle.appending.specs.Stepping.{batch_of};
+ghost use Rattle.appending.specs.Batched.{batch_of};
 ghost use Rattle.replies.specs.Exported.{Writes};
 
 use replies::reply::ZvWritten;

@@ -7,7 +7,7 @@ use Rattle.meaning.specs.Refusal.{refused}
 use Rattle.batches.specs.Append as batches
 use Rattle.batches.specs.AppendLaws.{BatchNumbered}
 use Rattle.batches.proofs.Appended.{append-laws}
-use Rattle.appending.specs.Stepping.{batch_of}
+use Rattle.appending.specs.Batched.{batch_of}
 use Rattle.replies.proofs.Codes.{writes-some}
 use Rattle.zvonurel_c.proofs.writing.zv_append.Goals as goal
 

@@ -1,4 +1,4 @@
--- A batch: where its writer stands in the buffer, what it is answered, and the state's numbers afterwards.
+-- A batch: where its writer stands in the buffer, what it is answered, and the state afterwards.
 -- Assumes nothing.
 use Prim.Native.Nat.{ℕ, zero, suc, ◌+◌, ◌≤◌, ◌<◌}
 use mathlib.Core.Bool.{Bool}
@@ -20,6 +20,7 @@ use Rattle.laws.proofs.Formats.{canonical-body}
 use Rattle.laws.proofs.Outcomes.{refuse-no, refuse-yes}
 use Rattle.answers.specs.declared.refusal.Refusal.{Refusal}
 use Rattle.std.specs.Prelude.{Result, Ok, Err}
+use Rattle.std.specs.Result.{IsErrAnd}
 use Rattle.answers.specs.Told.{refused_by, written_of, words_of, Wrote}
 use Rattle.answers.proofs.Checks.{refused-not-sound}
 use Rattle.batches.specs.declared.AppendState.{AppendState}
@@ -28,14 +29,14 @@ use Rattle.batches.proofs.OneBatch.{taken-batch}
 use Rattle.resume.specs.declared.Place.{Place}
 use Rattle.std.specs.Prelude.{Option, None, Some}
 use Rattle.resume.specs.Resume.{restored, PlaceOf, ResumedIs}
-use Rattle.appending.specs.Stepping.{behind, FoundIs, Stepped}
+use Rattle.appending.specs.Batched.{behind, FoundIs}
 
--- ---- 12: the writer found again
+-- ---- the writer found again
 
 -- a body that the check refuses is not in canonical form
-pub faulty : (R : ℕ) (b : List ℕ) {r : Refusal} → ewah_fault 0 0 R b ≡ refused_by r → Canonical Ewah R b → ⊥
-faulty R b e c =
-    refused-not-sound e (subst (λ (w : List ℕ). Sound Ewah R w) (sym c) (canonical-body Ewah R (rows_of Ewah b)).is_sound)
+pub faulty : (R : ℕ) (b : List ℕ) (r : Refusal) → ewah_fault 0 0 R b ≡ refused_by r → Canonical Ewah R b → ⊥
+faulty R b r e c =
+    refused-not-sound r e (subst (λ (w : List ℕ). Sound Ewah R w) (sym c) (canonical-body Ewah R (rows_of Ewah b)).is_sound)
 
 -- a word that is stored past the first n is in neither list
 take-set : (n : ℕ) (l : List ℕ) (i x : ℕ) → take n (set l i x) ≡ set (take n l) i x
@@ -74,10 +75,10 @@ module _ (R : ℕ) (p : ℕ → Bool) (b : Batch) (room : ℕ) where
       → behind R p b room ≡ (plain_fault b.rows b.plain then write Ewah (R + b.rows) (followed R p (has_row 32 b.plain)) room)
   within h = refuse-no (ltb most_rows (R + b.rows)) 3 0 1 _ (le-ltb most_rows (R + b.rows) h)
 
--- ---- the step: the answer was told, and the buffer is `out'`
+-- ---- the state afterwards, where the answer is k, and r where that is handed on; the buffer is `out'`
 
-module _ (s : AppendState) (b : Batch) {out : List ℕ} {r : Written} {out' : List ℕ} (w : Wrote (append s out b) r out out') where
-  module _ (z : Result ℕ Refusal) (e : r ≡ z) where
+module _ (s : AppendState) (b : Batch) {out : List ℕ} (k : Result ℕ Refusal) {out' : List ℕ} (w : Wrote (append s out b) k out out') where
+  module _ (z : Result ℕ Refusal) (e : k ≡ z) where
     told_is : Wrote (append s out b) z out out'
     told_is = subst (λ (v : Result ℕ Refusal). Wrote (append s out b) v out out') e w
 
@@ -85,25 +86,26 @@ module _ (s : AppendState) (b : Batch) {out : List ℕ} {r : Written} {out' : Li
     state-is = ap (λ (o : Outcome (List ℕ)). state_after o s b.rows) told_is.told
 
   -- all rows together are within the limit
-  pub few-rows : (n : ℕ) → r ≡ Words n → s.rows + b.rows ≤ most_rows
+  pub few-rows : (n : ℕ) → k ≡ Ok n → s.rows + b.rows ≤ most_rows
   unfolding written_of
-  few-rows n e = (taken-batch s out b (take n out') (sym (told_is (Words n) e).told)).few
+  few-rows n e = (taken-batch s out b (take n out') (sym (told_is (Ok n) e).told)).few
 
-  -- on a refusal the numbers are as they were
-  pub step-refused : (f : Refusal) → r ≡ Refused f → Stepped s out b (record { rows = s.rows; words = s.words; told = Refused f }) out'
+  -- a refusal is handed on, and leaves the state
+  pub handed-on : (x : Refusal) (r : Result ℕ Refusal) → k ≡ Err x → IsErrAnd r (λ y. y ≡ x) → Wrote (append s out b) r out out'
+  handed-on x (Ok n) e g = elim g [ ]
+  handed-on x (Err y) e g = told_is (Err y) (e ∙ sym (ap Err g))
+
+  pub state-stays : (x : Refusal) → k ≡ Err x → s ≡ state_after (append s out b) s b.rows
   unfolding state_after written_of
-  step-refused f e = record {
-    wrote = told_is (Refused f) e;
-    rows_are = ap (λ (v : AppendState). v.rows) (state-is (Refused f) e);
-    words_are = ap (λ (v : AppendState). v.words) (state-is (Refused f) e);
-  }
+  state-stays x e = state-is (Err x) e
 
-  pub step_words : (n : ℕ) → r ≡ Words n → Stepped s out b (record { rows = s.rows + b.rows; words = n; told = Words n }) out'
+  pub told-words : (n : ℕ) → k ≡ Ok n → Wrote (append s out b) (Ok n) out out'
+  told-words n e = told_is (Ok n) e
+
+  -- the state with the batch's rows, and with the words of the longer body
+  pub state-moves : (n : ℕ) → k ≡ Ok n → record { room = s.room; rows = s.rows + b.rows; words = n } ≡ state_after (append s out b) s b.rows
   unfolding state_after written_of words_of words_reported
-  step_words n e =
-      let t = told_is (Words n) e in
-      record {
-        wrote = t;
-        rows_are = ap (λ (v : AppendState). v.rows) (state-is (Words n) e);
-        words_are = t.words ∙ sym (ap words_reported t.told) ∙ ap (λ (v : AppendState). v.words) (state-is (Words n) e);
-      }
+  state-moves n e =
+      let t = told_is (Ok n) e in
+      let long : n ≡ length (take n out') = t.words ∙ sym (ap words_reported t.told) in
+      ap (λ (m : ℕ). record { room = s.room; rows = s.rows + b.rows; words = m }) long ∙ state-is (Ok n) e

@@ -1,4 +1,4 @@
--- A batch's step by value: what is found of the writer, and the numbers that the step gives. Request 9.
+-- A batch: what is found of its writer, and what it is answered.
 -- Assumes nothing.
 use Rattle.std.specs.Prelude.{ℕ, ◌+◌, Bool, ◌≡◌, List, ltb}
 use Rattle.meaning.specs.Limits.{most_rows}
@@ -7,18 +7,12 @@ use Rattle.meaning.specs.Refusal.{Outcome, refuse_if, ◌then◌}
 use Rattle.meaning.specs.Answer.{plain_fault, write}
 use Rattle.meaning.specs.Format.{rows_of}
 use Rattle.meaning.specs.declared.Format.TheVariants.{Ewah}
-use Rattle.answers.specs.Told.{Wrote}
 use Rattle.batches.specs.declared.AppendState.{AppendState}
-use Rattle.batches.specs.Append.{Batch, followed, in_use, append, state_after}
+use Rattle.batches.specs.Append.{Batch, followed, in_use}
 use Rattle.batches.specs.AppendLaws.{Matches}
 use Rattle.resume.specs.Resume.{PlaceOf}
 use Rattle.std.specs.Prelude.{Option, None, Some}
 use Rattle.resume.specs.declared.Place.{Place}
-use Rattle.appending.specs.declared.Step.{Step}
-
--- a state of three numbers, and a batch
-abbrev pub state_of : (room rows words : ℕ) → AppendState
-state_of room rows words = record { room = room; rows = rows; words = words }
 
 abbrev pub batch_of : (rows : ℕ) → List ℕ → Batch
 batch_of rows plain = record { rows = rows; plain = plain }
@@ -34,9 +28,3 @@ behind R p b room =
 abbrev pub FoundIs : AppendState → List ℕ → Option Place → Type 0
 FoundIs s out None = Matches s out → ⊥
 FoundIs s out (Some r) = Matches s out × PlaceOf s.rows (rows_of Ewah (in_use s out)) out r
-
--- the answer and the buffer afterwards are the batch's, and the numbers those of the state afterwards
-pub record Stepped (s : AppendState) (out : List ℕ) (b : Batch) (r : Step) (out' : List ℕ) : Type 0 where
-  pub wrote : Wrote (append s out b) r.told out out'
-  pub rows_are : r.rows ≡ (state_after (append s out b) s b.rows).rows
-  pub words_are : r.words ≡ (state_after (append s out b) s b.rows).words
