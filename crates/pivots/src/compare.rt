@@ -5,8 +5,8 @@ ghost use Rattle.meaning.specs.Segment.{is_set};
 ghost use Rattle.laws.specs.Pivot.{lead};
 ghost use Rattle.pivots.specs.Splits.{Refined, SplitBy, Taken};
 
-use adder::rows;
 use meaning::{BLOCK_SEGMENTS, BLOCK_WORDS, Ranking};
+use words::vectors;
 
 // Of the rows of a block those whose value comes before the pivot's, and those that have it.
 #[derive(Clone, Copy)]
@@ -64,13 +64,13 @@ pub fn split(op: Ranking, x: &[u32; BLOCK_WORDS], n: usize, pivot: u32) -> Compa
     let first = lead(op);
     let mut s = Compared {
         ahead: [0; BLOCK_SEGMENTS],
-        same: rows::row(x, 0),
+        same: vectors::part(x, 0),
     };
     let mut i = n;
     while 0 < i {
         i -= 1;
         let digit = (pivot >> i as u32) & 1;
-        let t = refine(s, rows::row(x, (i + 1) * BLOCK_SEGMENTS), digit, first);
+        let t = refine(s, vectors::part(x, (i + 1) * BLOCK_SEGMENTS), digit, first);
         s = t;
     }
     s
