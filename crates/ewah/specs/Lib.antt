@@ -1,3 +1,4 @@
 pub mod Markers
 pub mod Checking
 pub mod Cursors
+pub mod Taken

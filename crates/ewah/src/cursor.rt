@@ -46,27 +46,25 @@ pub fn load(body: &[u32], next: usize) -> Cursor
     requires { next ≤ length body.now }
     ensures { Stands Ewah body.now result (pieces 0 (drop next body.now)) }
 {
-    let mut at = next;
-    while at < body.len() {
+    for at in next..body.len() {
         let m = marker::read(body[at]);
         let value = m.value;
         let clean = m.clean;
         let dirty = m.dirty;
-        at += 1;
         if clean != 0 {
             return Cursor {
                 piece: Piece::Clean(value, clean),
-                next: at,
+                next: at + 1,
                 dirty,
             };
         }
         if dirty != 0 {
-            return load_dirty(body, at, dirty);
+            return load_dirty(body, at + 1, dirty);
         }
     }
     Cursor {
         piece: Piece::Clean(0, 0),
-        next: at,
+        next: body.len(),
         dirty: 0,
     }
 }

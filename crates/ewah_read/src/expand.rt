@@ -5,39 +5,17 @@ ghost use Rattle.meaning.specs.Segment.{fill, segment_count, from_rows};
 ghost use Rattle.meaning.specs.Ewah.{segments, ewah_rows, due_after};
 ghost use Rattle.laws.specs.Laws.{EwahFacts};
 
-use ewah::marker;
+use ewah::marker::{self, Markers};
 use words::{bits, rows};
-
-// Every word is x.
-fn fill(out: &mut [u32], x: u32)
-    ensures { out.new ≡ replicate (length out.old) x }
-{
-    let mut i = 0;
-    while i < out.len() {
-        out[i] = x;
-        i += 1;
-    }
-}
-
-// The words are those of from.
-fn copy(out: &mut [u32], from: &[u32])
-    requires { length out.old ≡ length from.now }
-    ensures { out.new ≡ from.now }
-{
-    let mut i = 0;
-    while i < from.len() {
-        out[i] = from[i];
-        i += 1;
-    }
-}
 
 // The words are one marker's segments: its clean run, and then its dirty words.
 fn place(out: &mut [u32], value: u32, clean: usize, dirty: &[u32])
     requires { (value < 2) × (length out.old ≡ clean + length dirty.now) }
     ensures { out.new ≡ replicate clean (fill 32 value) ++ dirty.now }
 {
-    fill(&mut out[..clean], marker::segment(value));
-    copy(&mut out[clean..], dirty);
+    let (run, words) = out.split_at_mut(clean);
+    run.fill(marker::segment(value));
+    words.copy_from_slice(dirty);
 }
 
 // The first words are the body's segments, as it spells them; those behind stay.
@@ -46,17 +24,12 @@ fn spread(body: &[u32], out: &mut [u32])
     ensures { out.new
         ≡ segments body.now ++ drop (length (segments body.now)) out.old }
 {
-    let mut at = 0;
     let mut o = 0;
-    while at < body.len() {
-        let m = marker::read(body[at]);
-        let from = at + 1;
-        let next = from + m.dirty as usize;
+    for (m, dirty) in Markers::of(body) {
         let clean = m.clean as usize;
-        let end = o + clean + m.dirty as usize;
-        place(&mut out[o..end], m.value, clean, &body[from..next]);
+        let end = o + clean + dirty.len();
+        place(&mut out[o..end], m.value, clean, dirty);
         o = end;
-        at = next;
     }
 }
 
@@ -71,5 +44,5 @@ pub fn expand(body: &[u32], rows: u32, out: &mut [u32])
         return;
     }
     let last = ((rows - 1) >> 5) as usize;
-    out[last] = out[last] & bits::low_ones(rows::last_rows(rows));
+    out[last] &= bits::low_ones(rows::last_rows(rows));
 }

@@ -8,7 +8,7 @@ ghost use Rattle.laws.specs.Laws.{EwahFacts};
 ghost use Rattle.meaning.specs.declared.Format.TheVariants.{Ewah};
 ghost use Rattle.extent.specs.Place.{PlaceOf};
 
-use ewah::marker;
+use ewah::marker::{self, Markers};
 use extent::Place;
 use meaning::Row;
 use words::bits;
@@ -18,38 +18,29 @@ fn locate(body: &[u32], s: u32) -> Place
     requires { (due_after 0 body.now ≡ 0) × (s < length (segments body.now)) }
     ensures { PlaceOf (segments body.now) (pieces 0 body.now) s result }
 {
-    let mut at = 0;
     let mut ahead = s;
-    while at < body.len() {
-        let m = marker::read(body[at]);
-        let clean = m.clean;
-        let dirty = m.dirty;
-        if ahead < clean {
+    for (m, words) in Markers::of(body) {
+        if ahead < m.clean {
             let word = marker::segment(m.value);
             let from = s - ahead;
             return Place {
                 word,
                 from,
-                size: clean,
+                size: m.clean,
             };
         }
-        let behind = ahead - clean;
-        if behind < dirty {
-            let word = body[at + 1 + behind as usize];
+        let behind = ahead - m.clean;
+        if behind < m.dirty {
+            let word = words[behind as usize];
             return Place {
                 word,
                 from: s,
                 size: 1,
             };
         }
-        ahead = behind - dirty;
-        at = at + 1 + dirty as usize;
+        ahead = behind - m.dirty;
     }
-    Place {
-        word: 0,
-        from: 0,
-        size: 0,
-    }
+    unreachable!()
 }
 
 // The answer on row r.

@@ -1,14 +1,15 @@
 -- `ewah::cursor::load` meets its contract. The loop's invariant: the pieces from the marker at word `at` on are those that
 -- were asked for.
 -- Assumes nothing.
-use mathlib.Core.Path.{refl}
+use mathlib.Core.Path.{◌≡◌, refl}
+use lib.ListN.{length}
 use Rattle.meaning.specs.declared.Format.TheVariants.{Ewah}
 use Rattle.ewah.proofs.Pieces.{at-end, on-run, on_none, on-idle}
 use native.Mathlib.Omega.{arith}
 use Rattle.ewah.proofs.cursor.load.Goals as goal
 
 pub loop-at-init : goal.loop-at-init
-loop-at-init c = (omega arith, refl)
+loop-at-init c = refl
 
 pub returns-then-clean-ne0 : goal.returns-then-clean-ne0
 returns-then-clean-ne0 c = search on-run
@@ -23,13 +24,14 @@ returns-then-dirty-ne0 c =
     let m = c.read-m in
     let l = c.loop-at in
     let t = c.loop-at-test.true in
-    let next = on_none c.args.body.now l.at t _ l.invariant.1 m.result m.ensures c.if-clean-ne0.false in
+    let next = on_none c.args.body.now l.at t _ l.invariant m.result m.ensures c.if-clean-ne0.false in
     rw next at c.load_dirty.ensures
 
 pub loop-at-preserved : goal.loop-at-preserved
-loop-at-preserved c = (omega arith, search on-idle)
+loop-at-preserved c = search on-idle
 
 pub returns : goal.returns
 returns c =
-    let l = c.loop-at in
-    rw l.invariant.1 at (at-end Ewah c.args.body.now l.at 0 c.loop-at-test.false l.invariant.0)
+    let b = c.args.body.now in
+    let e : c.loop-at.at ≡ length b = omega arith in
+    rw (rw e at c.loop-at.invariant) at (at-end Ewah b (length b) 0 (omega arith) (omega arith))

@@ -8,7 +8,4 @@ use Rattle.meaning.specs.Ewah.{pieces}
 use Rattle.ewah.proofs.cursor.load.Given as goal
 
 abbrev pub invariant-loop-at : goal.invariant-loop-at
-invariant-loop-at l = (l.at ≤ length l.body) × (pieces 0 (drop l.at l.body) ≡ pieces 0 (drop l.next l.body))
-
-abbrev pub decreases-loop-at : goal.decreases-loop-at
-decreases-loop-at l = length l.body - l.at
+invariant-loop-at l = pieces 0 (drop l.at l.body) ≡ pieces 0 (drop l.next l.body)

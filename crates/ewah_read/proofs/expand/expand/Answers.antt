@@ -49,30 +49,24 @@ module _ (R : ℕ) (b : List ℕ) (s : EwahFacts R b) (words : Words b) where
         (cut-part 32 R xs (drop (length xs) out) n (omega (arith, s.count))
         ∙ ap₂ (λ (ys : List ℕ) (k : ℕ). ys ++ drop k out) cut-rows s.count)
 
-module _ (t : After-spread) where
-  body-words : Words t.args.body.now
-  body-words = λ i. (t.shared_slice_known-1.given i).fits
-
-  -- the last segment is one of the buffer's words
-  inside : (t.args.rows ≡ 0 → ⊥) → (t.args.rows - 1) / 32 < length t.spread.new.out
-  unfolding segment_count
-  inside h = omega (arith, t.requires.2, t.spread.auto.out)
-
 pub returns-then-rows-eq0 : goal.returns-then-rows-eq0
 returns-then-rows-eq0 c =
     let a = c.args in
-    none a.rows a.body.now c.requires.1 (body-words c.before.before.before.before) _ a.out.now c.spread.ensures c.if-rows-eq0.true
+    none a.rows a.body.now c.requires.1 (λ i. (c.type_inv.body i).fits) _ a.out.now c.spread.ensures c.if-rows-eq0.true
 
+-- the last segment is one of the buffer's words
 pub bounds-out-last : goal.bounds-out-last
-bounds-out-last c = inside c.before.before.before.before.before c.if-rows-eq0.false
+unfolding segment_count
+bounds-out-last c = omega (arith, c.requires.2, c.spread.auto.out, c.if-rows-eq0.false)
 
 pub bounds-out-last-2 : goal.bounds-out-last-2
-bounds-out-last-2 c = inside c.before.before.before.before.before.before.before c.if-rows-eq0.false
+unfolding segment_count
+bounds-out-last-2 c = omega (arith, c.requires.2, c.spread.auto.out, c.if-rows-eq0.false)
 
 pub returns : goal.returns
 unfolding segment_count
 returns c =
     let a = c.args in
     let limit = c.low_ones.ensures ∙ ap (λ (k : ℕ). 2 ^ k - 1) c.last_rows.ensures.0 in
-    masked a.rows a.body.now c.requires.1 (body-words c.before.before.before.before.before.before.before) _ a.out.now c.spread.ensures _ _
+    masked a.rows a.body.now c.requires.1 (λ i. (c.type_inv.body i).fits) _ a.out.now c.spread.ensures _ _
     (omega (arith, c.if-rows-eq0.false)) limit
