@@ -1,2 +1,1 @@
-pub mod Replacing
 pub mod Joining

@@ -17,21 +17,10 @@ word_at even x at i = get_or x (at + cond even 0 i) 0
 abbrev pub HasAhead : Format → List ℕ → Cursor → ℕ → Type 0
 HasAhead F b c n = (o : ℕ) × Ahead F b o (pieces_from F b c) × (o + n ≤ length (segments_of F b))
 
--- from x to x' the n words from `at` on became f 0, f 1, ..; the others stay
-pub record Replaced (x x' : List ℕ) (at n : ℕ) (f : ℕ → ℕ) : Type 0 where
-  pub long : length x' ≡ length x
-  pub inside : (i : ℕ) → i < n → get_or x' (at + i) 0 ≡ f i
-  pub before : (i : ℕ) → i < at → get_or x' i 0 ≡ get_or x i 0
-  pub behind : (i : ℕ) → at + n ≤ i → get_or x' i 0 ≡ get_or x i 0
-
--- the next n segments of the cursor c became the n words of x from `at` on, and the cursor went on
-pub record SpanTaken (F : Format) (b : List ℕ) (c : Cursor) (n : ℕ) (x : List ℕ) (at : ℕ) (x' : List ℕ) (r : Cursor)
-    : Type 0 where
+-- the next n segments of the cursor c became the first n words of the row x, and the cursor went on
+pub record SpanTaken (F : Format) (b : List ℕ) (c : Cursor) (n : ℕ) (x : List ℕ) (r : Cursor) : Type 0 where
   pub goes : Passes F b c n r
-  pub words : (o : ℕ) → Ahead F b o (pieces_from F b c) → (i : ℕ) → i < n → get_or x' (at + i) 0 ≡ get_or (segments_of F b) (o + i) 0
-  pub long : length x' ≡ length x
-  pub before : (i : ℕ) → i < at → get_or x' i 0 ≡ get_or x i 0
-  pub behind : (i : ℕ) → at + n ≤ i → get_or x' i 0 ≡ get_or x i 0
+  pub words : (o : ℕ) → Ahead F b o (pieces_from F b c) → (i : ℕ) → i < n → get_or x i 0 ≡ get_or (segments_of F b) (o + i) 0
 
 -- the next n segments of the cursor c became the row of x at `at`, and the cursor went on; the other rows stay
 pub record RowTaken (F : Format) (b : List ℕ) (c : Cursor) (n : ℕ) (even : Bool) (x : List ℕ) (at : ℕ) (x' : List ℕ) (r : Cursor)

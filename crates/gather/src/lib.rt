@@ -61,15 +61,9 @@ fn take_place(
         x.old numbers.new x.new }
 {
     let c = query::cursor_at(numbers, k);
-    let d = block_read::take(
-        format,
-        contents::body(index, b),
-        c,
-        x,
-        k * BLOCK_SEGMENTS,
-        n,
-        even,
-    );
+    let from = k * BLOCK_SEGMENTS;
+    let row = &mut x[from..from + BLOCK_SEGMENTS];
+    let d = block_read::take(format, contents::body(index, b), c, row, n, even);
     query::set_cursor(numbers, k, d);
 }
 
