@@ -7,7 +7,7 @@ use native.Mathlib.Omega.{arith}
 use Rattle.pivots.proofs.compare.split.Goals as goal
 
 pub loop-i-init : goal.loop-i-init
-loop-i-init c = λ op e. split-none op _ _ _ _ c.requires.2 c.row.ensures
+loop-i-init c = λ op e. split-none op _ _ _ _ c.requires.2 c.part.ensures
 
 pub loop-i-preserved : goal.loop-i-preserved
 loop-i-preserved c =
@@ -18,5 +18,5 @@ loop-i-preserved c =
     λ op e.
     split-more
     (subst (λ (k : ℕ). SplitFrom op s.x.now s.n s.pivot k h.s.ahead h.s.same) more (h.invariant op e))
-    (omega arith) (digit-is s.pivot i) c.row-in-loop-i.ensures
+    (omega arith) (digit-is s.pivot i) c.part-in-loop-i.ensures
     e c.refine-t.ensures
