@@ -3,6 +3,7 @@
 -- Assumes nothing.
 use Prim.Native.Nat.{ℕ, zero, suc, ◌+◌, ◌-◌, ◌*◌, ◌/◌, ◌%◌, ◌^◌, ◌≤◌, ◌<◌}
 use mathlib.Core.Path.{◌≡◌, sym, ap, ap₂, ◌∙◌, subst}
+use mathlib.Core.Bool.{Bool, true, false, cond, false≢true}
 use mathlib.Core.List.{List}
 use lib.Dec.{eqb, leb, lit<}
 use lib.ListN.{get_or, replicate, get_or-replicate}
@@ -13,7 +14,7 @@ use native.Mathlib.Decide.{dec_le}
 use native.Mathlib.Omega.{arith}
 use borrow.Author.Tests.{le-leb, lt-leb}
 use Rattle.meaning.specs.Limits.{word_bits, block_segments}
-use Rattle.meaning.specs.Rows.{sum_below}
+use Rattle.meaning.specs.Rows.{bit, sum_below}
 use Rattle.meaning.specs.Segment.{bit_at, is_set}
 use Rattle.column_meaning.specs.Column.{pair_value}
 use Rattle.meaning.specs.declared.Pairing.TheVariants.{Sum, Difference}
@@ -179,9 +180,13 @@ pub record HasDigit (f : (w j : ℕ) → ℕ → ℕ) (i : ℕ) (a : List ℕ) :
 pub row-digit : {x a : List ℕ} {i : ℕ} → RowOf x ((i + 1) * block_segments) a → HasDigit (digits_at x) i a
 row-digit p = record { bits = λ w j l k. ap (λ (v : ℕ). bit_at v j) (p.words w l) }
 
-pub flipped-digit : {y b r : List ℕ} {i : ℕ} → RowOf y ((i + 1) * block_segments) b → Flipped b r
-    → HasDigit (λ w j. flip (digits_at y w j)) i r
-flipped-digit p q = record { bits = λ w j l k. q.bits w j l k ∙ ap (λ (v : ℕ). 1 - bit_at v j) (p.words w l) }
+-- the digits, or the other ones
+abbrev pub turned : (flip : Bool) (g : ℕ → ℕ) → ℕ → ℕ
+turned flip g i = cond flip (1 - g i) (g i)
+
+pub turned-digit : {flip : Bool} {y b r : List ℕ} {i : ℕ} → RowOf y ((i + 1) * block_segments) b → Flipped flip b r
+    → HasDigit (λ w j. turned flip (digits_at y w j)) i r
+turned-digit {flip = flip} p q = record { bits = λ w j l k. q.bits w j l k ∙ ap (λ (v : ℕ). cond flip (1 - bit_at v j) (bit_at v j)) (p.words w l) }
 
 -- the carries into digit i, at every bit of every word
 pub record Carrying (c : ℕ) (f g : (w j : ℕ) → ℕ → ℕ) (i : ℕ) (carry : List ℕ) : Type 0 where
@@ -254,10 +259,23 @@ module _ (x y : List ℕ) where
         (low_digit h p q s w j m k
         ∙ sym (difference-digit (digits_at x w j) (digits_at y w j) (digits-bits x w j) (digits-bits y w j) n i l))
 
+  -- the carries of a sum, or of a difference
+  abbrev pub RowCarry : (flip : Bool) (i : ℕ) (carry : List ℕ) → Type 0
+  RowCarry flip = Carrying (bit flip) (digits_at x) (λ w j. turned flip (digits_at y w j))
+
+  pub digits-paired : (flip : Bool) {a b carry digits carries : List ℕ} {i : ℕ} → RowCarry flip i carry → HasDigit (digits_at x) i a
+      → HasDigit (λ w j. turned flip (digits_at y w j)) i b → Added block_segments a b carry digits carries
+      → (n w j : ℕ) → i < n → w < block_segments → j < word_bits
+      → is_set (get_or digits w 0) j ≡ is_set (pair_value (cond flip Difference Sum) n (number_at x n w j) (number_at y n w j)) i
+  unfolding bit
+  digits-paired true h p q s n w j l m k = digits-subtracted h p q s n w j l m k
+  digits-paired false h p q s n w j l m k = digits-summed h p q s n w j l m k
+
   -- and the last carries tell where x is no less
-  pub last-carries : {n : ℕ} {carry : List ℕ} → DifferenceCarry n carry → NotLess x y n carry
-  unfolding is_set number_at
-  last-carries {n} {carry} h = record {
+  pub last-carries : (flip : Bool) {n : ℕ} {carry : List ℕ} → RowCarry flip n carry → flip ≡ true → NotLess x y n carry
+  unfolding bit is_set number_at
+  last-carries false h e = absurd (false≢true e)
+  last-carries true {n} {carry} h e = record {
     bits = λ w j l k.
         ap (λ (v : ℕ). eqb v 1) (h.bits w j l k)
         ∙ last_says (digits_at x w j) (digits_at y w j) (digits-bits x w j) (digits-bits y w j) n;

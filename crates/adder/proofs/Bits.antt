@@ -1,15 +1,13 @@
 -- Words of zeros and of ones, and a choice between the bits of two words.
 -- Assumes nothing.
-use Prim.Native.Nat.{ℕ, ◌-◌, ◌^◌, ◌<◌}
+use Prim.Native.Nat.{ℕ, ◌-◌, ◌^◌}
 use mathlib.Core.Bool.{Bool, true, false, cond, not, xor, ◌&&◌}
 use mathlib.Core.Path.{◌≡◌, refl, sym, ap, ◌∙◌}
 use lib.Bits.{bit_and, bit_xor}
 use native.Mathlib.Nat.{zero-div}
-use native.Mathlib.Omega.{arith}
-use Rattle.meaning.specs.Limits.{word_bits}
 use Rattle.meaning.specs.Rows.{bit}
 use Rattle.meaning.specs.Segment.{bit_at, is_set}
-use Rattle.words.proofs.BitLaws.{bit-set, and_set, xor-set, not_set}
+use Rattle.words.proofs.BitLaws.{bit-set, and_set, xor-set}
 
 pub zero_bit : (j : ℕ) → bit_at 0 j ≡ 0
 unfolding bit_at
@@ -20,16 +18,23 @@ unfolding bit
 not-bit true = refl
 not-bit false = refl
 
--- a word flipped
-pub flip-bit : (v j : ℕ) → v < 2 ^ word_bits → j < word_bits → bit_at ((2 ^ word_bits - 1) - v) j ≡ 1 - bit_at v j
-flip-bit v j h l =
-    bit-set ((2 ^ word_bits - 1) - v) j
-    ∙ ap bit (not_set word_bits v j h l)
-    ∙ not-bit (is_set v j)
-    ∙ ap (λ (k : ℕ). 1 - k) (sym (bit-set v j))
+xor-true : (a : Bool) → xor a true ≡ not a
+unfolding xor
+xor-true true = refl
+xor-true false = refl
 
-pub one_bit : (j : ℕ) → j < word_bits → bit_at 0xFFFFFFFF j ≡ 1
-one_bit j l = flip-bit 0 j (omega arith) l ∙ ap (λ (k : ℕ). 1 - k) (zero_bit j)
+xor-false : (a : Bool) → xor a false ≡ a
+unfolding xor
+xor-false true = refl
+xor-false false = refl
+
+-- a word flipped or not
+pub flip_word : (flip : Bool) (v m j : ℕ) → is_set m j ≡ flip → bit_at (bit_xor v m) j ≡ cond flip (1 - bit_at v j) (bit_at v j)
+flip_word flip v m j e = bit-set (bit_xor v m) j ∙ ap bit (xor-set v m j ∙ ap (xor (is_set v j)) e) ∙ go flip
+  where
+    go : (f : Bool) → bit (xor (is_set v j) f) ≡ cond f (1 - bit_at v j) (bit_at v j)
+    go true = ap bit (xor-true (is_set v j)) ∙ not-bit (is_set v j) ∙ ap (λ (k : ℕ). 1 - k) (sym (bit-set v j))
+    go false = ap bit (xor-false (is_set v j)) ∙ sym (bit-set v j)
 
 choice-table : (a b m : Bool) → xor a (xor a b && m) ≡ cond m b a
 unfolding xor

@@ -1,6 +1,6 @@
 -- A block's rows taken out of it and put into it, and the row of what exists in both of two blocks.
 -- Assumes nothing.
-use Rattle.std.specs.Prelude.{ℕ, ◌+◌, ◌-◌, ◌≤◌, ◌<◌, ◌^◌, cond, ◌&&◌, ◌≡◌, List, length, get_or}
+use Rattle.std.specs.Prelude.{ℕ, Bool, ◌+◌, ◌-◌, ◌≤◌, ◌<◌, ◌^◌, cond, ◌&&◌, ◌≡◌, List, length, get_or}
 use Rattle.std.specs.Int.Bits.{bit_and}
 use Rattle.meaning.specs.Limits.{word_bits, block_segments, block_words}
 use Rattle.meaning.specs.Segment.{bit_at, is_set}
@@ -10,9 +10,10 @@ use Rattle.words.specs.Sums.{PartOf}
 abbrev pub RowOf : (x : List ℕ) (at : ℕ) (r : List ℕ) → Type 0
 RowOf = PartOf block_segments
 
--- each bit of r's words is the other than a's
-pub record Flipped (a r : List ℕ) : Type 0 where
-  pub bits : (w j : ℕ) → w < block_segments → j < word_bits → bit_at (get_or r w 0) j ≡ 1 - bit_at (get_or a w 0) j
+-- each bit of r's words is the other than a's, where `flip` says so, and else a's
+pub record Flipped (flip : Bool) (a r : List ℕ) : Type 0 where
+  pub bits : (w j : ℕ) → w < block_segments → j < word_bits
+      → bit_at (get_or r w 0) j ≡ cond flip (1 - bit_at (get_or a w 0) j) (bit_at (get_or a w 0) j)
 
 -- r has the bits of b where m has one, and those of a elsewhere
 pub record ChosenBy (a b m r : List ℕ) : Type 0 where

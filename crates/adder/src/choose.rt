@@ -8,6 +8,7 @@ ghost use Rattle.adder.specs.Digits.{Paired};
 
 use crate::{chain, rows};
 use meaning::{BLOCK_SEGMENTS, BLOCK_WORDS};
+use words::vectors;
 
 // The bits of b where m has one, and those of a elsewhere.
 fn choice(
@@ -31,13 +32,11 @@ pub fn smaller(x: &[u32; BLOCK_WORDS], y: &[u32; BLOCK_WORDS], z: &mut [u32; BLO
     ensures { Paired (pair_value Smaller) x.now y.now n z.new }
 {
     let not_less = chain::difference(x, y, z, n);
-    let exist = rows::row(z, 0);
-    let mut i: usize = 0;
-    while i < n {
+    let exist = vectors::part(z, 0);
+    for i in 0..n {
         let at = (i + 1) * BLOCK_SEGMENTS;
-        let chosen = choice(rows::row(x, at), rows::row(y, at), not_less);
+        let chosen = choice(vectors::part(x, at), vectors::part(y, at), not_less);
         rows::put_both(z, at, exist, chosen);
-        i += 1;
     }
 }
 
@@ -53,11 +52,9 @@ pub fn difference_or_zero(
     ensures { Paired (pair_value DifferenceOrZero) x.now y.now n z.new }
 {
     let not_less = chain::difference(x, y, z, n);
-    let mut i: usize = 0;
-    while i < n {
+    for i in 0..n {
         let at = (i + 1) * BLOCK_SEGMENTS;
-        let digits = rows::row(z, at);
+        let digits = vectors::part::<BLOCK_SEGMENTS>(z, at);
         rows::put_both(z, at, digits, not_less);
-        i += 1;
     }
 }

@@ -1,29 +1,19 @@
-// The rows of blocks: taken out, flipped, put in, and the row of what exists in both of two blocks.
+// The rows of blocks: flipped, put in, and the row of what exists in both of two blocks.
 ghost use Rattle.std.specs.Prelude.{◌≡◌, ◌+◌, ◌≤◌, length};
 ghost use Rattle.meaning.specs.Limits.{block_segments, block_words};
-ghost use Rattle.adder.specs.Blocks.{RowOf, Flipped, PutBoth, Existing};
+ghost use Rattle.adder.specs.Blocks.{Flipped, PutBoth, Existing};
 
 use meaning::{BLOCK_SEGMENTS, BLOCK_WORDS};
+use words::{bits, vectors};
 
-// The row that begins at `at`.
-pub fn row(x: &[u32; BLOCK_WORDS], at: usize) -> [u32; BLOCK_SEGMENTS]
-    requires { (length x.now ≡ block_words) × (at + block_segments ≤ block_words) }
-    ensures { RowOf x.now at result }
+// Each bit the other way round, where `flip` says so.
+pub fn flipped(a: [u32; BLOCK_SEGMENTS], flip: bool) -> [u32; BLOCK_SEGMENTS]
+    ensures { Flipped flip a result }
 {
+    let mask = bits::filled(flip);
     let mut r: [u32; BLOCK_SEGMENTS] = [0; BLOCK_SEGMENTS];
     for w in 0..BLOCK_SEGMENTS {
-        r[w] = x[at + w];
-    }
-    r
-}
-
-// Each bit the other way round.
-pub fn flipped(a: [u32; BLOCK_SEGMENTS]) -> [u32; BLOCK_SEGMENTS]
-    ensures { Flipped a result }
-{
-    let mut r: [u32; BLOCK_SEGMENTS] = [0; BLOCK_SEGMENTS];
-    for w in 0..BLOCK_SEGMENTS {
-        r[w] = !a[w];
+        r[w] = a[w] ^ mask;
     }
     r
 }
@@ -52,6 +42,6 @@ pub fn exist(
     requires { (length x.now ≡ block_words) × (length y.now ≡ block_words) × (length z.old ≡ block_words) }
     ensures { Existing x.now y.now z.new result }
 {
-    put_both(z, 0, row(x, 0), row(y, 0));
-    row(z, 0)
+    put_both(z, 0, vectors::part(x, 0), vectors::part(y, 0));
+    vectors::part(z, 0)
 }

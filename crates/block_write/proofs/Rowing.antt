@@ -57,11 +57,6 @@ module _ (F : Format) (xs : List ℕ) (i : ℕ) (h : i < length xs) where
       ∙ map-append read (take (i + 1) xs) (drop (i + 1) xs)
       ∙ ap (λ (l : List Segment). l ++ map read (drop (i + 1) xs)) (first_more read xs i h)
 
-  -- where a body has room for all segments, it has for one more
-  pub growing-next : {w v : Writer} → Growing F w (length xs) → Grown F w (map (kind (width F)) (take i xs)) v
-      → Growing F v 1
-  growing-next p g = still-growing first 1 (p.0, p.1, omega (arith, p.2, first-length)) g
-
   -- room for all is room for the next one
   pub room_next : {w v : Writer} {n : ℕ} → RoomFor F (map (kind (width F)) xs) w n
       → Grown F w (map (kind (width F)) (take i xs)) v → RoomFor F (kind (width F) (get_or xs i 0) ∷ []) v n

@@ -51,7 +51,7 @@ fn dirty_over_pad(body: &[u32], last: usize, rows: u32, left: u32, d: u32) -> bo
     if d != left {
         return false;
     }
-    rows::sets_pad(rows, body[last])
+    rows::sets_pad::<32>(rows, body[last])
 }
 
 // One marker with its dirty words.
@@ -97,7 +97,7 @@ pub fn check(body: &[u32], rows: u32, bitmap: u32, start: u64) -> Result<(), Ref
 {
     let mut rest = Rest {
         at: 0,
-        left: rows::segment_count(rows),
+        left: rows::segment_count::<32>(rows),
     };
     // Kept: a marker's dirty words are passed over unread, so the step is not 1, and each place told is counted in words.
     while rest.at < body.len() {

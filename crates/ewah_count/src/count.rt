@@ -1,5 +1,5 @@
 // How many rows are set, marker by marker: its clean run at once, and its dirty words.
-ghost use Rattle.std.specs.Prelude.{◌≡◌, ◌+◌, ◌-◌, ◌≤◌, ◌<◌, length, take, drop, replicate};
+ghost use Rattle.std.specs.Prelude.{◌≡◌, ◌≤◌, ◌<◌, length, replicate};
 ghost use Rattle.meaning.specs.Limits.{most_rows, most_segments, most_clean};
 ghost use Rattle.meaning.specs.Rows.{count_below};
 ghost use Rattle.meaning.specs.Segment.{ones, fill};
@@ -19,27 +19,18 @@ pub fn count_run(value: u32, clean: u32) -> u32
     clean * (value * 32)
 }
 
-// How many bits of many words are set. A function of its own, so that the loop over markers puts the slice into memory,
-// as such a call needs it, only where it has many words to count.
-fn count_many(ws: &[u32], from: usize, to: usize) -> u32
-    requires { (from ≤ to) × (to ≤ length ws.now) × (to ≤ from + most_segments) }
-    ensures { result ≡ ones 32 (take (to - from) (drop from ws.now)) }
+// How many bits of the words are set. Most markers have no dirty words, or fewer than a block.
+pub fn count_words(ws: &[u32]) -> u32
+    requires { length ws.now ≤ most_segments }
+    ensures { result ≡ ones 32 ws.now }
 {
-    popcount::count(ws, from, to)
-}
-
-// How many bits of the words from `from` to `to` are set. Most markers have no dirty words, or fewer than a block.
-pub fn count_words(ws: &[u32], from: usize, to: usize) -> u32
-    requires { (from ≤ to) × (to ≤ length ws.now) × (to ≤ from + most_segments) }
-    ensures { result ≡ ones 32 (take (to - from) (drop from ws.now)) }
-{
-    if to == from {
+    if ws.len() == 0 {
         return 0;
     }
-    if to - from < BLOCK {
-        return popcount::count_each(ws, from, to);
+    if ws.len() < BLOCK {
+        return popcount::count_each(ws);
     }
-    count_many(ws, from, to)
+    popcount::count(ws)
 }
 
 // How many pad bits of the last segment are set, where `last` is its marker: those of a run of ones. A dirty word sets
@@ -52,7 +43,7 @@ pub fn pads_set(last: u32, rows: u32) -> u32
     if 0 < m.dirty {
         return 0;
     }
-    m.value * (rows::segment_count(rows) * 32 - rows)
+    m.value * (rows::segment_count::<32>(rows) * 32 - rows)
 }
 
 // How many rows are set. The walk ends with the marker of the last segment.
@@ -62,14 +53,14 @@ pub fn count(body: &[u32], rows: u32) -> u32
 {
     let mut n = 0;
     let mut at = 0;
-    let mut left = rows::segment_count(rows);
+    let mut left = rows::segment_count::<32>(rows);
     let mut last = 0;
     while 0 < left {
         last = body[at];
         let m = marker::read(last);
         let from = at + 1;
         let next = from + m.dirty as usize;
-        n += count_run(m.value, m.clean) + count_words(body, from, next);
+        n += count_run(m.value, m.clean) + count_words(&body[from..next]);
         left = left - m.clean - m.dirty;
         at = next;
     }

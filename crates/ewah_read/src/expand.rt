@@ -44,5 +44,5 @@ pub fn expand(body: &[u32], rows: u32, out: &mut [u32])
         return;
     }
     let last = ((rows - 1) >> 5) as usize;
-    out[last] &= bits::low_ones(rows::last_rows(rows));
+    out[last] &= bits::low_ones(rows::last_rows::<32>(rows));
 }

@@ -15,7 +15,7 @@ fn last_word(plain: &[u32], rows: u32) -> u32
     ensures { kind 32 result
         ≡ kind (last_rows 32 rows) (get_or plain.now (length plain.now - 1) 0) }
 {
-    let mask = bits::low_ones(rows::last_rows(rows));
+    let mask = bits::low_ones(rows::last_rows::<32>(rows));
     rows::spelled(plain[plain.len() - 1], mask, 0xFFFF_FFFF)
 }
 

@@ -54,17 +54,6 @@ module _ (F : Format) (mask : ℕ) (starts old : List ℕ) (wsₒ : List Writer)
     pub front : take (get_or starts 0 0) out ≡ take (get_or starts 0 0) old
     pub back : drop (get_or starts count 0) out ≡ drop (get_or starts count 0) old
 
-  pub going-none : Going old wsₒ 0
-  going-none = record {
-    long = refl;
-    writers-long = refl;
-    done = λ real e i h. absurd (omega arith);
-    ahead = λ i h. refl;
-    same = λ i h l. refl;
-    front = refl;
-    back = refl;
-  }
-
   module _ (laid : Laid starts count (length old)) (out : List ℕ) (ws : List Writer) (m : ℕ) (g : Going out ws m) where
     -- the next one's part became ys, and its writer v
     module _ (h : m < count) (ys : List ℕ) (v : Writer) (long' : length ys ≡ length (region starts out m))

@@ -5,8 +5,8 @@ ghost use Rattle.meaning.specs.Segment.{is_set};
 ghost use Rattle.laws.specs.Pivot.{lead};
 ghost use Rattle.pivots.specs.Splits.{Refined, SplitBy, Taken};
 
-use adder::rows;
 use meaning::{BLOCK_SEGMENTS, BLOCK_WORDS, Ranking};
+use words::vectors;
 
 // Of the rows of a block those whose value comes before the pivot's, and those that have it.
 #[derive(Clone, Copy)]
@@ -29,10 +29,7 @@ pub fn lead(op: Ranking) -> u32
 fn filled(on: bool) -> u32
     ensures { (j : ℕ) → j < word_bits → is_set result j ≡ on }
 {
-    if on {
-        return 0xFFFF_FFFF;
-    }
-    0
+    if on { 0xFFFF_FFFF } else { 0 }
 }
 
 // One digit more, which x has. Of the rows that agreed with the pivot so far those agree on whose digit is its own; the others come
@@ -64,13 +61,11 @@ pub fn split(op: Ranking, x: &[u32; BLOCK_WORDS], n: usize, pivot: u32) -> Compa
     let first = lead(op);
     let mut s = Compared {
         ahead: [0; BLOCK_SEGMENTS],
-        same: rows::row(x, 0),
+        same: vectors::part(x, 0),
     };
-    let mut i = n;
-    while 0 < i {
-        i -= 1;
+    for i in (0..n).rev() {
         let digit = (pivot >> i as u32) & 1;
-        let t = refine(s, rows::row(x, (i + 1) * BLOCK_SEGMENTS), digit, first);
+        let t = refine(s, vectors::part(x, (i + 1) * BLOCK_SEGMENTS), digit, first);
         s = t;
     }
     s

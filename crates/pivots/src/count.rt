@@ -23,5 +23,5 @@ pub fn count(words: [u32; BLOCK_SEGMENTS], n: u32, even: bool, mask: u32) -> u32
     let last = n as usize - 1;
     let mut cut = words;
     cut[last] = words[last] & mask;
-    popcount::count_each(&cut, 0, n as usize)
+    popcount::count_each(&cut[0..n as usize])
 }

@@ -19,14 +19,14 @@ pub fn check_plain(plain: &[u32], rows: u32) -> Result<(), Refusal>
     if MOST_ROWS < rows {
         return Err(answer::too_many_rows());
     }
-    let words = rows::segment_count(rows) as usize;
+    let words = rows::segment_count::<32>(rows) as usize;
     if plain.len() != words {
         return Err(answer::bad_argument());
     }
     if words == 0 {
         return Ok(());
     }
-    if rows::sets_pad(rows, plain[words - 1]) {
+    if rows::sets_pad::<32>(rows, plain[words - 1]) {
         return Err(answer::pad_bit(words as u64 - 1));
     }
     Ok(())

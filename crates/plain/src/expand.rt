@@ -31,7 +31,7 @@ pub fn plain(format: Format, body: &[u32], rows: u32, out: &mut [u32]) -> Result
     ensures { Wrote (meaning.ask_plain rows (rows_of format body.now) (length out.old))
         result out.old out.new }
 {
-    let need = rows::segment_count(rows) as usize;
+    let need = rows::segment_count::<32>(rows) as usize;
     if out.len() < need {
         return Err(answer::no_room(need as u64));
     }

@@ -32,7 +32,7 @@ fn word_step(x: u32, rows: u32, left: u32) -> Result<u32, Fault>
     if left != 1 {
         return Ok(left - 1);
     }
-    if rows::wah_sets_pad(rows, x) {
+    if rows::sets_pad::<31>(rows, x) {
         return Err(Fault::PadBit);
     }
     Ok(0)

@@ -1,5 +1,5 @@
 // The bits of a word, each a row: which are set, how many, and where.
-ghost use Rattle.std.specs.Prelude.{◌≡◌, ◌-◌, ◌^◌, ◌≤◌, ◌<◌};
+ghost use Rattle.std.specs.Prelude.{ℕ, ◌≡◌, ◌-◌, ◌^◌, ◌≤◌, ◌<◌};
 ghost use Rattle.meaning.specs.Rows.{count_below, nth_below};
 ghost use Rattle.meaning.specs.Segment.{is_set};
 
@@ -20,6 +20,13 @@ pub fn low_ones(k: u32) -> u32
         return 0xFFFF_FFFF;
     }
     (1 << k) - 1
+}
+
+// A word whose bits are all so.
+pub fn filled(on: bool) -> u32
+    ensures { (j : ℕ) → j < 32 → is_set result j ≡ on }
+{
+    if on { 0xFFFF_FFFF } else { 0 }
 }
 
 // How many bits of a word are set.

@@ -1,7 +1,7 @@
 -- `adder::choose::difference_or_zero` meets its contract. The invariant: the i lowest rows of digits are masked, and the others
 -- are still those of the difference.
 -- Assumes nothing.
-use Prim.Native.Nat.{ℕ, ◌+◌, ◌-◌, ◌*◌, ◌≤◌}
+use Prim.Native.Nat.{ℕ, ◌+◌, ◌*◌, ◌≤◌}
 use mathlib.Core.Path.{◌≡◌}
 use lib.ListN.{get_or}
 use Rattle.meaning.specs.Limits.{block_segments}
@@ -12,8 +12,5 @@ use Rattle.adder.proofs.choose.difference_or_zero.Given as goal
 
 abbrev pub invariant-loop-i : goal.invariant-loop-i
 invariant-loop-i l =
-    (l.i ≤ l.n) × Filling (pair_value DifferenceOrZero) l.x l.y l.initial.z l.n l.i l.z
+    Filling (pair_value DifferenceOrZero) l.x l.y l.initial.z l.n l.i l.z
     × ((k : ℕ) → (l.i + 1) * block_segments ≤ k → get_or l.z k 0 ≡ get_or l.initial.z k 0)
-
-abbrev pub decreases-loop-i : goal.decreases-loop-i
-decreases-loop-i l = l.n - l.i

@@ -6,6 +6,6 @@ use Rattle.adder.proofs.rows.exist.Goals as goal
 pub returns : goal.returns
 returns c =
     let put = c.put_both in
-    let second = c.row-2 in
-    let first = c.row in
-    existing first.ensures second.ensures put.ensures c.requires.2 c.row-3.ensures
+    let second = c.part-2 in
+    let first = c.part in
+    existing first.ensures second.ensures put.ensures c.requires.2 c.part-3.ensures

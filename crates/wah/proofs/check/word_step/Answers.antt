@@ -1,4 +1,5 @@
 -- `wah::check::word_step` meets its contract: each return is a law of `Steps`, of a fill or of a literal. Assumes nothing.
+use native.Mathlib.Omega.{arith}
 use Rattle.wah.proofs.Steps.{fill_none, fill-over, fill-passed, last-rows}
 use Rattle.wah.proofs.Steps.{literal-over, literal-inside, literal-pad, literal-last}
 use Rattle.wah.proofs.check.word_step.Goals as goal
@@ -18,11 +19,11 @@ returns-then-left-eq0 c = search literal-over
 pub returns-then-left-ne1 : goal.returns-then-left-ne1
 returns-then-left-ne1 c = search literal-inside
 
-pub wah_sets_pad-requires : goal.wah_sets_pad-requires
-wah_sets_pad-requires c = search last-rows
+pub sets_pad-requires : goal.sets_pad-requires
+sets_pad-requires c = (omega arith, omega arith, search last-rows)
 
-pub returns-then-wah_sets_pad : goal.returns-then-wah_sets_pad
-returns-then-wah_sets_pad c = search literal-pad
+pub returns-then-sets_pad : goal.returns-then-sets_pad
+returns-then-sets_pad c = search literal-pad
 
 pub returns : goal.returns
 returns c = search literal-last
