@@ -11,9 +11,8 @@ ghost use Rattle.resume.specs.Resume.{ResumedIs, Resumes, LastMarker, Walked, dr
 
 use ewah::marker;
 use ewah::marker::Marker;
-use ewah_write::dirty;
-use ewah_write::writer;
 use ewah_write::writer::Writer;
+use ewah_write::{dirty, writer};
 use meaning::{MOST_CLEAN, MOST_DIRTY};
 use words::bits;
 

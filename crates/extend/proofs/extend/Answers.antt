@@ -33,28 +33,15 @@ module _ (c : Then-most_words-out) where
       let a = c.args in
       omega (arith, c.most_words.ensures (longer a.before q a.plain.now), c.if-most_words-out.true)
 
-pub write-requires : goal.write-requires
-write-requires c =
-    record {
-      plain_rows = c.requires.plain_rows;
-      by_index = (c.requires.by_index.0, c.requires.by_index.1, fits-sure c.before.before c.requires.by_index.0);
-    }
-
-pub returns-then-most_words-out : goal.returns-then-most_words-out
-returns-then-most_words-out c q at = c.write.ensures q at (fits-sure c.before.before.before.before.before q)
-
-pub feed-need-requires : goal.feed-need-requires
-feed-need-requires c =
+pub feed-need-requires-clause-by_index : goal.feed-need-requires-clause-by_index
+feed-need-requires-clause-by_index c =
     let a = c.args in
-    let q = c.requires.by_index.0 in record {
-      have_bound = (omega (arith, c.reopen.ensures.2), c.requires.plain_rows.0);
-      by_index = (
-        a.before,
-        longer a.before q a.plain.now,
-        a.out.now,
-        measured-next c.requires.by_index.1 a.plain.now a.rows c.requires.plain_rows.1 c.reopen.result c.reopen.ensures,
-      );
-    }
+    let q = c.requires.by_index.0 in (
+      a.before,
+      longer a.before q a.plain.now,
+      a.out.now,
+      measured-next c.requires.by_index.1 a.plain.now a.rows c.requires.plain_rows.1 c.reopen.result c.reopen.ensures,
+    )
 
 -- the body is measured, and the buffer is as it was
 module _ (c : After-feed-need) where
@@ -88,13 +75,11 @@ module _ (c : Else-out-need) where
       → Fits a.before q a.rows a.plain.now c.feed-need.new.out
   fits q at = omega (arith, (measured c.before.before.before q at).words_are, c.if-out-need.false)
 
-pub write-requires-2 : goal.write-requires-2
-write-requires-2 c =
+pub write-requires-2-clause-by_index : goal.write-requires-2-clause-by_index
+write-requires-2-clause-by_index c =
     let q = c.requires.by_index.0 in
-    let at = c.requires.by_index.1 in record {
-      plain_rows = c.requires.plain_rows;
-      by_index = (q, place_kept c.before.before.before.before.before q at, fits c.before.before q at);
-    }
+    let at = c.requires.by_index.1 in
+    (q, place_kept c.before.before.before.before.before q at, fits c.before.before q at)
 
 pub returns : goal.returns
 returns c q at =

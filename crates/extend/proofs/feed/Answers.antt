@@ -6,17 +6,11 @@ use native.Mathlib.Omega.{arith}
 use Rattle.extend.proofs.Feeding.{fed-none, fed-takes, fed-next, fed-all}
 use Rattle.extend.proofs.feed.Goals as goal
 
-pub loop-x-init : goal.loop-x-init
-loop-x-init c =
-    fed-none c.args.out.now c.args.o c.requires.have_bound.0
-
-pub put-v-requires : goal.put-v-requires
-put-v-requires c =
+pub put-v-requires-clause-takes : goal.put-v-requires-clause-takes
+put-v-requires-clause-takes c =
     let f = c.loop-x.invariant in
-    let p = c.requires in record {
-      have_bound = (f.few, omega (arith, c.min-k.ensures));
-      takes = fed-takes f p.have_bound.1 c.loop-x-test.true c.min-k.result c.min-k.ensures p.by_index.3;
-    }
+    let p = c.requires in
+    fed-takes f p.have_bound.1 c.loop-x-test.true c.min-k.result c.min-k.ensures p.by_index.3
 
 pub loop-x-preserved : goal.loop-x-preserved
 loop-x-preserved c =
@@ -24,12 +18,10 @@ loop-x-preserved c =
     fed-next c.loop-x.invariant c.requires.have_bound.1 c.loop-x-test.true c.min-k.result c.min-k.ensures
     x.new.out x.result x.auto.out x.ensures.have_bound_2 x.ensures.put_on
 
-pub finish-requires : goal.finish-requires
-finish-requires c =
-    let p = c.requires in record {
-      have_bound = c.loop-x.invariant.few;
-      by_index = (p.by_index.0 + c.args.rows, p.by_index.1, p.by_index.2, fed-all c.loop-x.invariant p.have_bound.1 c.loop-x-test.false p.by_index.3);
-    }
+pub finish-requires-clause-by_index : goal.finish-requires-clause-by_index
+finish-requires-clause-by_index c =
+    let p = c.requires in
+    (p.by_index.0 + c.args.rows, p.by_index.1, p.by_index.2, fed-all c.loop-x.invariant p.have_bound.1 c.loop-x-test.false p.by_index.3)
 
 pub returns : goal.returns
 returns c R q old b =

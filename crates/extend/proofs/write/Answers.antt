@@ -17,11 +17,6 @@ use Rattle.extend.proofs.write.Goals as goal
 abbrev After-reopen : Type 0
 After-reopen = Lts.After-reopen Tie.the-claims Reads.Pre Reads.Post Tie.handed_clauses
 
-pub restore-requires : goal.restore-requires
-restore-requires c =
-    let at = c.requires.by_index.1 in
-    ((_, at.tracks), at.inside)
-
 -- the batch comes next
 module _ (c : After-reopen) where
   coming : let a = c.args in (q : ℕ → Bool) → PlaceOf a.before q a.out.now a.p
@@ -33,13 +28,11 @@ module _ (c : After-reopen) where
       stored_next at a.plain.now a.rows c.requires.plain_rows.1 c.reopen.result c.reopen.ensures fits
       c.restore.ensures
 
-pub feed-requires : goal.feed-requires
-feed-requires c =
+pub feed-requires-clause-by_index : goal.feed-requires-clause-by_index
+feed-requires-clause-by_index c =
     let a = c.args in
-    let q = c.requires.by_index.0 in record {
-      have_bound = (omega (arith, c.reopen.ensures.2), c.requires.plain_rows.0);
-      by_index = (a.before, longer a.before q a.plain.now, a.out.now, coming c.before q c.requires.by_index.1 c.requires.by_index.2);
-    }
+    let q = c.requires.by_index.0 in
+    (a.before, longer a.before q a.plain.now, a.out.now, coming c.before q c.requires.by_index.1 c.requires.by_index.2)
 
 pub returns : goal.returns
 returns c q at fits =

@@ -35,9 +35,6 @@ module _ (t : After-shared_slice_known-1) where
 pub returns-then-have-eq0 : goal.returns-then-have-eq0
 returns-then-have-eq0 c = found-even (over c.before.before) (sym (and_mask c.args.rows 5) ∙ c.if-have-eq0.true)
 
-pub low_ones-all-requires : goal.low_ones-all-requires
-low_ones-all-requires c = omega (arith, and_mask c.args.rows 5)
-
 -- the last segment has fewer rows than 32
 module _ (t : Else-have-eq0) where
   abbrev body : List ℕ
@@ -56,12 +53,6 @@ module _ (k : After-back-whole) where
 
   taken_back : Resumes words k.back-whole.result (draft_of words (length (segments words) - 1))
   taken_back = k.back-whole.ensures words (length (segments words)) (its-marker k.before.before)
-
-pub overflow_mul-run : goal.overflow_mul-run
-overflow_mul-run c =
-    let low : c.low_ones-all.result < 2 ^ 32 = search rules in
-    let h = run_fits c.args.w.last.value c.low_ones-all.result (its-marker c.before.before.before.before.before.before.before).in-range.value_low low in
-    search rules
 
 pub returns-then-last-eq0 : goal.returns-then-last-eq0
 returns-then-last-eq0 c =

@@ -76,9 +76,6 @@ returns-then-not-all_mixed c =
     not-mixed c.loop-at.invariant (there c.before.before.before.before.before.before.before.before) c.read-m.ensures (follow c.before.before) (sym (words_are c.before.before) ∙ c.if-not-all_mixed.true)
     c.args.rows
 
-pub loop-at-smaller : goal.loop-at-smaller
-loop-at-smaller c = omega (arith, words-fit c.before.before.before.before.before.before.before.before)
-
 pub loop-at-preserved : goal.loop-at-preserved
 loop-at-preserved c =
     stood-next c.loop-at.invariant (there c.before.before.before.before.before.before.before.before) c.read-m.ensures (follow c.before.before) (low c.before.before.before.before.before.before.before.before)
@@ -86,6 +83,3 @@ loop-at-preserved c =
 
 pub end-requires : goal.end-requires
 end-requires c = (c.requires.1, stood-end c.loop-at.invariant c.loop-at-test.false)
-
-pub returns : goal.returns
-returns c = c.end.ensures
