@@ -18,6 +18,7 @@ use Rattle.laws.proofs.Counting.{count-le}
 use Rattle.ewah_write.specs.declared.writer.Writer.{Writer}
 use Rattle.body_write.specs.Bodies.{Stands, Growing, RoomFor, Emitted, UpTo}
 use Rattle.body_write.proofs.UpTo.{up_none, up-growing, up_room, up_more, up-used, up-all}
+use Rattle.ewah.specs.declared.cursor.Cursor.{Cursor}
 use Rattle.walk.specs.declared.survey.Survey.{Survey}
 use Rattle.walk.specs.Surveys.{MovedAll}
 use Rattle.merge.specs.declared.evaluate.Operation.{Operation}
@@ -35,15 +36,15 @@ segments_of index list op table =
 -- the cursors are on their way at segment o, the writer has put the answer's first o segments, and so many stretches
 -- ended there
 pub record Merging (index list : List ℕ) (op : Operation) (table old : List ℕ) (store : Bool)
-    (out ns : List ℕ) (s : Survey) (w : Writer) (o steps : ℕ) : Type 0 where
-  pub along : Along index list ns s o
+    (out : List ℕ) (cs : List Cursor) (s : Survey) (w : Writer) (o steps : ℕ) : Type 0 where
+  pub along : Along index list cs s o
   pub counted : steps ≡ count_below o (ends_at (format_of index) (bodies_of index list))
   pub up : UpTo (format_of index) (row_count index) (segments_of index list op table) store old out w o
   pub same : length out ≡ length old
 
 module _ {index list : List ℕ} {op : Operation} {table old : List ℕ} {store : Bool} where
-  pub merging-none : {ns : List ℕ} {s : Survey} {w : Writer} → Along index list ns s 0 → Stands (format_of index) w []
-      → Merging index list op table old store old ns s w 0 0
+  pub merging-none : {cs : List Cursor} {s : Survey} {w : Writer} → Along index list cs s 0 → Stands (format_of index) w []
+      → Merging index list op table old store old cs s w 0 0
   unfolding count_below sum_below
   merging-none {w} a t = record {
     along = a;
@@ -52,8 +53,8 @@ module _ {index list : List ℕ} {op : Operation} {table old : List ℕ} {store 
     same = refl;
   }
 
-  module _ {out ns : List ℕ} {s : Survey} {w : Writer} {o steps : ℕ}
-      (g : Merging index list op table old store out ns s w o steps) where
+  module _ {out : List ℕ} {cs : List Cursor} {s : Survey} {w : Writer} {o steps : ℕ}
+      (g : Merging index list op table old store out cs s w o steps) where
     abbrev F : Format
     F = format_of index
 
@@ -78,7 +79,7 @@ module _ {index list : List ℕ} {op : Operation} {table old : List ℕ} {store 
     steps_low = omega (arith, g.counted, count-le o (ends_at F bodies))
 
     -- ---- one stretch more
-    module _ (n : NextStretch index list ns s o)
+    module _ (n : NextStretch index list cs s o)
         {mask : ℕ} (m : mask ≡ all_set (rows_in (width (format_of index)) (row_count index) (o + s.least - 1)))
         {p : Part} (e : Evaluated (format_of index) op table s mask p) where
       abbrev part : List Segment
@@ -112,8 +113,8 @@ module _ {index list : List ℕ} {op : Operation} {table old : List ℕ} {store 
       pub merging-more : {f : Format} → f ≡ format_of index → {out' : List ℕ} {v : Writer}
           → ((real : ℕ) → mask ≡ 2 ^ real - 1 → Emitted f real out out' w (part_segments f p) store v)
           → length out' ≡ length out
-          → {ns' : List ℕ} {s' : Survey} → MovedAll (format_of index) index list ns s.least ns' s'
-          → Merging index list op table old store out' ns' s' v (o + s.least) (steps + 1)
+          → {cs' : List Cursor} {s' : Survey} → MovedAll (format_of index) index list cs s.least cs' s'
+          → Merging index list op table old store out' cs' s' v (o + s.least) (steps + 1)
       unfolding all_set
       merging-more {f} is {out'} {v} put same' mv = record {
         along = along-more g.along n mv;

@@ -156,7 +156,7 @@ dirty-left : (q : code.Piece) → 1 ≤ dirty_in q → left_of q ≡ 1
 dirty-left (Clean v n) h = absurd (omega arith)
 dirty-left (Dirty x) h = refl
 
-module _ (F : Format) (index list ns : List ℕ) (R o : ℕ) (s : Survey) where
+module _ (F : Format) (index list : List ℕ) (cs : List Cursor) (R o : ℕ) (s : Survey) where
   abbrev m : ℕ
   m = length list
 
@@ -167,17 +167,17 @@ module _ (F : Format) (index list ns : List ℕ) (R o : ℕ) (s : Survey) where
   body i = place_body index list i
 
   abbrev cursor : ℕ → Cursor
-  cursor i = cursor_of ns i
+  cursor i = cursor_of cs i
 
   abbrev piece : ℕ → code.Piece
-  piece i = (cursor_of ns i).piece
+  piece i = (cursor_of cs i).piece
 
   -- body n has row r
   abbrev has : (r n : ℕ) → ℕ
   has r n = bit (rows_of F (body n) r)
 
-  module _ (sound : (i : ℕ) → i < m → SoundFacts F R (body i)) (st : Standing F index list ns m o)
-      (su : Surveyed ns m s) (some : 1 ≤ m) (l : o < segment_count (width F) R) where
+  module _ (sound : (i : ℕ) → i < m → SoundFacts F R (body i)) (st : Standing F index list cs m o)
+      (su : Surveyed cs m s) (some : 1 ≤ m) (l : o < segment_count (width F) R) where
     inside : (i : ℕ) → i < m → o < length (segments_of F (body i))
     inside i h = omega (arith, facts-count F R (body i) (sound i h))
 

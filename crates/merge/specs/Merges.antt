@@ -8,9 +8,9 @@ use Rattle.meaning.specs.Index.{format_of, row_count, body_at}
 use Rattle.meaning.specs.Question.{stretches}
 use Rattle.laws.specs.Laws.{IndexFacts}
 use Rattle.laws.specs.Ahead.{answer_rows}
+use Rattle.answers.specs.declared.answer.Report.{Report}
 use Rattle.walk.specs.Queries.{Listed}
 use Rattle.merge.specs.declared.evaluate.Operation.{Operation}
-use Rattle.merge.specs.declared.engine.Merged.{Merged}
 use Rattle.merge.specs.Operations.{chosen}
 
 -- a sound index, and a list that names some of its bitmaps
@@ -35,7 +35,7 @@ answer_body index list op table =
 
 -- the words and the stretches of the answer; its words stand in the buffer where they are stored, and the rest is as
 -- it was
-pub record MergedTo (index list : List ℕ) (op : Operation) (table out : List ℕ) (store : Bool) (out' : List ℕ) (r : Merged) : Type 0 where
+pub record MergedTo (index list : List ℕ) (op : Operation) (table out : List ℕ) (store : Bool) (out' : List ℕ) (r : Report) : Type 0 where
   pub words_are : r.words ≡ length (answer_body index list op table)
   pub stretches-are : r.stretches ≡ stretches (format_of index) (row_count index) (bodies_of index list)
   pub stored : store ≡ true → out' ≡ answer_body index list op table ++ drop (length (answer_body index list op table)) out

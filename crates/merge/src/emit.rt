@@ -1,6 +1,6 @@
 // A part of the answer goes to the writer.
 ghost use Rattle.std.specs.Prelude.{◌≡◌, true, ℕ, ◌-◌, ◌^◌, length};
-ghost use Rattle.body_write.specs.Bodies.{Growing, RoomFor, Grown, Pushed, Emitted};
+ghost use Rattle.body_write.specs.Bodies.{Growing, RoomFor, Emitted};
 ghost use Rattle.merge.specs.Parts.{part_segments, PartLow};
 
 use crate::evaluate::Part;
@@ -8,32 +8,7 @@ use body_write::writer;
 use ewah_write::writer::Writer;
 use meaning::Format;
 
-// The writer grown by a part, with no buffer.
-fn grow(format: Format, w: Writer, part: Part) -> Writer
-    requires growing { Growing format w (length (part_segments format part)) }
-    requires part_low { PartLow format part }
-    ensures { Grown format w (part_segments format part) result }
-{
-    match part {
-        Part::Run(value, n) => writer::grow_run(format, w, value, n),
-        Part::Word(x) => writer::grow_segment(format, w, x),
-    }
-}
-
-// The same with its words; the mask has the rows of the part's last segment.
-fn push(format: Format, out: &mut [u32], w: Writer, part: Part, mask: u32) -> Writer
-    requires room_for { RoomFor format (part_segments format part) w (length out.old) }
-    requires part_low { PartLow format part }
-    ensures { (real : ℕ) → mask ≡ 2 ^ real - 1
-        → Pushed format real out.old out.new w (part_segments format part) result }
-{
-    match part {
-        Part::Run(value, n) => writer::push_run(format, out, w, value, n, mask),
-        Part::Word(x) => writer::push_segment(format, out, w, x, mask),
-    }
-}
-
-// A part is written where `store` says so, and else only measured.
+// A part is written where `store` says so, and else only measured; the mask has the rows of its last segment.
 pub fn emit(
     format: Format,
     out: &mut [u32],
@@ -48,8 +23,8 @@ pub fn emit(
     ensures { (real : ℕ) → mask ≡ 2 ^ real - 1
         → Emitted format real out.old out.new w (part_segments format part) store result }
 {
-    if store {
-        return push(format, out, w, part, mask);
+    match part {
+        Part::Run(value, n) => writer::emit_run(format, out, w, value, n, mask, store),
+        Part::Word(x) => writer::emit_segment(format, out, w, x, mask, store),
     }
-    grow(format, w, part)
 }

@@ -36,11 +36,7 @@ fn holds(op: Operation, table: &[u32], c: u32) -> bool
 fn entry_is_one(table: &[u32], c: u32) -> bool
     ensures { result ≡ eqb (get_or table.now c 0) 1 }
 {
-    let k = c as usize;
-    if k < table.len() {
-        return table[k] == 1;
-    }
-    false
+    table.get(c as usize) == Some(&1)
 }
 
 // The rows of a segment that are in the answer, where base of the list have every row of it, and the counters' number
@@ -53,7 +49,7 @@ fn word(op: Operation, table: &[u32], base: u32, most: u32, planes: [u32; PLANES
     match op {
         Operation::AtLeast(t) => {
             if t <= base {
-                return 0xFFFF_FFFF;
+                return u32::MAX;
             }
             counters::at_least(planes, most, t - base)
         }
@@ -81,15 +77,11 @@ pub fn evaluate(op: Operation, table: &[u32], s: Survey, mask: u32, full: u32) -
         × ((j : ℕ) → j < 32 → count_at s.planes j ≤ s.dirty) }
     ensures { (F : Format) → full ≡ all_set (width F) → Evaluated F op table.now s mask result }
 {
-    let n = s.least;
-    let base = s.ones;
-    let dirty = s.dirty;
-    if dirty != 0 {
-        let planes = s.planes;
-        return Part::Word(rows::spelled(word(op, table, base, dirty, planes), mask, full));
+    if s.dirty != 0 {
+        return Part::Word(rows::spelled(word(op, table, s.ones, s.dirty, s.planes), mask, full));
     }
-    if holds(op, table, base) {
-        return Part::Run(1, n);
+    if holds(op, table, s.ones) {
+        return Part::Run(1, s.least);
     }
-    Part::Run(0, n)
+    Part::Run(0, s.least)
 }
