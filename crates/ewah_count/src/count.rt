@@ -1,13 +1,15 @@
 // How many rows are set, marker by marker: its clean run at once, and its dirty words.
-ghost use Rattle.std.specs.Prelude.{◌≡◌, ◌≤◌, ◌<◌, length, replicate};
+ghost use Rattle.std.specs.Prelude.{◌≡◌, ℕ, ◌≤◌, ◌<◌, length, replicate};
 ghost use Rattle.meaning.specs.Limits.{most_rows, most_segments, most_clean};
 ghost use Rattle.meaning.specs.Rows.{count_below};
 ghost use Rattle.meaning.specs.Segment.{ones, fill};
 ghost use Rattle.meaning.specs.Ewah.{ewah_rows};
 ghost use Rattle.laws.specs.Laws.{EwahFacts};
+ghost use Rattle.ewah.specs.Markers.{FieldsOf};
 ghost use Rattle.ewah_count.specs.Pads.{pads_set};
+ghost use Rattle.ewah_count.specs.Walked.{Walked};
 
-use ewah::marker;
+use ewah::marker::{self, Marker, Markers};
 use popcount::BLOCK;
 use words::rows;
 
@@ -19,50 +21,67 @@ pub fn count_run(value: u32, clean: u32) -> u32
     clean * (value * 32)
 }
 
-// How many bits of the words are set. Most markers have no dirty words, or fewer than a block.
-pub fn count_words(ws: &[u32]) -> u32
-    requires { length ws.now ≤ most_segments }
-    ensures { result ≡ ones 32 ws.now }
-{
-    if ws.len() == 0 {
-        return 0;
+// A way to count the set bits of dirty words.
+pub trait CountsWords {
+    fn count_words(ws: &[u32]) -> u32
+        requires { length ws.now ≤ most_segments }
+        ensures { result ≡ ones 32 ws.now };
+}
+
+// The library's. Most markers have no dirty words, or fewer than a block.
+pub struct InBlocks;
+
+impl CountsWords for InBlocks {
+    fn count_words(ws: &[u32]) -> u32 {
+        if ws.len() < BLOCK {
+            return popcount::count_each(ws);
+        }
+        popcount::count(ws)
     }
-    if ws.len() < BLOCK {
-        return popcount::count_each(ws);
-    }
-    popcount::count(ws)
 }
 
 // How many pad bits of the last segment are set, where `last` is its marker: those of a run of ones. A dirty word sets
 // none.
-pub fn pads_set(last: u32, rows: u32) -> u32
-    requires { rows ≤ most_rows }
-    ensures { result ≡ pads_set rows last }
+pub fn pads_set(last: Marker, rows: u32) -> u32
+    requires { (rows ≤ most_rows) × (last.value < 2) }
+    ensures { (word : ℕ) → FieldsOf word last → result ≡ pads_set rows word }
 {
-    let m = marker::read(last);
-    if 0 < m.dirty {
+    if 0 < last.dirty {
         return 0;
     }
-    m.value * (rows::segment_count::<32>(rows) * 32 - rows)
+    last.value * (rows::segment_count::<32>(rows) * 32 - rows)
 }
 
-// How many rows are set. The walk ends with the marker of the last segment.
+// How many bits of the segments are set, and the marker of the last of them.
+#[derive(Clone, Copy)]
+pub struct Counted {
+    pub set: u32,
+    pub last: Marker,
+}
+
+// The walk ends with the marker of the last segment.
+pub fn count_segments<C: CountsWords>(body: &[u32], rows: u32) -> Counted
+    requires { (rows ≤ most_rows) × EwahFacts rows body.now }
+    ensures { Walked rows body.now result.set result.last }
+{
+    let mut set = 0;
+    let mut left = rows::segment_count::<32>(rows);
+    let mut last = marker::read(0);
+    let mut markers = Markers::of(body);
+    while 0 < left {
+        let (m, dirty) = markers.next().unwrap();
+        set += count_run(m.value, m.clean) + C::count_words(dirty);
+        left -= m.clean + m.dirty;
+        last = m;
+    }
+    Counted { set, last }
+}
+
+// How many rows are set.
 pub fn count(body: &[u32], rows: u32) -> u32
     requires { (rows ≤ most_rows) × EwahFacts rows body.now }
     ensures { result ≡ count_below rows (ewah_rows body.now) }
 {
-    let mut n = 0;
-    let mut at = 0;
-    let mut left = rows::segment_count::<32>(rows);
-    let mut last = 0;
-    while 0 < left {
-        last = body[at];
-        let m = marker::read(last);
-        let from = at + 1;
-        let next = from + m.dirty as usize;
-        n += count_run(m.value, m.clean) + count_words(&body[from..next]);
-        left = left - m.clean - m.dirty;
-        at = next;
-    }
-    n - pads_set(last, rows)
+    let counted = count_segments::<InBlocks>(body, rows);
+    counted.set - pads_set(counted.last, rows)
 }

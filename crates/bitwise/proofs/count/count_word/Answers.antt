@@ -32,4 +32,4 @@ loop-j-preserved c =
 pub returns : goal.returns
 returns c =
     let all : c.loop-j.j ≡ 32 = omega arith in
-    c.loop-j.invariant.1 ∙ ap (λ (j : ℕ). count_below j (is_set c.args.x)) all
+    c.loop-j.invariant ∙ ap (λ (j : ℕ). count_below j (is_set c.args.x)) all

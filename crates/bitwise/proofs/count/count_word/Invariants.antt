@@ -8,7 +8,4 @@ use Rattle.meaning.specs.Segment.{is_set}
 use Rattle.bitwise.proofs.count.count_word.Given as goal
 
 abbrev pub invariant-loop-j : goal.invariant-loop-j
-invariant-loop-j l = (l.j ≤ 32) × (l.n ≡ count_below l.j (is_set l.x))
-
-abbrev pub decreases-loop-j : goal.decreases-loop-j
-decreases-loop-j l = 32 - l.j
+invariant-loop-j l = l.n ≡ count_below l.j (is_set l.x)
