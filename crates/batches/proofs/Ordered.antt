@@ -19,7 +19,7 @@ use Rattle.laws.proofs.Outcomes.{refuse-no, refuse-yes, then-sound, then-refused
 use Rattle.laws.proofs.Formats.{canonical-ext, canonical-none}
 use Rattle.batches.specs.declared.AppendState.{AppendState}
 use Rattle.batches.specs.Append.{begun, mismatched, Batch, rows_with, append}
-use Rattle.batches.specs.AppendLaws.{most_batch_number, BatchNumbered, Matches, body_with, Admitted, BatchOrder, numbers_given}
+use Rattle.batches.specs.AppendLaws.{BatchNumbered, Matches, body_with, Admitted, BatchOrder, numbers_given}
 use Rattle.batches.proofs.Following.{follow-none, matches, not-mismatched}
 
 -- ---- the numbers that an outcome may be refused with
@@ -43,8 +43,9 @@ module _ {A : Type 0} (P : ℕ → Type 0) where
   number_is : (o : Outcome A) (n b w : ℕ) → Given P o → o ≡ refused n b w → P n
   number_is o n b w h e = subst (Given P) e h
 
+-- the number alone says so
 abbrev IsNumber : ℕ → Type 0
-IsNumber n = (1 ≤ n) × (n ≤ most_batch_number)
+IsNumber n = BatchNumbered {A = ℕ} (refused n 0 0)
 
 as-numbered : {A : Type 0} (o : Outcome A) → Given IsNumber o → BatchNumbered o
 unfolding BatchNumbered
@@ -122,6 +123,7 @@ module _ (s : AppendState) (buffer : List ℕ) (b : Batch) where
   all-given P h12 h3 h8 h7 h9 = refuse P (mismatched s buffer) 12 0 0 _ h12 (rest-given P h3 h8 h7 h9)
 
   pub numbered : BatchNumbered (append s buffer b)
+  unfolding BatchNumbered
   numbered =
       as-numbered (append s buffer b)
       (all-given IsNumber (omega arith, omega arith) (omega arith, omega arith) (omega arith, omega arith) (omega arith, omega arith)

@@ -1,9 +1,7 @@
 -- `extend::feed` meets its contract. The invariant: the first i words of the batch were put.
 -- Assumes nothing.
-use Prim.Native.Nat.{◌+◌, min}
-use mathlib.Core.Path.{◌≡◌}
-use native.Mathlib.Omega.{arith}
-use Rattle.extend.proofs.Feeding.{fed-none, fed-takes, fed-next, fed-all}
+use Prim.Native.Nat.{◌+◌}
+use Rattle.extend.proofs.Feeding.{fed-takes, fed-next, fed-all}
 use Rattle.extend.proofs.feed.Goals as goal
 
 pub put-v-requires-clause-takes : goal.put-v-requires-clause-takes

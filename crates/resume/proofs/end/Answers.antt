@@ -1,14 +1,13 @@
 -- `resume::end` meets its contract: the last segment is whole, of a clean run, or a dirty word. Assumes nothing.
-use Prim.Native.Nat.{ℕ, ◌-◌, ◌^◌, ◌<◌}
+use Prim.Native.Nat.{ℕ, ◌-◌}
 use mathlib.Core.Path.{refl, sym, ◌∙◌}
 use mathlib.Core.List.{List}
 use native.Mathlib.Omega.{arith}
 use lib.Bits.{and_mask}
 use lib.ListN.{length}
-use borrow.Author.Rules.{rules}
 use Rattle.meaning.specs.Ewah.{segments}
 use Rattle.resume.specs.Resume.{draft_of, Resumes, LastMarker}
-use Rattle.resume.proofs.Ending.{run_fits, Over, found-even, last-marker, found-run, found_word, not-word}
+use Rattle.resume.proofs.Ending.{Over, found-even, last-marker, found-run, found_word, not-word}
 use Rattle.resume.proofs.end.Lts
 use Rattle.resume.proofs.end.Reads
 use Rattle.resume.proofs.end.Tie

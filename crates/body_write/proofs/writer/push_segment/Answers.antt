@@ -5,29 +5,21 @@ use mathlib.Core.List.{[], ◌∷◌}
 use native.Mathlib.Omega.{arith}
 use Rattle.meaning.specs.Segment.{kind}
 use Rattle.body_write.proofs.OfEwah.{ewah-room, ewah-pushed}
-use Rattle.body_write.proofs.OfWah.{wah-room, wah-fits, wah-pushed}
+use Rattle.body_write.proofs.OfWah.{wah-fits}
 use Rattle.body_write.proofs.writer.push_segment.Goals as goal
 
 pub push_segment-requires : goal.push_segment-requires
 push_segment-requires c =
     ewah-room (kind 32 c.args.x ∷ []) (rw c.in-Ewah.is at c.requires)
 
-pub push_segment-requires-in-Wah : goal.push_segment-requires-in-Wah
-push_segment-requires-in-Wah c =
+pub push_segment-requires-in-Wah-clause-clean_lt_most_fill : goal.push_segment-requires-in-Wah-clause-clean_lt_most_fill
+push_segment-requires-in-Wah-clause-clean_lt_most_fill c =
     let ss = kind 31 c.args.x ∷ [] in
-    let r = rw c.in-Wah.is at c.requires in record {
-      room_for = wah-room ss r;
-      clean_lt_most_fill = omega (arith, wah-fits ss r);
-    }
+    let r = rw c.in-Wah.is at c.requires in
+    omega (arith, wah-fits ss r)
 
 pub returns-in-Ewah : goal.returns-in-Ewah
 returns-in-Ewah c =
     λ real e.
     rw c.in-Ewah.is
     (ewah-pushed real (kind 32 c.args.x ∷ []) c.push_segment.ensures)
-
-pub returns-in-Wah : goal.returns-in-Wah
-returns-in-Wah c =
-    λ real e.
-    rw c.in-Wah.is
-    (wah-pushed real (kind 31 c.args.x ∷ []) (c.push_segment-in-Wah.ensures real e))

@@ -13,12 +13,15 @@ use Rattle.ewah_write.proofs.Pushing.{written_none, written-more, written_all}
 use Rattle.ewah_write.proofs.WordByWord.{no_words, word-inside, word-last}
 use Rattle.ewah_write.proofs.compress.write.Goals as goal
 
-pub returns-then-is_empty : goal.returns-then-is_empty
-returns-then-is_empty c =
-    let e = no_words c.args.rows c.args.plain.now (true-eqb _ 0 (sym c.if-is_empty.true ∙ c.is_empty.ensures)) in record {
-      value = ap length e;
-      out_after = rw (← e) refl;
-    }
+pub returns-then-is_empty-clause-value : goal.returns-then-is_empty-clause-value
+returns-then-is_empty-clause-value c =
+    let e = no_words c.args.rows c.args.plain.now (true-eqb _ 0 (sym c.if-is_empty.true ∙ c.is_empty.ensures)) in
+    ap length e
+
+pub returns-then-is_empty-clause-out_after : goal.returns-then-is_empty-clause-out_after
+returns-then-is_empty-clause-out_after c =
+    let e = no_words c.args.rows c.args.plain.now (true-eqb _ 0 (sym c.if-is_empty.true ∙ c.is_empty.ensures)) in
+    rw (← e) refl
 
 pub loop-x-init : goal.loop-x-init
 loop-x-init c = (refl, written_none c.args.out.now c.start-w.result c.start-w.ensures)
@@ -44,15 +47,22 @@ push_segment-requires c =
     let done = word-last c.requires.plain_rows x.x-index some x.auto.x-index-end c.loop-x-test.false c.last_word-end.result c.last_word-end.ensures in
     (up_to (kinds 32 c.args.rows c.args.plain.now) x.x-index, x.invariant.1.drawn.tracks, omega (arith, ap length done, c.requires.plain_in_bounds, x.invariant.0))
 
-pub returns : goal.returns
-returns c =
+pub returns-clause-value : goal.returns-clause-value
+returns-clause-value c =
     let p = c.push_segment in
     let x = c.loop-x in
     let end = c.last_word-end.result in
     let some = false-eqb _ 0 (sym c.if-is_empty.false ∙ c.is_empty.ensures) in
     let done = word-last c.requires.plain_rows x.x-index some x.auto.x-index-end c.loop-x-test.false end c.last_word-end.ensures in
     let g = written-more c.args.out.now x.out p.new.out x.w p.result _ (kind 32 end ∷ []) x.invariant.1 p.ensures in
-    record {
-      value = used-is _ g.drawn.tracks ∙ ap length done;
-      out_after = rw (← done) (written_all _ _ _ _ g);
-    }
+    used-is _ g.drawn.tracks ∙ ap length done
+
+pub returns-clause-out_after : goal.returns-clause-out_after
+returns-clause-out_after c =
+    let p = c.push_segment in
+    let x = c.loop-x in
+    let end = c.last_word-end.result in
+    let some = false-eqb _ 0 (sym c.if-is_empty.false ∙ c.is_empty.ensures) in
+    let done = word-last c.requires.plain_rows x.x-index some x.auto.x-index-end c.loop-x-test.false end c.last_word-end.ensures in
+    let g = written-more c.args.out.now x.out p.new.out x.w p.result _ (kind 32 end ∷ []) x.invariant.1 p.ensures in
+    rw (← done) (written_all _ _ _ _ g)

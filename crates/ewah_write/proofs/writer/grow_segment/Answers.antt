@@ -2,17 +2,9 @@
 -- way. Assumes nothing.
 use native.Mathlib.Omega.{arith}
 use mathlib.Core.Path.{refl}
-use lib.Bits.{and_mask}
 use Rattle.meaning.specs.Segment.{all_set}
 use Rattle.ewah_write.proofs.Growing.{kind-clean, kind-other}
 use Rattle.ewah_write.proofs.writer.grow_segment.Goals as goal
-
-pub grow_run-requires : goal.grow_run-requires
-grow_run-requires c =
-    record {
-      writing = c.requires.writing;
-      used_bound = (c.requires.used_bound, omega (arith, and_mask c.args.x 1), omega arith);
-    }
 
 pub returns-then-is_clean : goal.returns-then-is_clean
 unfolding all_set

@@ -15,21 +15,16 @@ use Rattle.ewah_write.proofs.writer.push_mixed.Goals as goal
 abbrev After-grow_mixed-r : Type 0
 After-grow_mixed-r = Lts.After-grow_mixed Tie.the-claims Reads.Pre Reads.Post Tie.handed_clauses
 
-pub grow_mixed-r-requires : goal.grow_mixed-r-requires
-grow_mixed-r-requires c =
-    let p = c.requires in record {
-      writing = (p.0, p.1);
-      used_bound = omega (arith, c.well_formed.0, room-now (mixed c.args.x ∷ []) p);
-    }
+pub grow_mixed-r-requires-clause-used_bound : goal.grow_mixed-r-requires-clause-used_bound
+grow_mixed-r-requires-clause-used_bound c =
+    let p = c.requires in
+    omega (arith, c.well_formed.0, room-now (mixed c.args.x ∷ []) p)
 
 fits : (c : After-grow_mixed-r) → let r = c.grow_mixed-r.result in (r.at + 1 < r.used) × (r.used ≤ length c.args.out.now)
 fits c = mixed-fits c.args.w c.grow_mixed-r.result c.args.x (c.grow_mixed-r.ensures c.args.x) c.args.out.now c.requires
 
 pub overflow_sub-end : goal.overflow_sub-end
 overflow_sub-end c = omega (arith, fits c.before.before)
-
-pub word-requires : goal.word-requires
-word-requires c = (c.grow_mixed-r.ensures c.args.x c.requires.0 c.requires.1).in-range
 
 pub offset_bounds-out-at : goal.offset_bounds-out-at
 offset_bounds-out-at c = omega (arith, fits c.before.before.before)
@@ -42,9 +37,6 @@ offset_bounds-out-end c = omega (arith, fits c.before.before.before)
 
 pub bounds-out-end : goal.bounds-out-end
 bounds-out-end c = simp length-set (omega (arith, fits c.before.before.before))
-
-pub shape_of-out : goal.shape_of-out
-shape_of-out c = simp length-set
 
 pub returns : goal.returns
 returns c =

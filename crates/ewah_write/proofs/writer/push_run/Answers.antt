@@ -3,7 +3,7 @@
 use native.Mathlib.Omega.{arith}
 use lib.ListN.{replicate, length-set}
 use Rattle.meaning.specs.Segment.{clean}
-use Rattle.ewah_write.proofs.Pushing.{Running, room-now, none-pushed, last_fits, last-pushed, new-fits, new-pushed, both-pushed}
+use Rattle.ewah_write.proofs.Pushing.{Running, room-now, last_fits, last-pushed, new-fits, new-pushed, both-pushed}
 use Rattle.ewah_write.proofs.writer.push_run.Lts
 use Rattle.ewah_write.proofs.writer.push_run.Reads
 use Rattle.ewah_write.proofs.writer.push_run.Tie
@@ -13,18 +13,11 @@ use Rattle.ewah_write.proofs.writer.push_run.Goals as goal
 abbrev After-word-m : Type 0
 After-word-m = Lts.After-word Tie.the-claims Reads.Pre Reads.Post Tie.handed_clauses
 
-pub grow_run-r-requires : goal.grow_run-r-requires
-grow_run-r-requires c =
+pub grow_run-r-requires-clause-used_bound : goal.grow_run-r-requires-clause-used_bound
+grow_run-r-requires-clause-used_bound c =
     let p = c.requires in
-    let u = room-now (replicate c.args.n (clean c.args.value)) p.room_for in record {
-      writing = (p.room_for.0, p.room_for.1);
-      used_bound = (omega (arith, c.well_formed.0), p.value_bound.0, p.value_bound.1);
-    }
-
-pub word-m-requires : goal.word-m-requires
-word-m-requires c =
-    let p = c.requires in
-    (c.grow_run-r.ensures p.room_for.0 p.room_for.1).in-range
+    let u = room-now (replicate c.args.n (clean c.args.value)) p.room_for in
+    (omega (arith, c.well_formed.0), p.value_bound.0, p.value_bound.1)
 
 known : (c : After-word-m)
     → let s = c.args in
@@ -32,9 +25,6 @@ known : (c : After-word-m)
 known c =
     let p = c.requires in
     record { free = c.free-room.ensures; grown = c.grow_run-r.ensures; roomy = p.room_for; named = c.word-m.ensures; few = p.value_bound.1 }
-
-pub returns-then-n-eq0 : goal.returns-then-n-eq0
-returns-then-n-eq0 c = none-pushed (known c.before.before) (omega (arith, c.if-n-eq0.true)) c.if-n-eq0.true
 
 pub offset_bounds-out-at : goal.offset_bounds-out-at
 offset_bounds-out-at c = omega (arith, last_fits (known c.before.before) (omega arith))
@@ -65,9 +55,6 @@ offset_bounds-out-used-2 c = omega (arith, new-fits (known c.before.before.befor
 
 pub bounds-out-used-2 : goal.bounds-out-used-2
 bounds-out-used-2 c = simp length-set (new-fits (known c.before.before.before.before) c.if-n-room.false)
-
-pub shape_of-out : goal.shape_of-out
-shape_of-out c = simp length-set
 
 pub returns : goal.returns
 returns c =

@@ -2,18 +2,15 @@
 -- the word and its kind. Assumes nothing.
 use native.Mathlib.Omega.{arith}
 use mathlib.Core.Path.{refl}
-use lib.Bits.{and_mask}
 use Rattle.meaning.specs.Segment.{all_set}
 use Rattle.ewah_write.proofs.Growing.{kind-clean, kind-other}
 use Rattle.ewah_write.proofs.writer.push_segment.Goals as goal
 
-pub push_run-requires : goal.push_run-requires
+pub push_run-requires-clause-room_for : goal.push_run-requires-clause-room_for
 unfolding all_set
-push_run-requires c =
-    let k = c.is_clean in record {
-      room_for = rw (kind-clean 32 c.args.x _ (k.ensures 32 (omega arith) refl) c.if-is_clean.true) at c.requires;
-      value_bound = (omega (arith, and_mask c.args.x 1), omega arith);
-    }
+push_run-requires-clause-room_for c =
+    let k = c.is_clean in
+    rw (kind-clean 32 c.args.x _ (k.ensures 32 (omega arith) refl) c.if-is_clean.true) at c.requires
 
 pub returns-then-is_clean : goal.returns-then-is_clean
 unfolding all_set

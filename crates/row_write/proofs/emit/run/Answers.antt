@@ -2,12 +2,12 @@
 -- Assumes nothing.
 use native.Mathlib.Omega.{arith}
 use Prim.Native.Nat.{ℕ, ◌+◌, ◌-◌, ◌^◌}
-use mathlib.Core.Path.{◌≡◌, refl, ap, ◌∙◌}
+use mathlib.Core.Path.{◌≡◌, ap, ◌∙◌}
 use lib.ListN.{length, replicate, length-replicate, replicate-append-replicate}
 use mathlib.Core.List.{◌++◌}
 use Rattle.meaning.specs.Segment.{Segment, clean, all_set}
 use Rattle.meaning.specs.Format.{width}
-use Rattle.body_write.proofs.Emitting.{emitted-none, emitted-more}
+use Rattle.body_write.proofs.Emitting.{emitted-more}
 use Rattle.row_write.proofs.Emitting.{grow-fewer, run-first, run-rest, run-growing}
 use Rattle.row_write.proofs.emit.run.Lts
 use Rattle.row_write.proofs.emit.run.Reads

@@ -8,7 +8,7 @@ use Rattle.meaning.specs.Segment.{kind, all_set}
 use Rattle.meaning.specs.Format.{width}
 use Rattle.laws.proofs.Formats.{width-le}
 use Rattle.row_write.proofs.Sending.{sent-room}
-use Rattle.row_write.proofs.Packing.{finished-whole, finished-part, last-next, last-growing}
+use Rattle.row_write.proofs.Packing.{finished-whole, finished-part, last-next}
 use Rattle.row_write.proofs.output.finish.Lts
 use Rattle.row_write.proofs.output.finish.Reads
 use Rattle.row_write.proofs.output.finish.Tie

@@ -1,11 +1,7 @@
 -- `row_write::output::put` meets its contract: in each case of the piece that of `put_run` or `put_word` is its own.
 -- Assumes nothing.
-use Prim.Native.Nat.{◌+◌, ◌≤◌}
+use Prim.Native.Nat.{◌≤◌}
 use mathlib.Core.Path.{sym}
-use lib.Pow.{pow_pos}
-use native.Mathlib.Nat.{mod-lt}
-use native.Mathlib.Omega.{arith}
-use Rattle.laws.proofs.Formats.{width-pos}
 use Rattle.row_write.proofs.Walking.{rows-kept}
 use Rattle.row_write.proofs.Packing.{takes_same, put_same}
 use Rattle.row_write.proofs.output.put.Goals as goal

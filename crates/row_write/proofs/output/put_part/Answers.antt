@@ -1,10 +1,8 @@
 -- `row_write::output::put_part` meets its contract: by `fill-set`, a word of ones times the value has these rows.
 -- Assumes nothing.
-use Prim.Native.Nat.{ℕ, ◌*◌, ◌^◌, ◌≤◌, ◌<◌}
+use Prim.Native.Nat.{ℕ, ◌*◌, ◌^◌, ◌<◌}
 use mathlib.Core.Path.{◌≡◌, sym, ap, subst, ◌∙◌}
 use lib.Dec.{eqb}
-use lib.Pow.{pow_mono}
-use native.Mathlib.Omega.{arith}
 use Rattle.meaning.specs.Segment.{is_set}
 use Rattle.repack.proofs.RowsPut.{fill-low, fill-set}
 use Rattle.row_write.proofs.Packing.{takes_same, put_same}

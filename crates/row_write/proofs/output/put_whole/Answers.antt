@@ -1,12 +1,9 @@
 -- `row_write::output::put_whole` meets its contract: by `packed-run`. Assumes nothing.
-use Prim.Native.Nat.{ℕ, ◌*◌, ◌≤◌}
-use mathlib.Core.Path.{◌≡◌, refl, ap, subst, ◌∙◌}
-use native.Mathlib.Nat.{zero-mul}
+use Prim.Native.Nat.{◌≤◌}
+use mathlib.Core.Path.{refl}
 use native.Mathlib.Omega.{arith}
-use Rattle.meaning.specs.Format.{width}
-use Rattle.row_write.specs.Packing.{Packed}
 use Rattle.row_write.proofs.Sending.{sent-room}
-use Rattle.row_write.proofs.Packing.{run-next, run-growing, packed-run}
+use Rattle.row_write.proofs.Packing.{run-next, packed-run}
 use Rattle.row_write.proofs.output.put_whole.Lts
 use Rattle.row_write.proofs.output.put_whole.Reads
 use Rattle.row_write.proofs.output.put_whole.Tie

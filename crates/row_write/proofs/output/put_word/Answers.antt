@@ -1,14 +1,13 @@
 -- `row_write::output::put_word` meets its contract: by `put-join`, three steps are one. Assumes nothing.
-use Prim.Native.Nat.{ℕ, ◌+◌, ◌%◌, ◌≤◌}
+use Prim.Native.Nat.{◌+◌, ◌≤◌}
 use mathlib.Core.Bool.{false}
-use mathlib.Core.Path.{refl, ap, ◌∙◌}
+use mathlib.Core.Path.{refl}
 use native.Mathlib.Omega.{arith}
 use Rattle.meaning.specs.Segment.{is_set}
 use Rattle.meaning.specs.Format.{width}
-use Rattle.laws.proofs.Formats.{width-pos, width-le}
 use Rattle.row_write.specs.declared.output.Output.{Output}
 use Rattle.row_write.specs.Packing.{Takes, PutOn}
-use Rattle.row_write.proofs.Packing.{put-added, put-join, takes-after, taken_twice, width-ge}
+use Rattle.row_write.proofs.Packing.{put-added, put-join, takes-after, width-ge}
 use Rattle.row_write.proofs.output.put_word.Lts
 use Rattle.row_write.proofs.output.put_word.Reads
 use Rattle.row_write.proofs.output.put_word.Tie

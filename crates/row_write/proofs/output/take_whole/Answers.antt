@@ -1,16 +1,15 @@
 -- `row_write::output::take_whole` meets its contract: by `packed-taken`, where there is a whole segment.
 -- Assumes nothing.
-use Prim.Native.Nat.{ℕ, ◌≤◌, ◌<◌}
+use Prim.Native.Nat.{ℕ, ◌≤◌}
 use mathlib.Core.Bool.{false}
 use mathlib.Core.Path.{refl, sym, subst, ◌∙◌}
 use native.Mathlib.Omega.{arith}
-use borrow.Author.Tests.{leb-true, leb-false}
+use borrow.Author.Tests.{leb-true}
 use Rattle.meaning.specs.Segment.{all_set}
 use Rattle.meaning.specs.Format.{width}
-use Rattle.laws.proofs.Formats.{width-le}
 use Rattle.repack.specs.Packing.{Split}
 use Rattle.row_write.proofs.Sending.{sent-room}
-use Rattle.row_write.proofs.Packing.{take_next, take-growing, packed-taken, put-none}
+use Rattle.row_write.proofs.Packing.{take_next, packed-taken, put-none}
 use Rattle.row_write.proofs.output.take_whole.Lts
 use Rattle.row_write.proofs.output.take_whole.Reads
 use Rattle.row_write.proofs.output.take_whole.Tie

@@ -2,15 +2,9 @@
 -- each way. Assumes nothing.
 use native.Mathlib.Omega.{arith}
 use mathlib.Core.Path.{refl}
-use borrow.Author.Rules.{rules}
-use lib.Bits.{and_mask}
 use Rattle.meaning.specs.Segment.{all_set}
 use Rattle.ewah_write.proofs.Growing.{kind-clean, kind-other}
 use Rattle.wah_write.proofs.writer.grow_segment.Goals as goal
-
-pub grow_run-requires : goal.grow_run-requires
-grow_run-requires c =
-    search (rules, and_mask c.args.x 1)
 
 pub returns-then-is_clean : goal.returns-then-is_clean
 unfolding all_set

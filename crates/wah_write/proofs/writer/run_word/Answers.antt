@@ -2,19 +2,11 @@
 use Prim.Native.Nat.{ℕ}
 use mathlib.Core.Path.{ap, sym, ◌∙◌}
 use mathlib.Core.List.{[], ◌∷◌}
-use native.Mathlib.Omega.{arith}
-use Rattle.wah_write.proofs.Runs.{word-single, word-many, single-low}
+use Rattle.wah_write.proofs.Runs.{word-single, word-many}
 use Rattle.wah_write.proofs.writer.run_word.Goals as goal
-
-pub overflow_mul-result : goal.overflow_mul-result
-overflow_mul-result c =
-    record { fits = single-low c.args.value c.args.mask c.requires.0 (omega (arith, c.well_formed)) }
 
 pub returns-then-n-eq1 : goal.returns-then-n-eq1
 returns-then-n-eq1 c = λ real e. rw c.if-n-eq1.true (word-single c.args.value c.args.mask real e)
-
-pub fill_word-requires : goal.fill_word-requires
-fill_word-requires c = (c.requires.0, c.requires.2)
 
 pub returns : goal.returns
 returns c =
