@@ -1,4 +1,3 @@
-pub mod Choosing
 pub mod Values
 pub mod Segmented
 pub mod Runs

@@ -1,7 +1,7 @@
 -- The words that an answer over a list can have at most.
 -- Assumes nothing.
 use Prim.Native.Nat.{ℕ, suc, ◌+◌, ◌*◌, ◌≤◌, ◌<◌}
-use mathlib.Core.Bool.{Bool, true, false, false≢true}
+use mathlib.Core.Bool.{Bool}
 use mathlib.Core.Path.{◌≡◌, sym, subst, subst₂}
 use mathlib.Core.List.{List}
 use native.Mathlib.Omega.{arith}
@@ -65,7 +65,3 @@ module _ (index list : List ℕ) where
 
       pub twice_most : length (answer_body index list op table) ≤ 2 * total_words (named_bodies index list)
       twice_most = omega (arith, twice_ends, stretches-le (format_of index) (row_count index) (named_bodies index list))
-
--- a pass that only measures asks for no room
-pub not-stored : (index list : List ℕ) (op : Operation) (table out : List ℕ) → false ≡ true → length (answer_body index list op table) ≤ length out
-not-stored index list op table out e = absurd (false≢true e)

@@ -2,7 +2,7 @@
 -- Assumes nothing.
 use Prim.Native.Nat.{ℕ, ◌+◌, ◌≤◌, ◌<◌}
 use mathlib.Core.Bool.{Bool, true, false, ◌||◌}
-use mathlib.Core.Path.{◌≡◌, refl, sym, ap, ◌∙◌, subst}
+use mathlib.Core.Path.{◌≡◌, refl, sym, ap, ◌∙◌}
 use mathlib.Core.List.{List}
 use native.Mathlib.Omega.{arith}
 use native.Mathlib.Numerals.{add-one}
@@ -19,10 +19,10 @@ use Rattle.laws.proofs.Outcomes.{fits-yes, fits-no}
 use Rattle.answers.specs.declared.refusal.Refusal.{Refusal}
 use Rattle.answers.specs.Told.{refused_by, refusal, answered_of, words_in, stretches_in, Reported}
 use Rattle.merge.specs.declared.evaluate.Operation.{Operation}
-use Rattle.merge.specs.declared.engine.Merged.{Merged}
+use Rattle.answers.specs.declared.answer.Report.{Report}
+use Rattle.answers.specs.declared.refusal.Fault.TheVariants.{NoRoom}
+use Rattle.std.specs.Prelude.{Ok, Err}
 use Rattle.merge.specs.Merges.{Walkable, answer_body, MergedTo}
-use Rattle.answers.specs.declared.answer.Answered.{Answered}
-use Rattle.answers.specs.declared.answer.Answered.TheVariants as answered
 
 -- ---- the numbers, one by one
 
@@ -64,7 +64,7 @@ module _ (index list : List ℕ) where
   -- ---- what is reported
 
   module _ (out : List ℕ) where
-    pub reported-refused : (r : Refusal) (o : Outcome (List ℕ)) → refused_by r ≡ o → Reported index list o (answered.Refused r) out out
+    pub reported-refused : (r : Refusal) (o : Outcome (List ℕ)) → refused_by r ≡ o → Reported index list o (Err r) out out
     unfolding answered_of words_in stretches_in buffer_after words_reported stretches_reported
     reported-refused r o e = rw (← e) (record { told = refl; words = refl; stretches = refl; left = refl })
 
@@ -72,23 +72,17 @@ module _ (index list : List ℕ) where
       abbrev ws : List ℕ
       ws = answer_body index list op table
 
-      pub reported-none : (n : ℕ) → n ≡ length ws → length out < n → (r : Refusal) → r ≡ refusal 9 n → Reported index list (fits (length out) ws) (answered.Refused r) out out
+      pub reported-none : (n : ℕ) → n ≡ length ws → length out < n → (r : Refusal) → r ≡ refusal NoRoom n → Reported index list (fits (length out) ws) (Err r) out out
       reported-none n is h r e =
           reported-refused r (fits (length out) ws) (ap refused_by e ∙ ap (λ (m : ℕ). refused 9 0 m) is ∙ sym (fits-no (length out) ws (omega arith)))
 
-      pub reported-words : (out' : List ℕ) (m : Merged) → length ws ≤ length out → MergedTo index list op table out true out' m → Reported index list (fits (length out) ws) (answered.Words m.words m.stretches) out out'
+      pub reported-words : (out' : List ℕ) (m : Report) → length ws ≤ length out → MergedTo index list op table out true out' m → Reported index list (fits (length out) ws) (Ok m) out out'
       unfolding answered_of words_in stretches_in buffer_after words_reported stretches_reported named_bodies
       reported-words out' m h g =
           rw (fits-yes (length out) ws h, g.stored refl)
           (record { told = ap answer (take_at ws (drop (length ws) out) m.words (sym g.words_are)); words = g.words_are; stretches = g.stretches-are; left = refl })
 
       -- after the measuring pass, which leaves the buffer
-      module _ (out' : List ℕ) (m : Merged) (g : MergedTo index list op table out false out' m) where
-        pub measured-none : length out' < m.words → (r : Refusal) → r ≡ refusal 9 m.words → Reported index list (fits (length out) ws) (answered.Refused r) out out'
+      module _ (out' : List ℕ) (m : Report) (g : MergedTo index list op table out false out' m) where
+        pub measured-none : length out' < m.words → (r : Refusal) → r ≡ refusal NoRoom m.words → Reported index list (fits (length out) ws) (Err r) out out'
         measured-none h r e = rw (g.kept refl) (reported-none m.words g.words_are (omega (arith, ap length (g.kept refl))) r e)
-
-        pub measured-room : m.words ≤ length out' → length ws ≤ length out'
-        measured-room h = omega (arith, g.words_are)
-
-        pub measured-words : (r : Answered) (out'' : List ℕ) → Reported index list (fits (length out') ws) r out' out'' → Reported index list (fits (length out) ws) r out out''
-        measured-words r out'' w = subst (λ (l : List ℕ). Reported index list (fits (length l) ws) r l out'') (g.kept refl) w

@@ -11,7 +11,8 @@ ghost use Rattle.merge.specs.Merges.{Walkable, Mergeable, answer_body};
 ghost use Rattle.answers.specs.Told.{Reported};
 
 use answers::answer;
-use answers::answer::Answered;
+use answers::answer::Report;
+use answers::refusal::Refusal;
 use body_write::bound;
 use merge::engine;
 use merge::evaluate::Operation;
@@ -23,12 +24,9 @@ fn named_words(index: &[u32], list: &[u32]) -> usize
     ensures { (result ≡ total_words (meaning.named_bodies index.now list.now))
         × (result ≤ most_named_words) }
 {
-    let mut total: usize = 0;
-    let mut i: usize = 0;
-    while i < list.len() {
-        let k = list[i];
-        total += contents::words(index, k);
-        i += 1;
+    let mut total = 0;
+    for k in list {
+        total += contents::words(index, *k);
     }
     total
 }
@@ -40,10 +38,8 @@ fn surely_fits(index: &[u32], list: &[u32], room: usize) -> bool
     ensures { result ≡ true → (table : List ℕ) (op : Operation)
         → length (answer_body index.now list.now op table) ≤ room }
 {
-    if bound::most_words(contents::format(index), contents::rows(index)) <= room {
-        return true;
-    }
-    2 * named_words(index, list) <= room
+    bound::most_words(contents::format(index), contents::rows(index)) <= room
+        || 2 * named_words(index, list) <= room
 }
 
 // The answer, into a buffer with room for it.
@@ -53,7 +49,7 @@ fn write_fitting(
     op: Operation,
     table: &[u32],
     out: &mut [u32],
-) -> Answered
+) -> Result<Report, Refusal>
     requires mergeable { Mergeable index.now list.now op table.now }
     requires table_in_bounds { length (answer_body index.now list.now op table.now) ≤ length out.old }
     ensures { Reported index.now list.now
@@ -61,18 +57,17 @@ fn write_fitting(
         (answer_body index.now list.now op table.now))
         result out.old out.new }
 {
-    let m = engine::merge(index, list, op, table, out, true);
-    Answered::Words(m.words, m.stretches)
+    Ok(engine::merge(index, list, op, table, out, true))
 }
 
-// The answer; 9 where it does not fit. It is measured first, unless the buffer surely has room.
+// The answer, or that it does not fit. It is measured first, unless the buffer surely has room.
 pub fn write_answer(
     index: &[u32],
     list: &[u32],
     op: Operation,
     table: &[u32],
     out: &mut [u32],
-) -> Answered
+) -> Result<Report, Refusal>
     requires { Mergeable index.now list.now op table.now }
     ensures { Reported index.now list.now
         (meaning.fits (length out.old)
@@ -82,10 +77,9 @@ pub fn write_answer(
     if surely_fits(index, list, out.len()) {
         return write_fitting(index, list, op, table, out);
     }
-    let measured = engine::merge(index, list, op, table, out, false);
-    let need = measured.words;
+    let need = engine::merge(index, list, op, table, out, false).words;
     if out.len() < need {
-        return Answered::Refused(answer::no_room(need as u64));
+        return Err(answer::no_room(need as u64));
     }
     write_fitting(index, list, op, table, out)
 }

@@ -25,6 +25,7 @@ use Rattle.laws.proofs.RowWords.{length-tabulate, get_d_tabulate, begins, rows_f
 use Rattle.laws.proofs.Cut.{rows-le}
 use Rattle.laws.proofs.Evaluated.{mask-bit, count_cut, count-in, count-out, count-mixed}
 use Rattle.counters.specs.Counters.{count_at}
+use Rattle.ewah.specs.declared.cursor.Cursor.{Cursor}
 use Rattle.walk.specs.declared.survey.Survey.{Survey}
 use Rattle.walk.specs.Surveys.{MovedAll}
 use Rattle.merge.specs.Merges.{bodies_of}
@@ -180,14 +181,14 @@ tabulated n f xs e h =
     (λ c l. let k : c < n = omega arith in h c k ∙ sym (get_d_tabulate n f c k))
 
 -- the cursors are on their way at segment o, and the counts are the histogram of the first o segments
-pub record Counting (index list ns : List ℕ) (s : Survey) (counts : List ℕ) (o : ℕ) : Type 0 where
-  pub along : Along index list ns s o
+pub record Counting (index list : List ℕ) (cs : List Cursor) (s : Survey) (counts : List ℕ) (o : ℕ) : Type 0 where
+  pub along : Along index list cs s o
   pub long : length counts ≡ histogram_counts
   pub counted : HistogramBefore (format_of index) (row_count index) (bodies_of index list) o counts
 
-module _ {index list ns : List ℕ} {s : Survey} {counts : List ℕ} where
-  pub counting-none : Along index list ns s 0 → length counts ≡ histogram_counts
-      → ((c : ℕ) → c < histogram_counts → get_or counts c 0 ≡ 0) → Counting index list ns s counts 0
+module _ {index list : List ℕ} {cs : List Cursor} {s : Survey} {counts : List ℕ} where
+  pub counting-none : Along index list cs s 0 → length counts ≡ histogram_counts
+      → ((c : ℕ) → c < histogram_counts → get_or counts c 0 ≡ 0) → Counting index list cs s counts 0
   counting-none a n z = record {
     along = a;
     long = n;
@@ -201,7 +202,7 @@ module _ {index list ns : List ℕ} {s : Survey} {counts : List ℕ} where
         );
   }
 
-  module _ {o : ℕ} (g : Counting index list ns s counts o) where
+  module _ {o : ℕ} (g : Counting index list cs s counts o) where
     abbrev I : Format
     I = format_of index
 
@@ -215,11 +216,11 @@ module _ {index list ns : List ℕ} {s : Survey} {counts : List ℕ} where
     entries-low h c l =
         omega (arith, g.counted c l, count-le (min R (o * width I)) (answer_rows I (λ k. eqb k c) bodies))
 
-    pub counting_more : NextStretch index list ns s o
+    pub counting_more : NextStretch index list cs s o
         → {mask : ℕ} → mask ≡ all_set (rows_in (width (format_of index)) (row_count index) (o + s.least - 1))
         → {r : List ℕ} → StretchCounted (format_of index) counts s mask r
-        → {ns' : List ℕ} {s' : Survey} → MovedAll (format_of index) index list ns s.least ns' s'
-        → Counting index list ns' s' r (o + s.least)
+        → {cs' : List Cursor} {s' : Survey} → MovedAll (format_of index) index list cs s.least cs' s'
+        → Counting index list cs' s' r (o + s.least)
     counting_more n m t mv = record {
       along = along-more g.along n mv;
       long = t.long;

@@ -9,15 +9,16 @@ ghost use Rattle.meaning.specs.declared.Format.{Format};
 ghost use Rattle.meaning.specs.Index.{format_of, row_count};
 ghost use Rattle.meaning.specs.Question.{histogram_of};
 ghost use Rattle.counters.specs.Counters.{count_at};
-ghost use Rattle.walk.specs.Queries.{PlacesIn};
 ghost use Rattle.merge.specs.Merges.{Walkable, bodies_of};
 ghost use Rattle.histograms.specs.Histograms.{StretchCounted};
 
-use meaning::{HISTOGRAM_COUNTS, QUERY_NUMBERS, SHORT_NAMED, SHORT_NUMBERS};
-use walk::query::{Query, ShortQuery};
+use ewah::cursor::Cursor;
+use meaning::{HISTOGRAM_COUNTS, MOST_NAMED, SHORT_NAMED};
+use walk::query::ENDED;
 use walk::survey;
 use walk::survey::Survey;
-use words::{bits, rows};
+use words::bits;
+use words::frame::Frame;
 
 // The numbers with the rows of a stretch counted in, of segments of that width, of whose last one the mask has the
 // rows.
@@ -29,71 +30,47 @@ fn count_stretch(counts: &mut [u32; HISTOGRAM_COUNTS], s: Survey, mask: u32, wid
     ensures { (F : Format) → width ≡ format.width F
         → StretchCounted F counts.old s mask counts.new }
 {
-    let n = s.least;
-    let base = s.ones;
-    let dirty = s.dirty;
-    if dirty != 0 {
-        let planes = s.planes;
-        counters::add_to_histogram(counts, planes, base, dirty, mask);
+    if s.dirty != 0 {
+        counters::add_to_histogram(counts, s.planes, s.ones, s.dirty, mask);
         return;
     }
-    let k = base as usize;
-    counts[k] = counts[k] + ((n - 1) * width + bits::count(mask));
+    counts[s.ones as usize] += (s.least - 1) * width + bits::count(mask);
 }
 
-// For each c from 0 to the most that a list can name the number of rows that exactly c of the list have. The numbers have room
-// for a cursor for each of the list's `len` places.
-fn histogram_over(
-    index: &[u32],
-    list: &[u32],
-    numbers: &mut [u32],
-    len: usize,
-) -> [u32; HISTOGRAM_COUNTS]
+// For each c from 0 to the most that a list can name the number of rows that exactly c of the list have. There is a cursor for
+// each of the list's places.
+fn histogram_over(index: &[u32], list: &[u32], cursors: &mut [Cursor]) -> [u32; HISTOGRAM_COUNTS]
     requires walkable { Walkable index.now list.now }
-    requires places_in { PlacesIn numbers.old (length list.now) × (len ≡ length list.now) }
+    requires cursors_len { length cursors.old ≡ length list.now }
     ensures { result ≡ histogram_of (row_count index.now)
         (map (rows_of (format_of index.now)) (bodies_of index.now list.now)) }
 {
-    let format = contents::format(index);
-    let rows = contents::rows(index);
-    let segments = rows::segments(format, rows);
-    let width = rows::width(format);
-    let full = rows::full(format);
-    let last = rows::last_mask(format, rows);
-    survey::open(format, index, list, numbers);
-    let mut s = survey::all(numbers, len);
-    let mut counts: [u32; HISTOGRAM_COUNTS] = [0; HISTOGRAM_COUNTS];
+    let frame = Frame::of(contents::format(index), contents::rows(index));
+    survey::open(frame.format, index, list, cursors);
+    let mut s = survey::all(cursors);
+    let mut counts = [0; HISTOGRAM_COUNTS];
     let mut o: u32 = 0;
-    while o < segments {
-        let n = s.least;
-        let mask = rows::mask_before(full, last, segments, o + n);
-        count_stretch(&mut counts, s, mask, width);
-        let t = survey::advance(format, index, list, numbers, n);
-        s = t;
-        o += n;
+    // Kept: a turn goes on by a stretch, however long that is; a `for` has no such step.
+    while o < frame.segments {
+        let end = o + s.least;
+        let mask = frame.mask(end);
+        count_stretch(&mut counts, s, mask, frame.width);
+        s = survey::advance(frame.format, index, list, cursors, s.least);
+        o = end;
     }
     counts
 }
 
-// The same, over a query that is no longer than it needs to be. (Its array is moved to a variable, since that can be lent as a
-// slice.)
+// The same, with as few cursors as will do: less is cleared for a short list.
 pub fn histogram(index: &[u32], list: &[u32]) -> [u32; HISTOGRAM_COUNTS]
     requires { Walkable index.now list.now }
     ensures { result ≡ histogram_of (row_count index.now)
         (map (rows_of (format_of index.now)) (bodies_of index.now list.now)) }
 {
     if list.len() <= SHORT_NAMED {
-        let q = ShortQuery {
-            numbers: [0; SHORT_NUMBERS],
-            len: list.len(),
-        };
-        let mut numbers = q.numbers;
-        return histogram_over(index, list, &mut numbers, q.len);
+        let mut short = [ENDED; SHORT_NAMED];
+        return histogram_over(index, list, &mut short[..list.len()]);
     }
-    let q = Query {
-        numbers: [0; QUERY_NUMBERS],
-        len: list.len(),
-    };
-    let mut numbers = q.numbers;
-    histogram_over(index, list, &mut numbers, q.len)
+    let mut long = [ENDED; MOST_NAMED];
+    histogram_over(index, list, &mut long[..list.len()])
 }

@@ -2,14 +2,7 @@
 use Rattle.fit.proofs.Listing.{reported-words}
 use Rattle.fit.proofs.write_fitting.Goals as goal
 
-pub merge-m-requires : goal.merge-m-requires
-merge-m-requires c =
-    record {
-      mergeable = c.requires.mergeable;
-      table_in_bounds = λ e. c.requires.table_in_bounds;
-    }
-
 pub returns : goal.returns
 returns c =
     let a = c.args in
-    reported-words a.index.now a.list.now a.out.now a.op a.table.now c.merge-m.new.out c.merge-m.result c.requires.table_in_bounds c.merge-m.ensures
+    reported-words a.index.now a.list.now a.out.now a.op a.table.now c.merge.new.out c.merge.result c.requires.table_in_bounds c.merge.ensures

@@ -2,13 +2,15 @@
 -- counts are the histogram of the first o segments.
 -- Assumes nothing.
 use Prim.Native.Nat.{◌-◌}
-use mathlib.Core.Path.{◌≡◌}
-use lib.ListN.{length}
+use Rattle.merge.proofs.Along.{Laid}
 use Rattle.histograms.proofs.Histograms.{Counting}
 use Rattle.histograms.proofs.histogram_over.Given as goal
 
 abbrev pub invariant-loop-o : goal.invariant-loop-o
-invariant-loop-o l = (length l.numbers ≡ length l.initial.numbers) × Counting l.index l.list l.numbers l.s l.counts l.o
+invariant-loop-o l = record {
+  laid : Laid l.index l.frame;
+  counting : Counting l.index l.list l.cursors l.s l.counts l.o;
+}
 
 abbrev pub decreases-loop-o : goal.decreases-loop-o
-decreases-loop-o l = l.segments - l.o
+decreases-loop-o l = l.frame.segments - l.o
