@@ -42,7 +42,13 @@ fn find_in(body: &[u32], rows: u32) -> Option<Place>
 fn find(state: AppendState, out: &[u32]) -> Option<Place>
     ensures { FoundIs state out.now result }
 {
-    if out.len() as u64 != state.room || MOST_ROWS as u64 < state.rows || state.room < state.words {
+    if out.len() as u64 != state.room {
+        return None;
+    }
+    if (MOST_ROWS as u64) < state.rows {
+        return None;
+    }
+    if state.room < state.words {
         return None;
     }
     find_in(&out[..state.words as usize], state.rows as u32)

@@ -16,7 +16,13 @@ pub fn column_is_bad(index: &[u32], list: &[u32], most: usize) -> bool
     requires { head_words ≤ length index.now }
     ensures { result ≡ meaning.bad_column index.now most list.now }
 {
-    list.len() < LEAST_COLUMN || most < list.len() || ask::names_missing(index, list)
+    if list.len() < LEAST_COLUMN {
+        return true;
+    }
+    if most < list.len() {
+        return true;
+    }
+    ask::names_missing(index, list)
 }
 
 // Whether there is no such row, or it does not exist.
@@ -25,7 +31,10 @@ fn row_is_bad(index: &[u32], list: &[u32], row: u32) -> bool
     requires list_value { meaning.bad_column index.now most_value_column list.now ≡ false }
     ensures { result ≡ meaning.bad_row index.now list.now row }
 {
-    contents::rows(index) <= row || !column::exists(index, list, row)
+    if contents::rows(index) <= row {
+        return true;
+    }
+    !column::exists(index, list, row)
 }
 
 // What is refused of the value at a row, whichever way it is read.

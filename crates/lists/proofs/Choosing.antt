@@ -75,7 +75,7 @@ module _ (index list : List ℕ) (b : Bool) where
   unfolding outcome_of refuse_if named
   counted-sound h counts e = rw h (ap answer (e ∙ ap (histogram_of (row_count index)) (sym (named-is index list))))
 
--- ---- a table's size, and its entries, one by one
+-- ---- a table's size
 
 module _ (m n : ℕ) where
   pub size-wrong : (m ≡ n + 1 → ⊥) → not (eqb m (suc n)) ≡ true
@@ -83,19 +83,3 @@ module _ (m n : ℕ) where
 
   pub size-right : m ≡ n + 1 → not (eqb m (suc n)) ≡ false
   size-right h = rw (eq-eqb m (suc n) (omega (arith, h))) refl
-
-module _ (table : List ℕ) (i : ℕ) (v : Bool) (inv : bad_entry (drop i table) ≡ v) where
-  module _ (h : i < length table) where
-    entry-opened : ltb 1 (get_or table i 0) || bad_entry (drop (i + 1) table) ≡ v
-    unfolding bad_entry
-    entry-opened = rw add-one (rw (drop-cons table i 0 h) at inv)
-
-    pub entry_here : 1 < get_or table i 0 → true ≡ v
-    entry_here g = rw (lt-ltb 1 (get_or table i 0) g) at entry-opened
-
-    pub entry_next : get_or table i 0 ≤ 1 → bad_entry (drop (i + 1) table) ≡ v
-    entry_next g = rw (le-ltb 1 (get_or table i 0) g) at entry-opened
-
-  pub entry-end : length table ≤ i → false ≡ v
-  unfolding bad_entry
-  entry-end h = rw (drop_of_length-le table h) at inv

@@ -1,5 +1,6 @@
 // Questions over a list of bitmaps of a sound index: what is left to be refused, and the answer.
-ghost use Rattle.std.specs.Prelude.{◌≡◌, ◌≤◌, length};
+ghost use Rattle.std.specs.Prelude.{◌≡◌, ◌≤◌, length, nat_le};
+ghost use Rattle.std.specs.List.{list_any};
 ghost use Rattle.meaning.specs.Limits.{head_words};
 ghost use Rattle.laws.specs.Laws.{IndexFacts};
 ghost use Rattle.meaning.specs.Answer as meaning;
@@ -11,13 +12,19 @@ use answers::refusal::Refusal;
 use meaning::{HISTOGRAM_COUNTS, MOST_NAMED};
 use merge::evaluate::Operation;
 
+// Whether some number is n or more.
+fn any_from(list: &[u32], n: u32) -> bool
+    ensures { result ≡ list_any (λ k. nat_le n k) list.now }
+{
+    list.iter().any(|k| n <= *k)
+}
+
 // Whether some number names no bitmap.
 pub fn names_missing(index: &[u32], list: &[u32]) -> bool
     requires { head_words ≤ length index.now }
     ensures { result ≡ meaning.any_bad index.now list.now }
 {
-    let n = contents::bitmaps(index);
-    list.iter().any(|&k| n <= k)
+    any_from(list, contents::bitmaps(index))
 }
 
 // Whether a list is empty, too long, or names a bitmap that is not there.
@@ -25,7 +32,13 @@ fn list_is_bad(index: &[u32], list: &[u32]) -> bool
     requires { head_words ≤ length index.now }
     ensures { result ≡ meaning.bad_list index.now list.now }
 {
-    list.is_empty() || MOST_NAMED < list.len() || names_missing(index, list)
+    if list.is_empty() {
+        return true;
+    }
+    if MOST_NAMED < list.len() {
+        return true;
+    }
+    names_missing(index, list)
 }
 
 // The rows that at least t of the list have; 8 for a bad list, or where t is 0 or above the list's length.
@@ -51,7 +64,7 @@ pub fn threshold(index: &[u32], list: &[u32], t: u32, out: &mut [u32]) -> Result
 fn entry_is_bad(table: &[u32]) -> bool
     ensures { result ≡ meaning.bad_entry table.now }
 {
-    table.iter().any(|&x| 1 < x)
+    any_from(table, 2)
 }
 
 // The rows at whose number the table has a 1; 8 for a bad list, or unless the table has one entry more than the list, each 0 or 1.
