@@ -2,46 +2,60 @@
 -- buffers that they leave. So no other program meets them.
 -- Assumes nothing.
 use Prim.Native.Nat.{ℕ}
-use mathlib.Core.Path.{◌≡◌, sym, ap, ◌∙◌}
-use mathlib.Core.List.{List}
+use mathlib.Core.Path.{◌≡◌, refl, sym, ap, ◌∙◌}
+use mathlib.Core.List.{List, [], ◌∷◌}
+use lib.ListN.{get_or}
 use native.Mathlib.Omega.{arith}
 use Rattle.meaning.specs.Refusal.{Outcome}
+use Rattle.std.specs.Prelude.{Result, Ok, Err}
 use Rattle.answers.specs.declared.refusal.Refusal.{Refusal}
-use Rattle.answers.specs.declared.answer.Value.{Value}
-use Rattle.answers.specs.declared.answer.Value.TheVariants as value
-use Rattle.answers.specs.declared.answer.Written.{Written}
-use Rattle.answers.specs.declared.answer.Written.TheVariants as written
-use Rattle.answers.specs.declared.answer.SignedValue.{SignedValue}
-use Rattle.answers.specs.declared.answer.SignedValue.TheVariants as signed
-use Rattle.answers.specs.Told.{refused_by, value_told, signed_told, written_of, words_of, Wrote}
+use Rattle.answers.specs.declared.refusal.Fault.{Fault}
+use Rattle.answers.specs.declared.refusal.Fault.TheVariants.{CutOff, UnknownKind, TooLarge, WrongContents, DirtyPastEnd, WrongSegments, PadBit, BadArgument, NoRoom, EmptyFill, StrayRow, Mismatched}
+use Rattle.answers.specs.Told.{number_of, refused_by, outcome_of, written_of, words_of, Wrote}
+
+-- no two faults have one number: it tells the fault
+fault_of : ℕ → Fault
+fault_of n = get_or (Mismatched ∷ CutOff ∷ UnknownKind ∷ TooLarge ∷ WrongContents ∷ DirtyPastEnd ∷ WrongSegments ∷ PadBit ∷ BadArgument ∷ NoRoom ∷ EmptyFill ∷ StrayRow ∷ []) n Mismatched
+
+fault-told : (f : Fault) → fault_of (number_of f) ≡ f
+unfolding fault_of
+fault-told CutOff = refl
+fault-told UnknownKind = refl
+fault-told TooLarge = refl
+fault-told WrongContents = refl
+fault-told DirtyPastEnd = refl
+fault-told WrongSegments = refl
+fault-told PadBit = refl
+fault-told BadArgument = refl
+fault-told NoRoom = refl
+fault-told EmptyFill = refl
+fault-told StrayRow = refl
+fault-told Mismatched = refl
+
+fault-one : (f g : Fault) → number_of f ≡ number_of g → f ≡ g
+fault-one f g e = sym (fault-told f) ∙ ap fault_of e ∙ fault-told g
 
 refusal-one : {A : Type 0} (r s : Refusal) → ◌≡◌ {A = Outcome A} (refused_by r) (refused_by s) → r ≡ s
 refusal-one r s e =
-    let a : r.number ≡ s.number = cc in
+    let n : number_of r.fault ≡ number_of s.fault = cc in
+    let a : r.fault ≡ s.fault = fault-one r.fault s.fault n in
     let b : r.bitmap ≡ s.bitmap = cc in
     let c : r.word ≡ s.word = cc in
     rw (a, b, c)
 
-pub value-one : (r s : Value) → value_told r ≡ value_told s → r ≡ s
-unfolding value_told
-value-one (value.Is n) (value.Is m) e = let a : n ≡ m = cc in ap value.Is a
-value-one (value.Is n) (value.Refused s) e = let z : ◌≡◌ {A = ℕ} 0 1 = cc in absurd (omega arith)
-value-one (value.Refused r) (value.Is m) e = let z : ◌≡◌ {A = ℕ} 0 1 = cc in absurd (omega arith)
-value-one (value.Refused r) (value.Refused s) e = ap value.Refused (refusal-one r s e)
+pub outcome-one : {A : Type 0} (r s : Result A Refusal) → outcome_of r ≡ outcome_of s → r ≡ s
+unfolding outcome_of
+outcome-one (Ok a) (Ok b) e = let h : a ≡ b = cc in ap Ok h
+outcome-one (Ok a) (Err s) e = let z : ◌≡◌ {A = ℕ} 0 1 = cc in absurd (omega arith)
+outcome-one (Err r) (Ok b) e = let z : ◌≡◌ {A = ℕ} 0 1 = cc in absurd (omega arith)
+outcome-one (Err r) (Err s) e = ap Err (refusal-one r s e)
 
-pub signed-one : (r s : SignedValue) → signed_told r ≡ signed_told s → r ≡ s
-unfolding signed_told
-signed-one (signed.Is z) (signed.Is y) e = let a : z ≡ y = cc in ap signed.Is a
-signed-one (signed.Is z) (signed.Refused s) e = let z : ◌≡◌ {A = ℕ} 0 1 = cc in absurd (omega arith)
-signed-one (signed.Refused r) (signed.Is y) e = let z : ◌≡◌ {A = ℕ} 0 1 = cc in absurd (omega arith)
-signed-one (signed.Refused r) (signed.Refused s) e = ap signed.Refused (refusal-one r s e)
-
-written_one : (r s : Written) (b c : List ℕ) → written_of r b ≡ written_of s c → words_of r ≡ words_of s → r ≡ s
+written_one : (r s : Result ℕ Refusal) (b c : List ℕ) → written_of r b ≡ written_of s c → words_of r ≡ words_of s → r ≡ s
 unfolding written_of words_of
-written_one (written.Words n) (written.Words m) b c e w = ap written.Words w
-written_one (written.Words n) (written.Refused s) b c e w = let z : ◌≡◌ {A = ℕ} 0 1 = cc in absurd (omega arith)
-written_one (written.Refused r) (written.Words m) b c e w = let z : ◌≡◌ {A = ℕ} 0 1 = cc in absurd (omega arith)
-written_one (written.Refused r) (written.Refused s) b c e w = ap written.Refused (refusal-one r s e)
+written_one (Ok n) (Ok m) b c e w = ap Ok w
+written_one (Ok n) (Err s) b c e w = let z : ◌≡◌ {A = ℕ} 0 1 = cc in absurd (omega arith)
+written_one (Err r) (Ok m) b c e w = let z : ◌≡◌ {A = ℕ} 0 1 = cc in absurd (omega arith)
+written_one (Err r) (Err s) b c e w = ap Err (refusal-one r s e)
 
-pub wrote_one : (o : Outcome (List ℕ)) (r s : Written) (old b c : List ℕ) → Wrote o r old b → Wrote o s old c → (r ≡ s) × (b ≡ c)
+pub wrote_one : (o : Outcome (List ℕ)) (r s : Result ℕ Refusal) (old b c : List ℕ) → Wrote o r old b → Wrote o s old c → (r ≡ s) × (b ≡ c)
 wrote_one o r s old b c p q = (written_one r s b c (p.told ∙ sym q.told) (p.words ∙ sym q.words), p.left ∙ sym q.left)

@@ -19,8 +19,7 @@ use Rattle.meaning.specs.Answer.{plain_fault, write, words_reported}
 use Rattle.laws.proofs.Formats.{canonical-body}
 use Rattle.laws.proofs.Outcomes.{refuse-no, refuse-yes}
 use Rattle.answers.specs.declared.refusal.Refusal.{Refusal}
-use Rattle.answers.specs.declared.answer.Written.{Written}
-use Rattle.answers.specs.declared.answer.Written.TheVariants.{Words, Refused}
+use Rattle.std.specs.Prelude.{Result, Ok, Err}
 use Rattle.answers.specs.Told.{refused_by, written_of, words_of, Wrote}
 use Rattle.answers.proofs.Checks.{refused-not-sound}
 use Rattle.batches.specs.declared.AppendState.{AppendState}
@@ -78,9 +77,9 @@ module _ (R : ℕ) (p : ℕ → Bool) (b : Batch) (room : ℕ) where
 -- ---- the step: the answer was told, and the buffer is `out'`
 
 module _ (s : AppendState) (b : Batch) {out : List ℕ} {r : Written} {out' : List ℕ} (w : Wrote (append s out b) r out out') where
-  module _ (z : Written) (e : r ≡ z) where
+  module _ (z : Result ℕ Refusal) (e : r ≡ z) where
     told_is : Wrote (append s out b) z out out'
-    told_is = subst (λ (v : Written). Wrote (append s out b) v out out') e w
+    told_is = subst (λ (v : Result ℕ Refusal). Wrote (append s out b) v out out') e w
 
     state-is : state_after (written_of z out') s b.rows ≡ state_after (append s out b) s b.rows
     state-is = ap (λ (o : Outcome (List ℕ)). state_after o s b.rows) told_is.told

@@ -10,18 +10,17 @@ ghost use Rattle.resume.specs.Resume.{PlaceOf, ResumedIs};
 ghost use Rattle.appending.specs.Stepping.{state_of, batch_of, behind, FoundIs, Stepped};
 
 use answers::answer;
-use answers::answer::Written;
-use answers::refusal::{Checked, Refusal};
+use answers::refusal::{Fault, Refusal};
 use meaning::MOST_ROWS;
 use plain::compress;
 use resume::Place;
 
 // 12: state and buffer do not belong together.
 fn mismatched() -> Refusal
-    ensures { result ≡ refusal 12 0 }
+    ensures { result ≡ refusal Mismatched 0 }
 {
     Refusal {
-        number: 12,
+        fault: Fault::Mismatched,
         bitmap: 0,
         word: 0,
     }
@@ -34,8 +33,8 @@ fn find_in(body: &[u32], rows: u32) -> Option<Place>
 {
     let checked = ewah::check::check(body, rows, 0, 0);
     match checked {
-        Checked::Refused(_) => None,
-        Checked::Sound => resume::resume(body, rows),
+        Err(_) => None,
+        Ok(()) => resume::resume(body, rows),
     }
 }
 
@@ -56,7 +55,7 @@ fn find(room: u64, rows: u64, words: u64, out: &[u32]) -> Option<Place>
 }
 
 // What is left where state and buffer belong together: 3, 8, 7, 9, or the longer body.
-fn append_at(p: Place, rows: u32, out: &mut [u32], more: u32, plain: &[u32]) -> Written
+fn append_at(p: Place, rows: u32, out: &mut [u32], more: u32, plain: &[u32]) -> Result<usize, Refusal>
     requires rows_le_most_rows { rows ≤ most_rows }
     requires by_index { (q : ℕ → Bool) × PlaceOf rows q out.old p }
     ensures { (q : ℕ → Bool) → PlaceOf rows q out.old p
@@ -64,13 +63,10 @@ fn append_at(p: Place, rows: u32, out: &mut [u32], more: u32, plain: &[u32]) -> 
         result out.old out.new }
 {
     if MOST_ROWS - rows < more {
-        return Written::Refused(answer::too_many_rows());
+        return Err(answer::too_many_rows());
     }
-    let checked = compress::check_plain(plain, more);
-    match checked {
-        Checked::Refused(refusal) => Written::Refused(refusal),
-        Checked::Sound => extend::extend(out, p, rows, plain, more),
-    }
+    compress::check_plain(plain, more)?;
+    extend::extend(out, p, rows, plain, more)
 }
 
 // What a batch is answered, with the buffer afterwards.
@@ -81,13 +77,13 @@ fn answer_batch(
     out: &mut [u32],
     more: u32,
     plain: &[u32],
-) -> Written
+) -> Result<usize, Refusal>
     ensures { Wrote (batches.append (state_of room rows words) out.old (batch_of more plain.now))
         result out.old out.new }
 {
     let found = find(room, rows, words, out);
     match found {
-        None => Written::Refused(mismatched()),
+        None => Err(mismatched()),
         Some(p) => append_at(p, rows as u32, out, more, plain),
     }
 }
@@ -97,7 +93,7 @@ fn answer_batch(
 pub struct Step {
     pub rows: u64,
     pub words: u64,
-    pub told: Written,
+    pub told: Result<usize, Refusal>,
 }
 
 // A batch, with the state's three numbers by value.
@@ -106,18 +102,18 @@ pub fn next(room: u64, rows: u64, words: u64, out: &mut [u32], more: u32, plain:
 {
     let told = answer_batch(room, rows, words, out, more, plain);
     match told {
-        Written::Refused(refusal) => Step {
+        Err(refusal) => Step {
             rows,
             words,
-            told: Written::Refused(refusal),
+            told: Err(refusal),
         },
-        Written::Words(n) => {
+        Ok(n) => {
             let all = rows + more as u64;
             let used = n as u64;
             Step {
                 rows: all,
                 words: used,
-                told: Written::Words(n),
+                told: Ok(n),
             }
         }
     }

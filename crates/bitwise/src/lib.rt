@@ -6,26 +6,21 @@
 ghost use Rattle.std.specs.Prelude.{◌≡◌};
 ghost use Rattle.meaning.specs.declared.Format.TheVariants.{Ewah};
 ghost use Rattle.meaning.specs.Answer as meaning;
-ghost use Rattle.answers.specs.Told.{number_of};
+ghost use Rattle.answers.specs.Told.{outcome_of};
 ghost use Rattle.replies.specs.Exported.{Numbers};
 
-use answers::answer::Number;
-use answers::refusal::Checked;
+use answers::refusal::Refusal;
 use meaning::Format;
-use replies::reply;
 pub use replies::reply::ZvNumber;
 
 pub mod count;
 
 // How many rows are set, of one body alone: the contract is that of `zvonurel::body_count`.
-pub fn body_count(body: &[u32], rows: u32) -> Number
-    ensures { number_of result ≡ meaning.body_count Ewah rows body.now }
+pub fn body_count(body: &[u32], rows: u32) -> Result<u32, Refusal>
+    ensures { outcome_of result ≡ meaning.body_count Ewah rows body.now }
 {
-    let checked = on_bodies::check_body(Format::Ewah, body, rows);
-    match checked {
-        Checked::Refused(refusal) => Number::Refused(refusal),
-        Checked::Sound => Number::Is(count::count(body, rows)),
-    }
+    on_bodies::check_body(Format::Ewah, body, rows)?;
+    Ok(count::count(body, rows))
 }
 
 // For C: the contract is that of `zv_body_count`.
@@ -33,5 +28,5 @@ pub fn body_count(body: &[u32], rows: u32) -> Number
 pub extern "C" fn zv_body_count_bitwise(body: &[u32], rows: u32) -> ZvNumber
     ensures { Numbers (meaning.body_count Ewah rows body.now) result }
 {
-    reply::number(body_count(body, rows))
+    ZvNumber::from(body_count(body, rows))
 }

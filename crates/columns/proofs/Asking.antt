@@ -27,7 +27,7 @@ use Rattle.laws.proofs.NamedBitmaps.{column-length, column-named}
 use Rattle.laws.proofs.ColumnsHold.{pair-slices}
 use Rattle.laws.proofs.Outcomes.{refuse-answer}
 use Rattle.answers.specs.declared.refusal.Refusal.{Refusal}
-use Rattle.answers.specs.declared.answer.Written.TheVariants as written
+use Rattle.answers.specs.declared.refusal.Fault.TheVariants.{BadArgument, NoRoom}
 use Rattle.answers.specs.Told.{refused_by, refusal, Wrote}
 use Rattle.answers.proofs.Tells.{wrote-refused, wrote_none, wrote-words}
 use Rattle.pairs.specs.Passes.{Columns}
@@ -86,12 +86,12 @@ module _ (index list : List ℕ) (r : ℕ) where
   abbrev pub row_verdict : Verdict
   row_verdict = refuse_if (bad_column index most_value_column list || bad_row index list r) 8 0 0 (strays index list)
 
-  pub row-bad-list : bad_column index most_value_column list ≡ true → refused_by (refusal 8 0) ≡ row_verdict
+  pub row-bad-list : bad_column index most_value_column list ≡ true → refused_by (refusal BadArgument 0) ≡ row_verdict
   unfolding refuse_if
   row-bad-list h = rw h
 
   pub row-bad-row : bad_column index most_value_column list ≡ false → bad_row index list r ≡ true
-      → refused_by (refusal 8 0) ≡ row_verdict
+      → refused_by (refusal BadArgument 0) ≡ row_verdict
   unfolding refuse_if
   row-bad-row h g = rw (h, g)
 
@@ -170,22 +170,22 @@ module _ (op : Pairing) (index first second : List ℕ) where
     w' : PairWritten op index first second n old out need
     w' = subst (λ (k : ℕ). PairWritten op index first second k old out need) e w
 
-    pub wrote-no-room : index_room (length old) < need → (r : Refusal) → r ≡ refusal 9 need → Wrote (write_pair index op first second (length old)) (written.Refused r) old out
+    pub wrote-no-room : index_room (length old) < need → (r : Refusal) → r ≡ refusal NoRoom need → Wrote (write_pair index op first second (length old)) (Err r) old out
     unfolding write_pair write_index
     wrote-no-room h r k = rw (k, w'.lacks h) (wrote_none old (pair_index op index first second n) need w'.need-is h)
 
-    pub wrote-pair : need ≤ index_room (length old) → Wrote (write_pair index op first second (length old)) (written.Words need) old out
+    pub wrote-pair : need ≤ index_room (length old) → Wrote (write_pair index op first second (length old)) (Ok need) old out
     unfolding write_pair write_index
     wrote-pair h = wrote-words old (pair_index op index first second n) need w'.need-is out h (w'.fits h ∙ ap (λ (k : ℕ). pair_index op index first second n ++ drop k old) w'.need-is)
 
   module _ (out : List ℕ) where
-    pub pair-bad-first : bad_column index most_column first ≡ true → (r : Refusal) → r ≡ refusal 8 0
-        → Wrote (ask_pair index op first second (length out)) (written.Refused r) out out
+    pub pair-bad-first : bad_column index most_column first ≡ true → (r : Refusal) → r ≡ refusal BadArgument 0
+        → Wrote (ask_pair index op first second (length out)) (Err r) out out
     unfolding ask_pair refuse_if
     pair-bad-first h r e = wrote-refused out r _ (ap refused_by e ∙ rw h)
 
-    pub pair-bad-second : bad_column index most_column first ≡ false → bad_column index most_column second ≡ true → (r : Refusal) → r ≡ refusal 8 0
-        → Wrote (ask_pair index op first second (length out)) (written.Refused r) out out
+    pub pair-bad-second : bad_column index most_column first ≡ false → bad_column index most_column second ≡ true → (r : Refusal) → r ≡ refusal BadArgument 0
+        → Wrote (ask_pair index op first second (length out)) (Err r) out out
     unfolding ask_pair refuse_if
     pair-bad-second h g r e = wrote-refused out r _ (ap refused_by e ∙ rw (h, g))
 
@@ -201,13 +201,13 @@ module _ (index list : List ℕ) (k : ℕ) where
   abbrev pub rank_verdict : Verdict
   rank_verdict = refuse_if (bad_rank index list k) 8 0 0 (strays index list)
 
-  pub rank-bad-list : bad_column index most_column list ≡ true → refused_by (refusal 8 0) ≡ rank_verdict
+  pub rank-bad-list : bad_column index most_column list ≡ true → refused_by (refusal BadArgument 0) ≡ rank_verdict
   unfolding bad_rank refuse_if
   rank-bad-list h = rw h
 
   module _ (good : bad_column index most_column list ≡ false) (n : ℕ)
       (is : n ≡ count_below (row_count index) (existing index list)) where
-    pub rank-too-many : n < k → refused_by (refusal 8 0) ≡ rank_verdict
+    pub rank-too-many : n < k → refused_by (refusal BadArgument 0) ≡ rank_verdict
     unfolding bad_rank refuse_if
     rank-too-many h = rw (good, lt-ltb (count_below (row_count index) (existing index list)) k (omega arith))
 
@@ -243,13 +243,13 @@ module _ (index list : List ℕ) (k : ℕ) where
     ranked-then = refuse-then (bad_rank index list k) 8 0 0 (strays index list) writes
 
     module _ (out : List ℕ) (need : ℕ) (w : RankWritten op index list k old out need) where
-      pub rank-no-room : length old < need → (r : Refusal) → r ≡ refusal 9 need
-          → Wrote (write (format_of index) (row_count index) (ranked_rows index op list k) (length old)) (written.Refused r) old out
+      pub rank-no-room : length old < need → (r : Refusal) → r ≡ refusal NoRoom need
+          → Wrote (write (format_of index) (row_count index) (ranked_rows index op list k) (length old)) (Err r) old out
       unfolding write
       rank-no-room h r e = rw (e, w.lacks h) (wrote_none old (ranked_body op index list k) need w.need-is h)
 
       pub rank-words : need ≤ length old
-          → Wrote (write (format_of index) (row_count index) (ranked_rows index op list k) (length old)) (written.Words need) old out
+          → Wrote (write (format_of index) (row_count index) (ranked_rows index op list k) (length old)) (Ok need) old out
       unfolding write
       rank-words h =
           wrote-words old (ranked_body op index list k) need w.need-is out h

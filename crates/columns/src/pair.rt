@@ -9,8 +9,7 @@ ghost use Rattle.answers.specs.Told.{Wrote};
 
 use crate::ask;
 use answers::answer;
-use answers::answer::Written;
-use answers::refusal::Checked;
+use answers::refusal::Refusal;
 use column_pair::write;
 use meaning::{MOST_COLUMN, Pairing};
 
@@ -19,10 +18,7 @@ fn wider(first: &[u32], second: &[u32]) -> usize
     requires { (1 ≤ length first.now) × (1 ≤ length second.now) }
     ensures { result ≡ meaning.wider first.now second.now }
 {
-    if first.len() < second.len() {
-        return second.len() - 1;
-    }
-    first.len() - 1
+    first.len().max(second.len()) - 1
 }
 
 // How many slices the answer has.
@@ -33,15 +29,13 @@ fn slices(op: Pairing, first: &[u32], second: &[u32]) -> usize
 {
     let w = wider(first, second);
     match op {
-        Pairing::Sum => w + 1,
-        Pairing::Difference => w + 1,
-        Pairing::Smaller => w,
-        Pairing::DifferenceOrZero => w,
+        Pairing::Sum | Pairing::Difference => w + 1,
+        Pairing::Smaller | Pairing::DifferenceOrZero => w,
     }
 }
 
 // Of two columns with no stray row; 9 where the answer does not fit, or would be longer than an index may be.
-fn write_pair(op: Pairing, index: &[u32], first: &[u32], second: &[u32], out: &mut [u32]) -> Written
+fn write_pair(op: Pairing, index: &[u32], first: &[u32], second: &[u32], out: &mut [u32]) -> Result<usize, Refusal>
     requires index_facts { IndexFacts index.now }
     requires first_value { meaning.bad_column index.now most_column first.now ≡ false }
     requires second_value { meaning.bad_column index.now most_column second.now ≡ false }
@@ -51,9 +45,9 @@ fn write_pair(op: Pairing, index: &[u32], first: &[u32], second: &[u32], out: &m
     let n = slices(op, first, second);
     let need = write::write(op, index, first, second, n, out);
     if contents::room(out.len()) < need {
-        return Written::Refused(answer::no_room(need as u64));
+        return Err(answer::no_room(need as u64));
     }
-    Written::Words(need)
+    Ok(need)
 }
 
 // The same where only the first column is known to have no stray row.
@@ -63,7 +57,7 @@ fn pair_second(
     first: &[u32],
     second: &[u32],
     out: &mut [u32],
-) -> Written
+) -> Result<usize, Refusal>
     requires index_facts { IndexFacts index.now }
     requires first_value { meaning.bad_column index.now most_column first.now ≡ false }
     requires second_value { meaning.bad_column index.now most_column second.now ≡ false }
@@ -71,28 +65,22 @@ fn pair_second(
         meaning.write_pair index.now op first.now second.now (length out.old))
         result out.old out.new }
 {
-    let checked = column::strays(index, second);
-    match checked {
-        Checked::Refused(refusal) => Written::Refused(refusal),
-        Checked::Sound => write_pair(op, index, first, second, out),
-    }
+    column::strays(index, second)?;
+    write_pair(op, index, first, second, out)
 }
 
 // Of two columns that lists name.
-pub fn pair(op: Pairing, index: &[u32], first: &[u32], second: &[u32], out: &mut [u32]) -> Written
+pub fn pair(op: Pairing, index: &[u32], first: &[u32], second: &[u32], out: &mut [u32]) -> Result<usize, Refusal>
     requires { IndexFacts index.now }
     ensures { Wrote (meaning.ask_pair index.now op first.now second.now
         (length out.old)) result out.old out.new }
 {
     if ask::column_is_bad(index, first, MOST_COLUMN) {
-        return Written::Refused(answer::bad_argument());
+        return Err(answer::bad_argument());
     }
     if ask::column_is_bad(index, second, MOST_COLUMN) {
-        return Written::Refused(answer::bad_argument());
+        return Err(answer::bad_argument());
     }
-    let checked = column::strays(index, first);
-    match checked {
-        Checked::Refused(refusal) => Written::Refused(refusal),
-        Checked::Sound => pair_second(op, index, first, second, out),
-    }
+    column::strays(index, first)?;
+    pair_second(op, index, first, second, out)
 }

@@ -8,12 +8,11 @@ ghost use Rattle.meaning.specs.Index.{format_of, row_count};
 ghost use Rattle.meaning.specs.Answer.{write};
 ghost use Rattle.column_meaning.specs.Columns as meaning;
 ghost use Rattle.laws.specs.Laws.{IndexFacts};
-ghost use Rattle.answers.specs.Told.{verdict_of, Wrote};
+ghost use Rattle.answers.specs.Told.{outcome_of, Wrote};
 
 use crate::ask;
 use answers::answer;
-use answers::answer::Written;
-use answers::refusal::Checked;
+use answers::refusal::Refusal;
 use body_read::count;
 use meaning::{MOST_COLUMN, Ranking};
 use ranks::write;
@@ -33,22 +32,22 @@ fn existing(index: &[u32], list: &[u32]) -> u32
 }
 
 // What is refused of k rows, whichever come first.
-fn check_rank(index: &[u32], list: &[u32], k: u32) -> Checked
+fn check_rank(index: &[u32], list: &[u32], k: u32) -> Result<(), Refusal>
     requires { IndexFacts index.now }
-    ensures { verdict_of result ≡ refuse_if (meaning.bad_rank index.now list.now k) 8 0 0
+    ensures { outcome_of result ≡ refuse_if (meaning.bad_rank index.now list.now k) 8 0 0
         (meaning.strays index.now list.now) }
 {
     if ask::column_is_bad(index, list, MOST_COLUMN) {
-        return Checked::Refused(answer::bad_argument());
+        return Err(answer::bad_argument());
     }
     if existing(index, list) < k {
-        return Checked::Refused(answer::bad_argument());
+        return Err(answer::bad_argument());
     }
     column::strays(index, list)
 }
 
 // Of a column in which at least k rows exist; 9 where the answer does not fit.
-fn write_ranked(op: Ranking, index: &[u32], list: &[u32], k: u32, out: &mut [u32]) -> Written
+fn write_ranked(op: Ranking, index: &[u32], list: &[u32], k: u32, out: &mut [u32]) -> Result<usize, Refusal>
     requires index_facts { IndexFacts index.now }
     requires k_value { meaning.bad_rank index.now list.now k ≡ false }
     ensures { Wrote (write (format_of index.now) (row_count index.now)
@@ -57,20 +56,17 @@ fn write_ranked(op: Ranking, index: &[u32], list: &[u32], k: u32, out: &mut [u32
 {
     let need = write::write(op, index, list, k, out);
     if out.len() < need {
-        return Written::Refused(answer::no_room(need as u64));
+        return Err(answer::no_room(need as u64));
     }
-    Written::Words(need)
+    Ok(need)
 }
 
 // Of the column that a list names.
-pub fn ranked(op: Ranking, index: &[u32], list: &[u32], k: u32, out: &mut [u32]) -> Written
+pub fn ranked(op: Ranking, index: &[u32], list: &[u32], k: u32, out: &mut [u32]) -> Result<usize, Refusal>
     requires { IndexFacts index.now }
     ensures { Wrote (meaning.ask_ranked index.now op list.now k (length out.old))
         result out.old out.new }
 {
-    let checked = check_rank(index, list, k);
-    match checked {
-        Checked::Refused(refusal) => Written::Refused(refusal),
-        Checked::Sound => write_ranked(op, index, list, k, out),
-    }
+    check_rank(index, list, k)?;
+    write_ranked(op, index, list, k, out)
 }

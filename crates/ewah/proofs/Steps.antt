@@ -15,8 +15,12 @@ use Rattle.meaning.specs.Ewah.{clean_of, dirty_of, fault_from}
 use Rattle.laws.proofs.Walk.{skip-dirty, over_none}
 use Rattle.words.proofs.Segmented.{some-rows}
 use Rattle.ewah.specs.Checking.{Passed, Faulty, Stepped}
-use Rattle.ewah.specs.declared.check.Step.{Step}
-use Rattle.ewah.specs.declared.check.Step.TheVariants.{Next, Fault}
+use Rattle.std.specs.Prelude.{Result, Ok, Err, MatchResult}
+use Rattle.std.specs.Result.{IsErrAnd}
+use Rattle.answers.specs.declared.refusal.Refusal.{Refusal}
+use Rattle.answers.specs.Told.{refused_by}
+use Rattle.ewah.specs.declared.check.Rest.{Rest}
+use Rattle.ewah.specs.declared.check.Wrong.{Wrong}
 
 -- where some of the segments are left there are rows
 pub left-rows : (R left c : ℕ) → left ≤ segment_count 32 R → (c ≡ 0 → ⊥) → c ≡ left → 1 ≤ R
@@ -83,12 +87,31 @@ module _ (b : List ℕ) (R at left c d : ℕ) (h : at < length b) (hc : c ≡ cl
 
 -- ---- a step's answer, by its case
 
-module _ (b : List ℕ) (R at left : ℕ) (r : Step) (s : Stepped b R at left r) where
-  pub passed-of : (next rest : ℕ) → r ≡ Next next rest → Passed b R at left next rest
-  passed-of next rest e = subst (λ (z : Step). Stepped b R at left z) e s
+-- a fault's word is one of the body
+pub wrong-inside : (b : List ℕ) (R : ℕ) (from : Rest) (s : Result Rest Wrong) → Stepped b R from s → (wrong : Wrong) → s ≡ Err wrong
+    → wrong.at < length b
+wrong-inside b R from s is wrong e = (subst (λ (s : Result Rest Wrong). Stepped b R from s) e is).inside
 
-  pub faulty-of : (number place : ℕ) → r ≡ Fault number place → Faulty b R at left number place
-  faulty-of number place e = subst (λ (z : Step). Stepped b R at left z) e s
+-- where P is how a fault is told
+module _ (b : List ℕ) (R : ℕ) (from : Rest) (s : Result Rest Wrong) (is : Stepped b R from s) (P : Wrong → Refusal → Type 0) (r : Result Rest Refusal)
+    (cases : MatchResult s (λ rest. r ≡ Ok rest) (λ wrong. IsErrAnd r (P wrong))) where
+  pub passed-of : (rest : Rest) → r ≡ Ok rest → Passed b R from.at from.left rest.at rest.left
+  passed-of rest e = go s is cases
+    where
+      go : (s : Result Rest Wrong) → Stepped b R from s → MatchResult s (λ rest. r ≡ Ok rest) (λ wrong. IsErrAnd r (P wrong))
+          → Passed b R from.at from.left rest.at rest.left
+      go (Ok n) p h = let q : n ≡ rest = cc in subst (λ (n : Rest). Passed b R from.at from.left n.at n.left) q p
+      go (Err w) p h = elim (subst (λ (r : Result Rest Refusal). IsErrAnd r (P w)) e h) [ ]
+
+  pub faulty-of : (told : Refusal) → r ≡ Err told → (k start : ℕ)
+      → ((wrong : Wrong) → P wrong told → told ≡ record { fault = wrong.fault; bitmap = k; word = start + wrong.at })
+      → fault_from k R (start + from.at) 0 from.left (drop from.at b) ≡ refused_by told
+  faulty-of told e k start said = go s is cases
+    where
+      go : (s : Result Rest Wrong) → Stepped b R from s → MatchResult s (λ rest. r ≡ Ok rest) (λ wrong. IsErrAnd r (P wrong))
+          → fault_from k R (start + from.at) 0 from.left (drop from.at b) ≡ refused_by told
+      go (Ok n) p h = elim (subst (λ (r : Result Rest Refusal). IsErrAnd r (λ y. Unit {0})) (sym e ∙ h) tt) [ ]
+      go (Err w) p h = rw (said w (subst (λ (r : Result Rest Refusal). IsErrAnd r (P w)) e h)) (p.first k start)
 
 -- at the body's end
 pub end-fault : (k R place left i : ℕ) (b : List ℕ) → length b ≤ i → fault_from k R place 0 left (drop i b) ≡ refuse_if (ltb 0 left) 6 k place sound

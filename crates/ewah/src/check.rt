@@ -3,18 +3,39 @@ ghost use Rattle.std.specs.Prelude.{◌≡◌, ◌+◌, ◌≤◌, ◌<◌, ◌^
 ghost use Rattle.meaning.specs.Limits.{most_rows};
 ghost use Rattle.meaning.specs.Segment.{segment_count, over_pad};
 ghost use Rattle.meaning.specs.Ewah.{ewah_fault};
-ghost use Rattle.answers.specs.Told.{verdict_of};
+ghost use Rattle.answers.specs.Told.{outcome_of};
 ghost use Rattle.ewah.specs.Checking.{Stepped};
 
 use crate::marker;
-use answers::refusal::{Checked, Refusal};
+use answers::refusal::{Fault, Refusal};
 use words::rows;
 
-// Past a marker and its dirty words, with so many segments left; or a fault with its number and the place of its word.
+// What is left to be checked: the words from `at` on, where so many segments are to come.
 #[derive(Clone, Copy)]
-enum Step {
-    Next(usize, u32),
-    Fault(u32, usize),
+struct Rest {
+    at: usize,
+    left: u32,
+}
+
+// A fault, and the word that has it.
+#[derive(Clone, Copy)]
+struct Wrong {
+    fault: Fault,
+    at: usize,
+}
+
+impl Wrong {
+    // In the body of bitmap number `bitmap`, whose first word has the place `start`.
+    fn told(self, bitmap: u32, start: u64) -> Refusal
+        requires { start + self.at < 2 ^ 64 }
+        ensures { result ≡ record { fault = self.fault; bitmap = bitmap; word = start + self.at } }
+    {
+        Refusal {
+            fault: self.fault,
+            bitmap,
+            word: start + self.at as u64,
+        }
+    }
 }
 
 // Whether d dirty words, where `left` segments are to come, reach the last one and set a pad bit there. The last of
@@ -34,57 +55,60 @@ fn dirty_over_pad(body: &[u32], last: usize, rows: u32, left: u32, d: u32) -> bo
 }
 
 // One marker with its dirty words.
-fn marker_step(body: &[u32], at: usize, rows: u32, left: u32) -> Step
-    requires at_in_bounds { at < length body.now }
-    requires left_bound { left ≤ segment_count 32 rows }
-    ensures { Stepped body.now rows at left result }
+fn marker_step(body: &[u32], rows: u32, from: Rest) -> Result<Rest, Wrong>
+    requires at_in_bounds { from.at < length body.now }
+    requires left_bound { from.left ≤ segment_count 32 rows }
+    ensures { Stepped body.now rows from result }
 {
+    let Rest { at, left } = from;
     let m = marker::read(body[at]);
     let clean = m.clean;
     let dirty = m.dirty;
     let words = dirty as usize;
     if body.len() - at - 1 < words {
-        return Step::Fault(5, at);
+        return Err(Wrong {
+            fault: Fault::DirtyPastEnd,
+            at,
+        });
     }
     if left < clean + dirty {
-        return Step::Fault(6, at);
+        return Err(Wrong {
+            fault: Fault::WrongSegments,
+            at,
+        });
     }
     if dirty_over_pad(body, at + words, rows, left - clean, dirty) {
-        return Step::Fault(7, at + words);
+        return Err(Wrong {
+            fault: Fault::PadBit,
+            at: at + words,
+        });
     }
-    Step::Next(at + words + 1, left - clean - dirty)
+    Ok(Rest {
+        at: at + words + 1,
+        left: left - clean - dirty,
+    })
 }
 
 // Of bitmap number `bitmap`, a body of that many rows whose first word has the place `start`.
-pub fn check(body: &[u32], rows: u32, bitmap: u32, start: u64) -> Checked
+pub fn check(body: &[u32], rows: u32, bitmap: u32, start: u64) -> Result<(), Refusal>
     requires rows_le_most_rows { rows ≤ most_rows }
     requires body_bound { start + length body.now < 2 ^ 64 }
-    ensures { verdict_of result ≡ ewah_fault bitmap start rows body.now }
+    ensures { outcome_of result ≡ ewah_fault bitmap start rows body.now }
 {
-    let mut left = rows::segment_count(rows);
-    let mut at: usize = 0;
-    while at < body.len() {
-        let step = marker_step(body, at, rows, left);
-        match step {
-            Step::Next(next, rest) => {
-                at = next;
-                left = rest;
-            }
-            Step::Fault(number, place) => {
-                return Checked::Refused(Refusal {
-                    number,
-                    bitmap,
-                    word: start + place as u64,
-                });
-            }
-        }
+    let mut rest = Rest {
+        at: 0,
+        left: rows::segment_count(rows),
+    };
+    // Kept: a marker's dirty words are passed over unread, so the step is not 1, and each place told is counted in words.
+    while rest.at < body.len() {
+        rest = marker_step(body, rows, rest).map_err(|wrong| wrong.told(bitmap, start))?;
     }
-    if 0 < left {
-        return Checked::Refused(Refusal {
-            number: 6,
-            bitmap,
-            word: start + at as u64,
-        });
+    if 0 < rest.left {
+        let end = Wrong {
+            fault: Fault::WrongSegments,
+            at: rest.at,
+        };
+        return Err(end.told(bitmap, start));
     }
-    Checked::Sound
+    Ok(())
 }

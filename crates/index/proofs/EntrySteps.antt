@@ -14,19 +14,22 @@ use Rattle.meaning.specs.Format.{body_fault}
 use Rattle.meaning.specs.declared.Format.{Format}
 use Rattle.meaning.specs.Index.{format_of, row_count, bitmap_count, entry_place, start_of, length_of, body_at, entries_fault, bodies_fault}
 use Rattle.contents.proofs.Places.{body-within, body-length}
-use Rattle.index.specs.declared.check.Step.{Step}
-use Rattle.index.specs.declared.check.Step.TheVariants.{Next, Fault}
+use Rattle.std.specs.Prelude.{Result, Ok, Err}
+use Rattle.answers.specs.declared.refusal.Refusal.{Refusal}
+use Rattle.answers.specs.declared.refusal.Fault.TheVariants.{WrongContents}
+use Rattle.answers.specs.Told.{refused_by}
 use Rattle.index.specs.Entries.{Passed, Faulty, Stepped}
 
-module _ (index : List ℕ) (k end s place : ℕ) (at : s ≡ start_of index k) (is : place ≡ entry_place index k) where
-  pub start-wrong : (s ≡ end → ⊥) → Faulty index k end place
+module _ (index : List ℕ) (k end s place : ℕ) (at : s ≡ start_of index k) (is : place ≡ entry_place index k) (r : Refusal) (told : r ≡ record { fault = WrongContents; bitmap = k; word = place }) where
+  pub start-wrong : (s ≡ end → ⊥) → Faulty index k end r
   unfolding entries_fault refuse_if
-  start-wrong h = record { first = λ more. rw (ne_eqb (start_of index k) end (λ e. h (at ∙ e)), is) }
+  start-wrong h = record { first = λ more. rw (ne_eqb (start_of index k) end (λ e. h (at ∙ e)), told, is) }
 
 module _ (index : List ℕ) (k end s l : ℕ) (at : s ≡ start_of index k) (e : s ≡ end) (of : l ≡ length_of index k) (i : end ≤ length index) where
-  pub length-wrong : (place : ℕ) → place ≡ entry_place index k → length index - end < l → Faulty index k end (place + 1)
+  pub length-wrong : (place : ℕ) (r : Refusal) → place ≡ entry_place index k → r ≡ record { fault = WrongContents; bitmap = k; word = place + 1 } → length index - end < l
+      → Faulty index k end r
   unfolding entries_fault refuse_if
-  length-wrong place is h = record { first = λ more. rw (eq-eqb (start_of index k) end (sym at ∙ e), lt-ltb (length index) (end + length_of index k) (omega arith), is) }
+  length-wrong place r is told h = record { first = λ more. rw (eq-eqb (start_of index k) end (sym at ∙ e), lt-ltb (length index) (end + length_of index k) (omega arith), told, is) }
 
   pub entry-right : l ≤ length index - end → Passed index k end (end + l)
   unfolding entries_fault refuse_if
@@ -34,12 +37,12 @@ module _ (index : List ℕ) (k end s l : ℕ) (at : s ≡ start_of index k) (e :
 
 -- ---- a step's answer, by its case
 
-module _ (index : List ℕ) (k end : ℕ) (r : Step) (s : Stepped index k end r) where
-  pub passed-of : (next : ℕ) → r ≡ Next next → Passed index k end next
-  passed-of next e = subst (λ (z : Step). Stepped index k end z) e s
+module _ (index : List ℕ) (k end : ℕ) (r : Result ℕ Refusal) (s : Stepped index k end r) where
+  pub passed-of : (next : ℕ) → r ≡ Ok next → Passed index k end next
+  passed-of next e = subst (λ (z : Result ℕ Refusal). Stepped index k end z) e s
 
-  pub faulty-of : (place : ℕ) → r ≡ Fault place → Faulty index k end place
-  faulty-of place e = subst (λ (z : Step). Stepped index k end z) e s
+  pub faulty-of : (x : Refusal) → r ≡ Err x → Faulty index k end x
+  faulty-of x e = subst (λ (z : Result ℕ Refusal). Stepped index k end z) e s
 
 -- ---- the loops: n entries in all, k of them behind
 
@@ -51,8 +54,8 @@ module _ (index : List ℕ) (n k end : ℕ) (v : Verdict) (inv : entries_fault i
         on : entries_fault index k (n - k) end ≡ v → entries_fault index k (suc (n - suc k)) end ≡ v
         on i = let e : n - k ≡ suc (n - suc k) = omega arith in rw e at i
 
-    pub entries-fault : (place : ℕ) → Faulty index k end place → refused 4 k place ≡ v
-    entries-fault place f = let e : n - k ≡ suc (n - suc k) = omega arith in sym (f.first (n - suc k)) ∙ rw e at inv
+    pub entries-fault : (r : Refusal) → Faulty index k end r → refused_by r ≡ v
+    entries-fault r f = let e : n - k ≡ suc (n - suc k) = omega arith in sym (f.first (n - suc k)) ∙ rw e at inv
 
   module _ (h : n ≤ k) where
     ended : refuse_if (ltb end (length index)) 4 0 end sound ≡ v

@@ -1,24 +1,14 @@
 -- The head of an index, test by test.
 -- Assumes nothing.
 use Prim.Native.Nat.{ℕ, ◌≤◌, ◌<◌}
-use mathlib.Core.Bool.{true, false, not}
+use mathlib.Core.Bool.{true, false}
 use mathlib.Core.Path.{◌≡◌}
 use mathlib.Core.List.{List}
-use borrow.Author.Tests.{lt-ltb, le-ltb, eq-eqb, ne_eqb}
-use lib.Dec.{eqb}
+use borrow.Author.Tests.{lt-ltb, le-ltb}
 use lib.ListN.{length, get_or}
-use Rattle.meaning.specs.Limits.{most_rows, most_bitmaps, most_index_words, ewah_kind, wah_kind, head_words}
+use Rattle.meaning.specs.Limits.{most_rows, most_bitmaps, most_index_words, head_words}
 use Rattle.meaning.specs.Refusal.{refused, sound, refuse_if}
 use Rattle.meaning.specs.Index.{is_kind, entry_place, head_fault}
-
--- a kind that is known: the first, or else the second
-pub kind-first : (x : ℕ) → x ≡ ewah_kind → false ≡ not (is_kind x)
-unfolding is_kind
-kind-first x e = rw (eq-eqb x ewah_kind e)
-
-pub kind-second : (x : ℕ) → (x ≡ ewah_kind → ⊥) → not (eqb x wah_kind) ≡ not (is_kind x)
-unfolding is_kind
-kind-second x h = rw (ne_eqb x ewah_kind h)
 
 module _ (index : List ℕ) where
   pub head-long : most_index_words < length index → refused 3 0 0 ≡ head_fault index
@@ -31,11 +21,11 @@ module _ (index : List ℕ) where
     head-short h = rw (le-ltb most_index_words (length index) a, lt-ltb (length index) head_words h)
 
     module _ (b : head_words ≤ length index) where
-      pub head-kind : not (is_kind (get_or index 0 0)) ≡ true → refused 2 0 0 ≡ head_fault index
+      pub head-kind : is_kind (get_or index 0 0) ≡ false → refused 2 0 0 ≡ head_fault index
       unfolding head_fault refuse_if
       head-kind h = rw (le-ltb most_index_words (length index) a, le-ltb (length index) head_words b, h)
 
-      module _ (c : not (is_kind (get_or index 0 0)) ≡ false) where
+      module _ (c : is_kind (get_or index 0 0) ≡ true) where
         pub head_rows : most_rows < get_or index 1 0 → refused 3 0 1 ≡ head_fault index
         unfolding head_fault refuse_if
         head_rows h = rw (le-ltb most_index_words (length index) a, le-ltb (length index) head_words b, c, lt-ltb most_rows (get_or index 1 0) h)

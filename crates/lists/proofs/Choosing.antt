@@ -18,14 +18,13 @@ use Rattle.laws.specs.Ahead.{answer_rows}
 use Rattle.meaning.specs.Answer.{named, right_rows, bad_entry, write, fits, histogram_reported}
 use Rattle.laws.proofs.Demanded.{named-is}
 use Rattle.answers.specs.declared.refusal.Refusal.{Refusal}
-use Rattle.answers.specs.Told.{refused_by, refusal, Reported, histogram_told, Counted}
+use Rattle.std.specs.Prelude.{Result, Ok, Err}
+use Rattle.answers.specs.declared.answer.Report.{Report}
+use Rattle.answers.specs.declared.refusal.Fault.TheVariants.{BadArgument}
+use Rattle.answers.specs.Told.{refused_by, refusal, Reported, outcome_of}
 use Rattle.merge.specs.declared.evaluate.Operation.TheVariants as operation
 use Rattle.merge.specs.Operations.{chosen}
 use Rattle.merge.specs.Merges.{bodies_of, answer_body}
-use Rattle.answers.specs.declared.answer.Histogram.{Histogram}
-use Rattle.answers.specs.declared.answer.Answered.{Answered}
-use Rattle.answers.specs.declared.answer.Answered.TheVariants as answered
-use Rattle.answers.specs.declared.refusal.Checked.TheVariants as checked
 use Rattle.fit.proofs.Listing.{reported-refused}
 
 -- ---- one of three tests refuses, or none does
@@ -34,22 +33,22 @@ module _ (index list out : List ℕ) (rest : Outcome (List ℕ)) (a b c : Bool) 
   abbrev asked : Outcome (List ℕ)
   asked = refuse_if (a || b || c) 8 0 0 rest
 
-  module _ (r : Refusal) (e : r ≡ refusal 8 0) where
-    refused-asked : a || b || c ≡ true → Reported index list asked (answered.Refused r) out out
+  module _ (r : Refusal) (e : r ≡ refusal BadArgument 0) where
+    refused-asked : a || b || c ≡ true → Reported index list asked (Err r) out out
     unfolding refuse_if
     refused-asked h = reported-refused index list out r asked (ap refused_by e ∙ rw h refl)
 
-    pub reported-first : a ≡ true → Reported index list asked (answered.Refused r) out out
+    pub reported-first : a ≡ true → Reported index list asked (Err r) out out
     reported-first h = refused-asked (rw h refl)
 
     module _ (ha : a ≡ false) where
-      pub reported-second : b ≡ true → Reported index list asked (answered.Refused r) out out
+      pub reported-second : b ≡ true → Reported index list asked (Err r) out out
       reported-second h = refused-asked (rw (ha, h) refl)
 
-      pub reported-third : b ≡ false → c ≡ true → Reported index list asked (answered.Refused r) out out
+      pub reported-third : b ≡ false → c ≡ true → Reported index list asked (Err r) out out
       reported-third hb h = refused-asked (rw (ha, hb, h) refl)
 
-  pub reported-rest : a ≡ false → b ≡ false → c ≡ false → (r : Answered) (out' : List ℕ) → Reported index list rest r out out' → Reported index list asked r out out'
+  pub reported-rest : a ≡ false → b ≡ false → c ≡ false → (r : Result Report Refusal) (out' : List ℕ) → Reported index list rest r out out' → Reported index list asked r out out'
   unfolding refuse_if
   reported-rest ha hb hc r out' w = rw (ha, hb, hc) w
 
@@ -68,15 +67,13 @@ module _ (index list : List ℕ) (b : Bool) where
   abbrev counted : Outcome (List ℕ)
   counted = refuse_if b 8 0 0 (answer (histogram_of (row_count index) (named index list)))
 
-  pub counted-refused : b ≡ true → (r : Refusal) → r ≡ refusal 8 0 → (g : Histogram) → Counted (refused_by r) g → Counted counted g
-  unfolding refuse_if
-  counted-refused h r e g w = rw h (rw e at w)
+  pub counted-refused : b ≡ true → (r : Refusal) → r ≡ refusal BadArgument 0 → outcome_of (Err r) ≡ counted
+  unfolding outcome_of refuse_if
+  counted-refused h r e = rw (h, e) refl
 
-  pub counted-sound : b ≡ false → (counts : List ℕ) → counts ≡ histogram_of (row_count index) (map (rows_of (format_of index)) (bodies_of index list)) → Counted counted (record { checked = checked.Sound; counts = counts })
-  unfolding refuse_if histogram_told histogram_reported named
-  counted-sound h counts e =
-      let is : counts ≡ histogram_of (row_count index) (map (rows_at index) list) = e ∙ ap (histogram_of (row_count index)) (sym (named-is index list)) in
-      rw h (record { told = ap answer is; counts-are = is })
+  pub counted-sound : b ≡ false → (counts : List ℕ) → counts ≡ histogram_of (row_count index) (map (rows_of (format_of index)) (bodies_of index list)) → outcome_of (Ok counts) ≡ counted
+  unfolding outcome_of refuse_if named
+  counted-sound h counts e = rw h (ap answer (e ∙ ap (histogram_of (row_count index)) (sym (named-is index list))))
 
 -- ---- a table's size, and its entries, one by one
 

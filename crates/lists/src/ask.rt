@@ -3,12 +3,12 @@ ghost use Rattle.std.specs.Prelude.{◌≡◌, ◌≤◌, length};
 ghost use Rattle.meaning.specs.Limits.{head_words};
 ghost use Rattle.laws.specs.Laws.{IndexFacts};
 ghost use Rattle.meaning.specs.Answer as meaning;
-ghost use Rattle.answers.specs.Told.{Reported, Counted};
+ghost use Rattle.answers.specs.Told.{outcome_of, Reported};
 
 use answers::answer;
-use answers::answer::{Answered, Histogram};
-use answers::refusal::Checked;
-use meaning::MOST_NAMED;
+use answers::answer::Report;
+use answers::refusal::Refusal;
+use meaning::{HISTOGRAM_COUNTS, MOST_NAMED};
 use merge::evaluate::Operation;
 
 // Whether some number names no bitmap.
@@ -17,14 +17,7 @@ pub fn names_missing(index: &[u32], list: &[u32]) -> bool
     ensures { result ≡ meaning.any_bad index.now list.now }
 {
     let n = contents::bitmaps(index);
-    let mut i: usize = 0;
-    while i < list.len() {
-        if n <= list[i] {
-            return true;
-        }
-        i += 1;
-    }
-    false
+    list.iter().any(|&k| n <= k)
 }
 
 // Whether a list is empty, too long, or names a bitmap that is not there.
@@ -32,30 +25,24 @@ fn list_is_bad(index: &[u32], list: &[u32]) -> bool
     requires { head_words ≤ length index.now }
     ensures { result ≡ meaning.bad_list index.now list.now }
 {
-    if list.len() == 0 {
-        return true;
-    }
-    if MOST_NAMED < list.len() {
-        return true;
-    }
-    names_missing(index, list)
+    list.is_empty() || MOST_NAMED < list.len() || names_missing(index, list)
 }
 
 // The rows that at least t of the list have; 8 for a bad list, or where t is 0 or above the list's length.
-pub fn threshold(index: &[u32], list: &[u32], t: u32, out: &mut [u32]) -> Answered
+pub fn threshold(index: &[u32], list: &[u32], t: u32, out: &mut [u32]) -> Result<Report, Refusal>
     requires { IndexFacts index.now }
     ensures { Reported index.now list.now
         (meaning.ask_threshold index.now list.now t (length out.old))
         result out.old out.new }
 {
     if list_is_bad(index, list) {
-        return Answered::Refused(answer::bad_argument());
+        return Err(answer::bad_argument());
     }
     if t == 0 {
-        return Answered::Refused(answer::bad_argument());
+        return Err(answer::bad_argument());
     }
     if list.len() < contents::wide(t) {
-        return Answered::Refused(answer::bad_argument());
+        return Err(answer::bad_argument());
     }
     fit::write_answer(index, list, Operation::AtLeast(t), &index[0..0], out)
 }
@@ -64,45 +51,35 @@ pub fn threshold(index: &[u32], list: &[u32], t: u32, out: &mut [u32]) -> Answer
 fn entry_is_bad(table: &[u32]) -> bool
     ensures { result ≡ meaning.bad_entry table.now }
 {
-    let mut i: usize = 0;
-    while i < table.len() {
-        if 1 < table[i] {
-            return true;
-        }
-        i += 1;
-    }
-    false
+    table.iter().any(|&x| 1 < x)
 }
 
 // The rows at whose number the table has a 1; 8 for a bad list, or unless the table has one entry more than the list, each 0 or 1.
-pub fn symmetric(index: &[u32], list: &[u32], table: &[u32], out: &mut [u32]) -> Answered
+pub fn symmetric(index: &[u32], list: &[u32], table: &[u32], out: &mut [u32]) -> Result<Report, Refusal>
     requires { IndexFacts index.now }
     ensures { Reported index.now list.now
         (meaning.ask_symmetric index.now list.now table.now (length out.old))
         result out.old out.new }
 {
     if list_is_bad(index, list) {
-        return Answered::Refused(answer::bad_argument());
+        return Err(answer::bad_argument());
     }
     if table.len() != list.len() + 1 {
-        return Answered::Refused(answer::bad_argument());
+        return Err(answer::bad_argument());
     }
     if entry_is_bad(table) {
-        return Answered::Refused(answer::bad_argument());
+        return Err(answer::bad_argument());
     }
     fit::write_answer(index, list, Operation::Table, table, out)
 }
 
 // The histogram of the list; 8 for a bad one.
-pub fn histogram(index: &[u32], list: &[u32]) -> Histogram
+pub fn histogram(index: &[u32], list: &[u32]) -> Result<[u32; HISTOGRAM_COUNTS], Refusal>
     requires { IndexFacts index.now }
-    ensures { Counted (meaning.ask_histogram index.now list.now) result }
+    ensures { outcome_of result ≡ meaning.ask_histogram index.now list.now }
 {
     if list_is_bad(index, list) {
-        return answer::no_histogram(answer::bad_argument());
+        return Err(answer::bad_argument());
     }
-    Histogram {
-        checked: Checked::Sound,
-        counts: histograms::histogram(index, list),
-    }
+    Ok(histograms::histogram(index, list))
 }

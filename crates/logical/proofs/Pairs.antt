@@ -22,23 +22,27 @@ use Rattle.merge.specs.Operations.{chosen}
 use Rattle.walk.specs.Queries.{Listed}
 use Rattle.merge.specs.Merges.{answer_body}
 use Rattle.answers.specs.declared.refusal.Refusal.{Refusal}
-use Rattle.answers.specs.declared.answer.Answered.{Answered}
-use Rattle.answers.specs.declared.answer.Answered.TheVariants as answered
-use Rattle.answers.specs.declared.answer.Written.{Written}
-use Rattle.answers.specs.declared.answer.Written.TheVariants as written
+use Rattle.std.specs.Prelude.{Result, Ok, Err}
+use Rattle.std.specs.Result.{IsErrAnd}
+use Rattle.answers.specs.declared.answer.Report.{Report}
+use Rattle.answers.specs.declared.refusal.Fault.TheVariants.{BadArgument}
 use Rattle.answers.specs.Told.{refused_by, refusal, Reported, Wrote, answered_of, words_in, written_of, words_of}
 use Rattle.answers.proofs.Tells.{wrote-refused}
 
--- ---- the words alone
+-- ---- the words alone: what a question over a list reports, without its stretches
 
 module _ (index list : List ℕ) (o : Outcome (List ℕ)) (out out' : List ℕ) where
-  pub alone-words : (a : Answered) (n s : ℕ) → a ≡ answered.Words n s → Reported index list o a out out' → Wrote o (written.Words n) out out'
+  pub alone-words : (a : Result Report Refusal) (n : Report) → a ≡ Ok n → Reported index list o a out out' → Wrote o (Ok n.words) out out'
   unfolding answered_of words_in written_of words_of
-  alone-words a n s e w = let v = subst (λ (x : Answered). Reported index list o x out out') e w in record { told = v.told; words = v.words; left = v.left }
+  alone-words a n e w = let v = subst (λ (x : Result Report Refusal). Reported index list o x out out') e w in record { told = v.told; words = v.words; left = v.left }
 
-  pub alone-refused : (a : Answered) (r : Refusal) → a ≡ answered.Refused r → Reported index list o a out out' → Wrote o (written.Refused r) out out'
+  pub alone-refused : (a : Result Report Refusal) (x : Refusal) (r : Result ℕ Refusal) → a ≡ Err x → IsErrAnd r (λ y. y ≡ x)
+      → Reported index list o a out out' → Wrote o r out out'
   unfolding answered_of words_in written_of words_of
-  alone-refused a r e w = let v = subst (λ (x : Answered). Reported index list o x out out') e w in record { told = v.told; words = v.words; left = v.left }
+  alone-refused a x (Ok n) e g w = elim g [ ]
+  alone-refused a x (Err y) e g w =
+      let v = subst (λ (x : Result Report Refusal). Reported index list o x out out') e w in
+      rw g (record { told = v.told; words = v.words; left = v.left })
 
 -- ---- the rows chosen, by any name
 
@@ -103,11 +107,11 @@ not-rows index k i = none (rows_at index k i)
 -- ---- what is refused
 
 module _ (out : List ℕ) (bad : Bool) (rest : Outcome (List ℕ)) where
-  pub bad-refused : bad ≡ true → (r : Refusal) → r ≡ refusal 8 0 → Wrote (refuse_if bad 8 0 0 rest) (written.Refused r) out out
+  pub bad-refused : bad ≡ true → (r : Refusal) → r ≡ refusal BadArgument 0 → Wrote (refuse_if bad 8 0 0 rest) (Err r) out out
   unfolding refuse_if
   bad-refused h r e = rw h (wrote-refused out r (refused 8 0 0) (ap refused_by e))
 
-  pub good-rest : bad ≡ false → (r : Written) (out' : List ℕ) → Wrote rest r out out' → Wrote (refuse_if bad 8 0 0 rest) r out out'
+  pub good-rest : bad ≡ false → (r : Result ℕ Refusal) (out' : List ℕ) → Wrote rest r out out' → Wrote (refuse_if bad 8 0 0 rest) r out out'
   unfolding refuse_if
   good-rest h r out' w = rw h w
 

@@ -6,31 +6,21 @@ ghost use Rattle.std.specs.Prelude.{◌≡◌, Bool, List, [], ℕ, ◌≤◌, l
 ghost use Rattle.meaning.specs.Limits.{most_named};
 ghost use Rattle.meaning.specs.Refusal.{Outcome, refuse_if};
 ghost use Rattle.meaning.specs.Index.{format_of, row_count};
-ghost use Rattle.meaning.specs.Question.{held, intersection, union, symmetric_difference, difference};
+ghost use Rattle.meaning.specs.Question.{held};
 ghost use Rattle.laws.specs.Laws.{IndexFacts};
 ghost use Rattle.meaning.specs.Answer as meaning;
 ghost use Rattle.merge.specs.Operations.{chosen};
-ghost use Rattle.answers.specs.Told.{Wrote, Reported};
+ghost use Rattle.answers.specs.Told.{Wrote};
+ghost use Rattle.logical.specs.Combined.{combined};
 
 use answers::answer;
-use answers::answer::{Answered, Written};
+use answers::refusal::Refusal;
 use lists::ask;
 use merge::evaluate::Operation;
 
-// An answer's words alone: a logical question reports no stretches.
-fn words_alone(a: Answered) -> Written
-    ensures { (index list : List ℕ) (o : Outcome (List ℕ)) (out out' : List ℕ)
-        → Reported index list o a out out' → Wrote o result out out' }
-{
-    match a {
-        Answered::Words(words, _) => Written::Words(words),
-        Answered::Refused(refusal) => Written::Refused(refusal),
-    }
-}
-
 // The rows at whose number of holders the operation says yes, whichever set p they are; 8 where the list names a
-// bitmap that is not there, whichever test `bad` says so.
-fn ask_list(index: &[u32], list: &[u32], op: Operation, out: &mut [u32]) -> Written
+// bitmap that is not there, whichever test `bad` says so. A logical question reports its words alone, and no stretches.
+fn ask_list(index: &[u32], list: &[u32], op: Operation, out: &mut [u32]) -> Result<usize, Refusal>
     requires index_facts { IndexFacts index.now }
     requires in_bounds { (1 ≤ length list.now) × (length list.now ≤ most_named) }
     ensures { (p : ℕ → Bool) (bad : Bool)
@@ -41,59 +31,40 @@ fn ask_list(index: &[u32], list: &[u32], op: Operation, out: &mut [u32]) -> Writ
         result out.old out.new }
 {
     if ask::names_missing(index, list) {
-        return Written::Refused(answer::bad_argument());
+        return Err(answer::bad_argument());
     }
-    let answered = fit::write_answer(index, list, op, &index[0..0], out);
-    words_alone(answered)
+    let report = fit::write_answer(index, list, op, &index[0..0], out)?;
+    Ok(report.words)
 }
 
-// The rows of both.
-pub fn and(index: &[u32], j: u32, k: u32, out: &mut [u32]) -> Written
-    requires { IndexFacts index.now }
-    ensures { Wrote (meaning.ask_logical index.now intersection j k (length out.old))
-        result out.old out.new }
-{
-    let list = [j, k];
-    ask_list(index, &list, Operation::AtLeast(2), out)
+// What is asked of two bitmaps.
+#[derive(Clone, Copy)]
+pub enum Logical {
+    And,
+    Or,
+    Xor,
+    AndNot,
 }
 
-// The rows of either.
-pub fn or(index: &[u32], j: u32, k: u32, out: &mut [u32]) -> Written
+// Of two bitmaps. Of AND NOT the second is named twice, so that only a row of the first alone has the number 1.
+pub fn pair(op: Logical, index: &[u32], j: u32, k: u32, out: &mut [u32]) -> Result<usize, Refusal>
     requires { IndexFacts index.now }
-    ensures { Wrote (meaning.ask_logical index.now union j k (length out.old))
+    ensures { Wrote (meaning.ask_logical index.now (combined op) j k (length out.old))
         result out.old out.new }
 {
-    let list = [j, k];
-    ask_list(index, &list, Operation::AtLeast(1), out)
-}
-
-// The rows of just one of the two.
-pub fn xor(index: &[u32], j: u32, k: u32, out: &mut [u32]) -> Written
-    requires { IndexFacts index.now }
-    ensures { Wrote
-        (meaning.ask_logical index.now symmetric_difference j k (length out.old))
-        result out.old out.new }
-{
-    let list = [j, k];
-    ask_list(index, &list, Operation::Exactly(1), out)
-}
-
-// The rows of j that k has not: k is named twice, so that only a row of j alone has the number 1.
-pub fn and_not(index: &[u32], j: u32, k: u32, out: &mut [u32]) -> Written
-    requires { IndexFacts index.now }
-    ensures { Wrote (meaning.ask_logical index.now difference j k (length out.old))
-        result out.old out.new }
-{
-    let list = [j, k, k];
-    ask_list(index, &list, Operation::Exactly(1), out)
+    match op {
+        Logical::And => ask_list(index, &[j, k], Operation::AtLeast(2), out),
+        Logical::Or => ask_list(index, &[j, k], Operation::AtLeast(1), out),
+        Logical::Xor => ask_list(index, &[j, k], Operation::Exactly(1), out),
+        Logical::AndNot => ask_list(index, &[j, k, k], Operation::Exactly(1), out),
+    }
 }
 
 // The rows that k has not.
-pub fn not(index: &[u32], k: u32, out: &mut [u32]) -> Written
+pub fn not(index: &[u32], k: u32, out: &mut [u32]) -> Result<usize, Refusal>
     requires { IndexFacts index.now }
     ensures { Wrote (meaning.ask_not index.now k (length out.old))
         result out.old out.new }
 {
-    let list = [k];
-    ask_list(index, &list, Operation::Exactly(0), out)
+    ask_list(index, &[k], Operation::Exactly(0), out)
 }

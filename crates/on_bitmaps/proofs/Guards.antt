@@ -7,12 +7,12 @@ use Rattle.meaning.specs.Index.{bitmap_count}
 use Rattle.meaning.specs.Answer.{bitmap_refusal}
 use Rattle.laws.specs.Laws.{IndexFacts}
 use Rattle.laws.proofs.BitmapPart.{part-laws}
-use Rattle.answers.specs.declared.refusal.Checked.{Checked}
-use Rattle.answers.specs.declared.refusal.Checked.TheVariants as checked
-use Rattle.answers.specs.Told.{verdict_of}
+use Rattle.std.specs.Prelude.{Result, Ok, Err}
+use Rattle.answers.specs.declared.refusal.Refusal.{Refusal}
+use Rattle.answers.specs.Told.{outcome_of}
 use Rattle.answers.proofs.Checks.{sound-is}
 
 -- a bitmap that is not refused
-pub known-index : (k : Checked) (index : List ℕ) (i : ℕ) → verdict_of k ≡ bitmap_refusal index i → k ≡ checked.Sound
+pub known-index : (k : Result (Unit {0}) Refusal) (index : List ℕ) (i : ℕ) → outcome_of k ≡ bitmap_refusal index i → k ≡ Ok tt
     → IndexFacts index × (i < bitmap_count index)
 known-index k index i e h = let p = part-laws.known index i (sound-is k (bitmap_refusal index i) e h) in (p.facts, p.below)

@@ -16,11 +16,10 @@ use Rattle.meaning.specs.Answer.{rows_fault, check_body, ask_count, body_count}
 use Rattle.laws.proofs.Outcomes.{refuse-answer, then-answer}
 use Rattle.laws.proofs.Lawful.{body-laws}
 use Rattle.answers.specs.declared.refusal.Refusal.{Refusal}
-use Rattle.answers.specs.declared.refusal.Checked.{Checked}
-use Rattle.answers.specs.declared.refusal.Checked.TheVariants as checked
-use Rattle.answers.specs.declared.answer.Number.TheVariants as number
-use Rattle.answers.specs.Told.{verdict_of, number_of}
-use Rattle.answers.proofs.Checks.{sound-is, refuses, answers}
+use Rattle.std.specs.Prelude.{Result, Ok, Err}
+use Rattle.std.specs.Result.{IsErrAnd}
+use Rattle.answers.specs.Told.{outcome_of}
+use Rattle.answers.proofs.Checks.{sound-is, stopped, answers}
 
 pub rows-over : (F : Format) (R : ℕ) (b : List ℕ) → most_rows < R → refused 3 0 1 ≡ check_body F R b
 unfolding check_body rows_fault ◌then◌ refuse_if
@@ -43,18 +42,18 @@ facts F R b e = let p = then-answer (rows_fault R) (body_fault F 0 0 R b) tt e i
 
 -- ---- how many rows are set, behind the check k
 
-module _ (k : Checked) (F : Format) (R : ℕ) (b : List ℕ) (e : verdict_of k ≡ check_body F R b) where
-  pub count-refused : (r : Refusal) → k ≡ checked.Refused r → number_of (number.Refused r) ≡ body_count F R b
-  unfolding number_of body_count
-  count-refused = refuses k (check_body F R b) e (ask_count R (rows_of F b))
+module _ (k : Result (Unit {0}) Refusal) (F : Format) (R : ℕ) (b : List ℕ) (e : outcome_of k ≡ check_body F R b) where
+  pub count-refused : (r : Result ℕ Refusal) (x : Refusal) → k ≡ Err x → IsErrAnd r (λ y. y ≡ x) → outcome_of r ≡ body_count F R b
+  unfolding body_count
+  count-refused = stopped k (check_body F R b) e (ask_count R (rows_of F b))
 
-  module _ (h : k ≡ checked.Sound) where
+  module _ (h : k ≡ Ok tt) where
     no-fault : check_body F R b ≡ sound
     no-fault = sound-is k (check_body F R b) e h
 
     pub countable : (R ≤ most_rows) × SoundFacts F R b
     countable = (few-rows F R b no-fault, facts F R b no-fault)
 
-    pub count-answered : (n : ℕ) → n ≡ count_below R (rows_of F b) → number_of (number.Is n) ≡ body_count F R b
-    unfolding number_of body_count ask_count
+    pub count-answered : (n : ℕ) → n ≡ count_below R (rows_of F b) → outcome_of (Ok n) ≡ body_count F R b
+    unfolding outcome_of body_count ask_count
     count-answered n counts = answers k (check_body F R b) e (ask_count R (rows_of F b)) (answer n) h (ap answer counts)

@@ -9,10 +9,11 @@ use Rattle.column_meaning.specs.Columns.{ranked}
 use Rattle.meaning.specs.declared.Ranking.{Ranking}
 use Rattle.laws.specs.RankLaws.{RankAsked, RankDemand}
 use Rattle.laws.proofs.RankHolds.{rank-holds}
+use Rattle.std.specs.Prelude.{Result, Ok, Err}
+use Rattle.answers.specs.declared.refusal.Refusal.{Refusal}
 use Rattle.answers.specs.Told.{written_of, Wrote}
-use Rattle.answers.specs.declared.answer.Written.{Written}
 
-pub demand-met : (op : Ranking) (index list : List ℕ) (k : ℕ) (r : Written) (out out' : List ℕ)
+pub demand-met : (op : Ranking) (index list : List ℕ) (k : ℕ) (r : Result ℕ Refusal) (out out' : List ℕ)
     → Wrote (ranked index op list k (length out)) r out out' → RankAsked index list k
     → RankDemand op index list k out (written_of r out') out'
 demand-met op index list k r out out' w a =

@@ -9,20 +9,16 @@ use Rattle.meaning.specs.Answer.{threshold}
 use Rattle.laws.specs.Demands.{Asked, ThresholdDemand}
 use Rattle.laws.proofs.Demanded.{threshold-demand}
 use Rattle.laws.proofs.Outcomes.{then-sound}
-use Rattle.answers.specs.declared.refusal.Checked.{Checked}
-use Rattle.answers.specs.declared.refusal.Checked.TheVariants as checked
-use Rattle.answers.specs.Told.{verdict_of, answered_of, Reported, Counted}
+use Rattle.std.specs.Prelude.{Result, Ok, Err}
+use Rattle.answers.specs.declared.answer.Report.{Report}
+use Rattle.answers.specs.declared.refusal.Refusal.{Refusal}
+use Rattle.answers.specs.Told.{outcome_of, answered_of, Reported}
 use Rattle.answers.proofs.Checks.{sound-is}
-use Rattle.answers.specs.declared.answer.Histogram.{Histogram}
-use Rattle.answers.specs.declared.answer.Answered.{Answered}
 
-pub reported-then : (index list : List ℕ) (k : Checked) (v : Verdict) (o : Outcome (List ℕ)) (r : Answered) (out out' : List ℕ) → verdict_of k ≡ v → k ≡ checked.Sound → Reported index list o r out out' → Reported index list (v then o) r out out'
+pub reported-then : (index list : List ℕ) (k : Result (Unit {0}) Refusal) (v : Verdict) (o : Outcome (List ℕ)) (r : Result Report Refusal) (out out' : List ℕ) → outcome_of k ≡ v → k ≡ Ok tt → Reported index list o r out out' → Reported index list (v then o) r out out'
 reported-then index list k v o r out out' e h w = rw (then-sound v o (sound-is k v e h)) w
 
-pub counted-then : (k : Checked) (v : Verdict) (o : Outcome (List ℕ)) (r : Histogram) → verdict_of k ≡ v → k ≡ checked.Sound → Counted o r → Counted (v then o) r
-counted-then k v o r e h w = rw (then-sound v o (sound-is k v e h)) w
-
--- what is reported of a threshold question meets demand 3
-pub demand-met : (index list : List ℕ) (t : ℕ) (r : Answered) (out out' : List ℕ) → Reported index list (threshold index list t (length out)) r out out'
+-- what is reported of a threshold question meets its demand
+pub demand-met : (index list : List ℕ) (t : ℕ) (r : Result Report Refusal) (out out' : List ℕ) → Reported index list (threshold index list t (length out)) r out out'
     → Asked index list t → ThresholdDemand index list t out (answered_of r out') out'
 demand-met index list t r out out' w a = subst₂ (λ (o : Outcome (List ℕ)) (b : List ℕ). ThresholdDemand index list t out o b) (sym w.told) (sym w.left) (threshold-demand index list t out a)

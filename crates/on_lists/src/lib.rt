@@ -5,15 +5,15 @@
 ghost use Rattle.std.specs.Prelude.{length};
 ghost use Rattle.meaning.specs.Answer as meaning;
 ghost use Rattle.laws.specs.Demands.{Asked, ThresholdDemand};
-ghost use Rattle.answers.specs.Told.{answered_of, Reported, Counted};
+ghost use Rattle.answers.specs.Told.{answered_of, outcome_of, Reported};
 
-use answers::answer;
-use answers::answer::{Answered, Histogram};
-use answers::refusal::Checked;
+use answers::answer::Report;
+use answers::refusal::Refusal;
+use meaning::HISTOGRAM_COUNTS;
 use on_bitmaps::check;
 
 // The rows that at least t of the list have, as a body in canonical form.
-pub fn threshold(index: &[u32], list: &[u32], t: u32, out: &mut [u32]) -> Answered
+pub fn threshold(index: &[u32], list: &[u32], t: u32, out: &mut [u32]) -> Result<Report, Refusal>
     ensures reported { Reported index.now list.now
         (meaning.threshold index.now list.now t (length out.old))
         result out.old out.new }
@@ -21,33 +21,24 @@ pub fn threshold(index: &[u32], list: &[u32], t: u32, out: &mut [u32]) -> Answer
         → ThresholdDemand index.now list.now t out.old
         (answered_of result out.new) out.new }
 {
-    let checked = check(index);
-    match checked {
-        Checked::Refused(refusal) => Answered::Refused(refusal),
-        Checked::Sound => lists::ask::threshold(index, list, t, out),
-    }
+    check(index)?;
+    lists::ask::threshold(index, list, t, out)
 }
 
 // The rows at whose number the table has a 1, as a body in canonical form.
-pub fn symmetric(index: &[u32], list: &[u32], table: &[u32], out: &mut [u32]) -> Answered
+pub fn symmetric(index: &[u32], list: &[u32], table: &[u32], out: &mut [u32]) -> Result<Report, Refusal>
     ensures { Reported index.now list.now
         (meaning.symmetric index.now list.now table.now (length out.old))
         result out.old out.new }
 {
-    let checked = check(index);
-    match checked {
-        Checked::Refused(refusal) => Answered::Refused(refusal),
-        Checked::Sound => lists::ask::symmetric(index, list, table, out),
-    }
+    check(index)?;
+    lists::ask::symmetric(index, list, table, out)
 }
 
 // For each c from 0 to `MOST_NAMED` the number of rows that exactly c of the list have.
-pub fn histogram(index: &[u32], list: &[u32]) -> Histogram
-    ensures { Counted (meaning.histogram index.now list.now) result }
+pub fn histogram(index: &[u32], list: &[u32]) -> Result<[u32; HISTOGRAM_COUNTS], Refusal>
+    ensures { outcome_of result ≡ meaning.histogram index.now list.now }
 {
-    let checked = check(index);
-    match checked {
-        Checked::Refused(refusal) => answer::no_histogram(refusal),
-        Checked::Sound => lists::ask::histogram(index, list),
-    }
+    check(index)?;
+    lists::ask::histogram(index, list)
 }

@@ -7,7 +7,7 @@ ghost use Rattle.answers.specs.Told.{Wrote};
 ghost use Rattle.batches.specs.Append as batches;
 ghost use Rattle.appending.specs.Stepping.{batch_of};
 
-use answers::answer::Written;
+use answers::refusal::Refusal;
 use batches::AppendState;
 
 // The state of a writer that begins on a buffer: of its words only the number is asked, and none changes.
@@ -23,7 +23,7 @@ pub fn begin(buffer: &[u32]) -> AppendState
 
 // A batch of rows, as plain words, behind those that the writer has: the buffer then begins with all of them as an EWAH
 // body in canonical form, and the state says how many rows and words there are. A refusal changes neither.
-pub fn append(state: &mut AppendState, out: &mut [u32], rows: u32, plain: &[u32]) -> Written
+pub fn append(state: &mut AppendState, out: &mut [u32], rows: u32, plain: &[u32]) -> Result<usize, Refusal>
     ensures wrote { Wrote (batches.append state.old out.old (batch_of rows plain.now))
         result out.old out.new }
     ensures state_after { state.new

@@ -4,33 +4,32 @@ ghost use Rattle.meaning.specs.Segment.{has_row};
 ghost use Rattle.meaning.specs.Format.{canonical};
 ghost use Rattle.laws.specs.Demands.{PlainRows};
 ghost use Rattle.meaning.specs.Answer as meaning;
-ghost use Rattle.answers.specs.Told.{verdict_of, Wrote};
+ghost use Rattle.answers.specs.Told.{outcome_of, Wrote};
 
 use answers::answer;
-use answers::answer::Written;
-use answers::refusal::Checked;
+use answers::refusal::Refusal;
 use body_write::bound;
 use meaning::{Format, MOST_ROWS};
 use words::rows;
 
 // The first fault of plain words.
-pub fn check_plain(plain: &[u32], rows: u32) -> Checked
-    ensures { verdict_of result ≡ meaning.plain_fault rows plain.now }
+pub fn check_plain(plain: &[u32], rows: u32) -> Result<(), Refusal>
+    ensures { outcome_of result ≡ meaning.plain_fault rows plain.now }
 {
     if MOST_ROWS < rows {
-        return Checked::Refused(answer::too_many_rows());
+        return Err(answer::too_many_rows());
     }
     let words = rows::segment_count(rows) as usize;
     if plain.len() != words {
-        return Checked::Refused(answer::bad_argument());
+        return Err(answer::bad_argument());
     }
     if words == 0 {
-        return Checked::Sound;
+        return Ok(());
     }
     if rows::sets_pad(rows, plain[words - 1]) {
-        return Checked::Refused(answer::pad_bit(words as u64 - 1));
+        return Err(answer::pad_bit(words as u64 - 1));
     }
-    Checked::Sound
+    Ok(())
 }
 
 // How many words the canonical body of plain words has.
@@ -58,18 +57,18 @@ fn compress(format: Format, plain: &[u32], rows: u32, out: &mut [u32]) -> usize
 }
 
 // The same, with what is told.
-fn write_fitting(format: Format, plain: &[u32], rows: u32, out: &mut [u32]) -> Written
+fn write_fitting(format: Format, plain: &[u32], rows: u32, out: &mut [u32]) -> Result<usize, Refusal>
     requires plain_rows { PlainRows rows plain.now }
     requires plain_in_bounds { length (canonical format rows (has_row 32 plain.now)) ≤ length out.old }
     ensures { Wrote (meaning.write format rows (has_row 32 plain.now) (length out.old))
         result out.old out.new }
 {
-    Written::Words(compress(format, plain, rows, out))
+    Ok(compress(format, plain, rows, out))
 }
 
 // Plain words written in canonical form; 9 where they do not fit. They are measured first, unless the buffer surely has
 // room.
-pub fn write_plain(format: Format, plain: &[u32], rows: u32, out: &mut [u32]) -> Written
+pub fn write_plain(format: Format, plain: &[u32], rows: u32, out: &mut [u32]) -> Result<usize, Refusal>
     requires { PlainRows rows plain.now }
     ensures { Wrote (meaning.write format rows (has_row 32 plain.now) (length out.old))
         result out.old out.new }
@@ -79,7 +78,7 @@ pub fn write_plain(format: Format, plain: &[u32], rows: u32, out: &mut [u32]) ->
     }
     let need = measure(format, plain, rows);
     if out.len() < need {
-        return Written::Refused(answer::no_room(need as u64));
+        return Err(answer::no_room(need as u64));
     }
     write_fitting(format, plain, rows, out)
 }

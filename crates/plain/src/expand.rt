@@ -8,7 +8,7 @@ ghost use Rattle.meaning.specs.Answer as meaning;
 ghost use Rattle.answers.specs.Told.{Wrote};
 
 use answers::answer;
-use answers::answer::Written;
+use answers::refusal::Refusal;
 use meaning::Format;
 use words::rows;
 
@@ -25,7 +25,7 @@ fn expand(format: Format, body: &[u32], rows: u32, out: &mut [u32])
 }
 
 // The plain words; 9 where they do not fit.
-pub fn plain(format: Format, body: &[u32], rows: u32, out: &mut [u32]) -> Written
+pub fn plain(format: Format, body: &[u32], rows: u32, out: &mut [u32]) -> Result<usize, Refusal>
     requires rows_le_most_rows { rows ≤ most_rows }
     requires sound_facts { SoundFacts format rows body.now }
     ensures { Wrote (meaning.ask_plain rows (rows_of format body.now) (length out.old))
@@ -33,8 +33,8 @@ pub fn plain(format: Format, body: &[u32], rows: u32, out: &mut [u32]) -> Writte
 {
     let need = rows::segment_count(rows) as usize;
     if out.len() < need {
-        return Written::Refused(answer::no_room(need as u64));
+        return Err(answer::no_room(need as u64));
     }
     expand(format, body, rows, out);
-    Written::Words(need)
+    Ok(need)
 }

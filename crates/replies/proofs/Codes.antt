@@ -14,14 +14,10 @@ use Rattle.meaning.specs.Refusal.{Outcome, refused, answer, Verdict, Numbered}
 use Rattle.meaning.specs.declared.Row.{Row}
 use Rattle.meaning.specs.Answer.{buffer_after, words_reported, stretches_reported, histogram_reported}
 use Rattle.laws.specs.Demands.{ThresholdDemand}
-use Rattle.answers.specs.declared.refusal.Checked.{Checked}
-use Rattle.answers.specs.Told.{verdict_of, written_of, words_of, answered_of, words_in, stretches_in, histogram_told, Wrote, Reported, Counted}
-use Rattle.answers.specs.declared.refusal.Checked.TheVariants as checked
-use Rattle.answers.specs.declared.answer.Written.{Written}
-use Rattle.answers.specs.declared.answer.Written.TheVariants as written
-use Rattle.answers.specs.declared.answer.Answered.{Answered}
-use Rattle.answers.specs.declared.answer.Answered.TheVariants as answered
-use Rattle.answers.specs.declared.answer.Histogram.{Histogram}
+use Rattle.std.specs.Prelude.{Result, Ok, Err}
+use Rattle.answers.specs.declared.refusal.Refusal.{Refusal}
+use Rattle.answers.specs.declared.answer.Report.{Report}
+use Rattle.answers.specs.Told.{written_of, words_of, answered_of, words_in, stretches_in, Wrote, Reported}
 use Rattle.replies.specs.declared.reply.ZvChecked.{ZvChecked}
 use Rattle.replies.specs.declared.reply.ZvFlag.{ZvFlag}
 use Rattle.replies.specs.declared.reply.ZvNumber.{ZvNumber}
@@ -30,7 +26,7 @@ use Rattle.replies.specs.declared.reply.ZvSignedValue.{ZvSignedValue}
 use Rattle.replies.specs.declared.reply.ZvWritten.{ZvWritten}
 use Rattle.replies.specs.declared.reply.ZvAnswered.{ZvAnswered}
 use Rattle.replies.specs.declared.reply.ZvHistogram.{ZvHistogram}
-use Rattle.replies.specs.Exported.{number_in, bitmap_in, word_in, flag_in, first_in, last_in, value_in, signed_in, checked_code, flag_code, number_code, value_code, signed_code, written_code, answered_code, written_reply, answered_reply, told, verdict_told, flag_told, number_told, value_read, signed_read, written_told, answered_told, Checks, Flags, Numbers, Values, SignedValues, Writes, Reports, Counts, histogram_reply, histogram_code, counts_told}
+use Rattle.replies.specs.Exported.{number_in, bitmap_in, word_in, flag_in, first_in, last_in, value_in, signed_in, checked_code, flag_code, number_code, value_code, signed_code, written_code, answered_code, written_reply, answered_reply, told, verdict_told, flag_told, number_told, value_read, signed_read, written_told, answered_told, Checks, Flags, Numbers, Values, SignedValues, Writes, Reports, Counts, histogram_code, counts_told}
 use Rattle.laws.proofs.Numbered.{number_of}
 
 -- ---- reading an outcome
@@ -91,16 +87,16 @@ words-front : (o : Outcome (List ℕ)) (out out' : List ℕ) → out' ≡ buffer
 unfolding buffer_after words_reported
 words-front o out out' l x e = rw (l, e) (take-append_seam x (drop (length x) out))
 
-written-code : (o : Outcome (List ℕ)) (r : Written) (out out' : List ℕ) → Wrote o r out out' → written_reply r ≡ written_code o
+written-code : (o : Outcome (List ℕ)) (r : Result ℕ Refusal) (out out' : List ℕ) → Wrote o r out out' → written_reply r ≡ written_code o
 unfolding written_reply written_of words_of number_in bitmap_in word_in words_reported
-written-code o (written.Words n) out out' w =
-    subst (λ (p : Outcome (List ℕ)). n ≡ words_reported p → written_reply (written.Words n) ≡ written_code p) w.told
+written-code o (Ok n) out out' w =
+    subst (λ (p : Outcome (List ℕ)). n ≡ words_reported p → written_reply (Ok n) ≡ written_code p) w.told
     (λ e. ap (λ (k : ℕ). record { number = 0; bitmap = 0; word = 0; words = k }) e)
     w.words
-written-code o (written.Refused r) out out' w = subst (λ (p : Outcome (List ℕ)). written_reply (written.Refused r) ≡ written_code p) w.told refl
+written-code o (Err r) out out' w = subst (λ (p : Outcome (List ℕ)). written_reply (Err r) ≡ written_code p) w.told refl
 
 -- of an outcome whose numbers are not those of every call, too
-pub writes-some : (o : Outcome (List ℕ)) (r : Written) (s : ZvWritten) (out out' : List ℕ) → NotZero o → s ≡ written_reply r → Wrote o r out out' → Writes o s out out'
+pub writes-some : (o : Outcome (List ℕ)) (r : Result ℕ Refusal) (s : ZvWritten) (out out' : List ℕ) → NotZero o → s ≡ written_reply r → Wrote o r out out' → Writes o s out out'
 writes-some o r s out out' n e w =
     let code = e ∙ written-code o r out out' w in
     record {
@@ -109,21 +105,21 @@ writes-some o r s out out' n e w =
       left = w.left;
     }
 
-pub writes : (o : Outcome (List ℕ)) (r : Written) (s : ZvWritten) (out out' : List ℕ) → Numbered o → s ≡ written_reply r → Wrote o r out out' → Writes o s out out'
+pub writes : (o : Outcome (List ℕ)) (r : Result ℕ Refusal) (s : ZvWritten) (out out' : List ℕ) → Numbered o → s ≡ written_reply r → Wrote o r out out' → Writes o s out out'
 writes o r s out out' n e w = writes-some o r s out out' (λ m b k p. number_of (List ℕ) m b k (subst Numbered p n)) e w
 
 -- ---- an answer over a list
 
-answered-code : (index list : List ℕ) (o : Outcome (List ℕ)) (r : Answered) (out out' : List ℕ) → Reported index list o r out out' → answered_reply r ≡ answered_code index list o
+answered-code : (index list : List ℕ) (o : Outcome (List ℕ)) (r : Result Report Refusal) (out out' : List ℕ) → Reported index list o r out out' → answered_reply r ≡ answered_code index list o
 unfolding answered_reply answered_of words_in stretches_in number_in bitmap_in word_in words_reported stretches_reported
-answered-code index list o (answered.Words n s) out out' w =
-    subst (λ (p : Outcome (List ℕ)). n ≡ words_reported p → s ≡ stretches_reported index list p → answered_reply (answered.Words n s) ≡ answered_code index list p) w.told
+answered-code index list o (Ok a) out out' w =
+    subst (λ (p : Outcome (List ℕ)). a.words ≡ words_reported p → a.stretches ≡ stretches_reported index list p → answered_reply (Ok a) ≡ answered_code index list p) w.told
     (λ e f. ap₂ (λ (k m : ℕ). record { number = 0; bitmap = 0; word = 0; words = k; stretches = m }) e f)
     w.words
     w.stretches
-answered-code index list o (answered.Refused r) out out' w = subst (λ (p : Outcome (List ℕ)). answered_reply (answered.Refused r) ≡ answered_code index list p) w.told refl
+answered-code index list o (Err r) out out' w = subst (λ (p : Outcome (List ℕ)). answered_reply (Err r) ≡ answered_code index list p) w.told refl
 
-pub reports : (index list : List ℕ) (o : Outcome (List ℕ)) (r : Answered) (s : ZvAnswered) (out out' : List ℕ) → Numbered o → s ≡ answered_reply r → Reported index list o r out out' → Reports index list o s out out'
+pub reports : (index list : List ℕ) (o : Outcome (List ℕ)) (r : Result Report Refusal) (s : ZvAnswered) (out out' : List ℕ) → Numbered o → s ≡ answered_reply r → Reported index list o r out out' → Reports index list o s out out'
 reports index list o r s out out' n e w =
     let code = e ∙ answered-code index list o r out out' w in
     record {
@@ -132,28 +128,18 @@ reports index list o r s out out' n e w =
       left = w.left;
     }
 
--- demand 3 of what the public call tells is demand 3 of what the caller reads
+-- a demand met by what the public call tells is met by what the caller reads
 pub demanded : (D : Outcome (List ℕ) → Type 0) (o : Outcome (List ℕ)) {p q : Outcome (List ℕ)} → p ≡ o → q ≡ o → D p → D q
 demanded D o e f d = subst D (e ∙ sym f) d
 
 -- ---- a histogram
 
-counts-code : (o : Outcome (List ℕ)) (k : Checked) (ns : List ℕ) → histogram_told k ns ≡ o → ns ≡ histogram_reported o → histogram_reply k ns ≡ histogram_code o
-unfolding histogram_told histogram_reported verdict_of number_in bitmap_in word_in
-counts-code o checked.Sound ns e f = rw (← e) refl
-counts-code o (checked.Refused r) ns e f =
-    subst (λ (p : Outcome (List ℕ)). ns ≡ histogram_reported p → histogram_reply (checked.Refused r) ns ≡ histogram_code p) e
-    (λ g. ap (λ (l : List ℕ). record { number = r.number; bitmap = r.bitmap; word = r.word; counts = l }) g)
-    f
-
 counts-front : (o : Outcome (List ℕ)) (x : List ℕ) → o ≡ answer x → histogram_reported o ≡ x
 unfolding histogram_reported
 counts-front o x e = rw e refl
 
-pub counts : (o : Outcome (List ℕ)) (h : Histogram) (r : ZvHistogram) → Numbered o → r ≡ histogram_reply h.checked h.counts → Counted o h → Counts o r
-counts o h r n e w =
-    let code = e ∙ counts-code o h.checked h.counts w.told w.counts-are in
-    record { code = code; tells = ap counts_told code ∙ told_is o (histogram_reported o) n (counts-front o) }
+pub counts : (o : Outcome (List ℕ)) (r : ZvHistogram) → Numbered o → r ≡ histogram_code o → Counts o r
+counts o r n e = record { code = e; tells = ap counts_told e ∙ told_is o (histogram_reported o) n (counts-front o) }
 
 -- ---- a bool as a number
 

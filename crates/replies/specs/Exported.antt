@@ -1,16 +1,14 @@
 -- What an exported call returns for an outcome, field by field, and which outcome it tells its caller.
 -- Assumes nothing.
-use Rattle.std.specs.Prelude.{ℕ, zero, suc, ◌+◌, ◌≤◌, cond, ◌≡◌, List, eqb, ℤ, pos, length, take, drop}
+use Rattle.std.specs.Prelude.{ℕ, zero, suc, ◌+◌, ◌≤◌, cond, ◌≡◌, List, eqb, ℤ, pos, length, take, drop, Result, Ok, Err}
 use Rattle.meaning.specs.Refusal.{Outcome, refused, answer, Verdict}
 use Rattle.meaning.specs.declared.Row.{Row}
 use Rattle.meaning.specs.Index.{start_of, length_of}
 use Rattle.meaning.specs.Answer.{buffer_after, words_reported, stretches_reported, histogram_reported, bitmap, bitmap_refusal, part_of}
-use Rattle.answers.specs.declared.refusal.Checked.{Checked}
-use Rattle.answers.specs.Told.{verdict_of}
-use Rattle.answers.specs.declared.answer.Written.{Written}
-use Rattle.answers.specs.declared.answer.Written.TheVariants as written
-use Rattle.answers.specs.declared.answer.Answered.{Answered}
-use Rattle.answers.specs.declared.answer.Answered.TheVariants as answered
+use Rattle.answers.specs.declared.refusal.Refusal.{Refusal}
+use Rattle.answers.specs.declared.answer.Report.{Report}
+use Rattle.answers.specs.Told.{number_of}
+use Rattle.replies.specs.declared.reply.Place.{Place}
 use Rattle.replies.specs.declared.reply.ZvChecked.{ZvChecked}
 use Rattle.replies.specs.declared.reply.ZvFlag.{ZvFlag}
 use Rattle.replies.specs.declared.reply.ZvNumber.{ZvNumber}
@@ -100,19 +98,17 @@ histogram_code o = record { number = number_in o; bitmap = bitmap_in o; word = w
 
 -- ---- the same of an answer in code that writes: it holds how many words, and not which
 
-unfoldable pub written_reply : Written → ZvWritten
-written_reply (written.Words n) = record { number = 0; bitmap = 0; word = 0; words = n }
-written_reply (written.Refused r) = record { number = r.number; bitmap = r.bitmap; word = r.word; words = 0 }
+unfoldable pub written_reply : Result ℕ Refusal → ZvWritten
+written_reply (Ok n) = record { number = 0; bitmap = 0; word = 0; words = n }
+written_reply (Err r) = record { number = number_of r.fault; bitmap = r.bitmap; word = r.word; words = 0 }
 
-unfoldable pub answered_reply : Answered → ZvAnswered
-answered_reply (answered.Words n s) = record { number = 0; bitmap = 0; word = 0; words = n; stretches = s }
-answered_reply (answered.Refused r) = record { number = r.number; bitmap = r.bitmap; word = r.word; words = 0; stretches = 0 }
+unfoldable pub answered_reply : Result Report Refusal → ZvAnswered
+answered_reply (Ok a) = record { number = 0; bitmap = 0; word = 0; words = a.words; stretches = a.stretches }
+answered_reply (Err r) = record { number = number_of r.fault; bitmap = r.bitmap; word = r.word; words = 0; stretches = 0 }
 
-abbrev pub part_reply : (number bitmap word start length : ℕ) → ZvPart
-part_reply n b w s l = record { number = n; bitmap = b; word = w; start = s; length = l }
-
-abbrev pub histogram_reply : Checked → (counts : List ℕ) → ZvHistogram
-histogram_reply k counts = record { number = number_in (verdict_of k); bitmap = bitmap_in (verdict_of k); word = word_in (verdict_of k); counts = counts }
+unfoldable pub part_reply : Result Place Refusal → ZvPart
+part_reply (Ok p) = record { number = 0; bitmap = 0; word = 0; start = p.start; length = p.length }
+part_reply (Err r) = record { number = number_of r.fault; bitmap = r.bitmap; word = r.word; start = 0; length = 0 }
 
 -- ---- the outcome that a caller reads from what is returned: number 0 says that the call was not refused
 
@@ -129,7 +125,6 @@ flag_told r = told r.number r.bitmap r.word (record { set = eqb r.value 1; first
 abbrev pub number_told : ZvNumber → Outcome ℕ
 number_told r = told r.number r.bitmap r.word r.value
 
--- named apart from `value_told`, which is of the public call's answer
 abbrev pub value_read : ZvValue → Outcome ℕ
 value_read r = told r.number r.bitmap r.word r.value
 

@@ -4,42 +4,38 @@ ghost use Rattle.meaning.specs.Limits.{most_rows};
 ghost use Rattle.meaning.specs.Format.{rows_of, canonical};
 ghost use Rattle.laws.specs.Laws.{SoundFacts};
 ghost use Rattle.meaning.specs.Answer as meaning;
-ghost use Rattle.answers.specs.Told.{flag_of, number_of, Wrote};
+ghost use Rattle.answers.specs.Told.{outcome_of, Wrote};
 
 use answers::answer;
-use answers::answer::{Flag, Found, Number, Written};
+use answers::refusal::Refusal;
 use body_read::{nth, row};
 use body_write::bound;
-use meaning::Format;
+use meaning::{Format, Row};
 
 // The answer on row r; 8 where there is none.
-pub fn row(format: Format, body: &[u32], rows: u32, r: u32) -> Flag
+pub fn row(format: Format, body: &[u32], rows: u32, r: u32) -> Result<Row, Refusal>
     requires rows_le_most_rows { rows ≤ most_rows }
     requires sound_facts { SoundFacts format rows body.now }
-    ensures { flag_of result ≡ meaning.ask_row format rows body.now r }
+    ensures { outcome_of result ≡ meaning.ask_row format rows body.now r }
 {
     if rows <= r {
-        return Flag::Refused(answer::bad_argument());
+        return Err(answer::bad_argument());
     }
-    Flag::Is(row::row(format, body, rows, r))
+    Ok(row::row(format, body, rows, r))
 }
 
 // The nth set row; 8 where there are not so many.
-pub fn nth(format: Format, body: &[u32], rows: u32, n: u32) -> Number
+pub fn nth(format: Format, body: &[u32], rows: u32, n: u32) -> Result<u32, Refusal>
     requires rows_le_most_rows { rows ≤ most_rows }
     requires sound_facts { SoundFacts format rows body.now }
-    ensures { number_of result ≡ meaning.ask_nth rows (rows_of format body.now) n }
+    ensures { outcome_of result ≡ meaning.ask_nth rows (rows_of format body.now) n }
 {
-    let found = nth::nth(format, body, rows, n);
-    match found {
-        Found::Row(r) => Number::Is(r),
-        Found::Past => Number::Refused(answer::bad_argument()),
-    }
+    nth::nth(format, body, rows, n).ok_or(answer::bad_argument())
 }
 
 // The body in canonical form of the format `to`; 9 where it does not fit.
 // It is measured first, unless the buffer surely has room.
-pub fn rewrite(from: Format, to: Format, body: &[u32], rows: u32, out: &mut [u32]) -> Written
+pub fn rewrite(from: Format, to: Format, body: &[u32], rows: u32, out: &mut [u32]) -> Result<usize, Refusal>
     requires rows_le_most_rows { rows ≤ most_rows }
     requires sound_facts { SoundFacts from rows body.now }
     ensures { Wrote (meaning.write to rows (rows_of from body.now) (length out.old))
@@ -50,18 +46,18 @@ pub fn rewrite(from: Format, to: Format, body: &[u32], rows: u32, out: &mut [u32
     }
     let need = rewrite::body::rewrite(from, to, body, rows, out, false);
     if out.len() < need {
-        return Written::Refused(answer::no_room(need as u64));
+        return Err(answer::no_room(need as u64));
     }
     write_fitting(from, to, body, rows, out)
 }
 
 // The same, into a buffer with room for it.
-fn write_fitting(from: Format, to: Format, body: &[u32], rows: u32, out: &mut [u32]) -> Written
+fn write_fitting(from: Format, to: Format, body: &[u32], rows: u32, out: &mut [u32]) -> Result<usize, Refusal>
     requires rows_le_most_rows { rows ≤ most_rows }
     requires sound_facts { SoundFacts from rows body.now }
     requires body_in_bounds { length (canonical to rows (rows_of from body.now)) ≤ length out.old }
     ensures { Wrote (meaning.write to rows (rows_of from body.now) (length out.old))
         result out.old out.new }
 {
-    Written::Words(rewrite::body::rewrite(from, to, body, rows, out, true))
+    Ok(rewrite::body::rewrite(from, to, body, rows, out, true))
 }

@@ -12,14 +12,17 @@ use native.Mathlib.Numerals.{add-one}
 use native.Mathlib.Omega.{arith}
 use borrow.Author.Tests.{lt-ltb, le-ltb, eq-eqb, ne_eqb, lt-leb}
 use Rattle.meaning.specs.Segment.{segment_count, last_rows, last_limit, over_pad}
-use Rattle.meaning.specs.Refusal.{sound, refused, refuse_if}
+use Rattle.meaning.specs.Refusal.{Verdict, sound, refuse_if}
 use Rattle.meaning.specs.Piece.{Piece, clean_run, dirty_word, piece_size, dirty_in}
 use Rattle.meaning.specs.Wah.{is_fill, fill_value, fill_count, piece_of, wah_fault_from}
 use Rattle.laws.proofs.Walk.{over-inside, over_last}
 use Rattle.words.proofs.Segmented.{some-rows}
 use Rattle.wah.specs.Checking.{Passed, Faulty, Stepped}
-use Rattle.wah.specs.declared.check.Step.{Step}
-use Rattle.wah.specs.declared.check.Step.TheVariants.{Next, Fault}
+use Rattle.std.specs.Prelude.{Result, Ok, Err, MatchResult}
+use Rattle.std.specs.Result.{IsErrAnd}
+use Rattle.answers.specs.declared.refusal.Refusal.{Refusal}
+use Rattle.answers.specs.declared.refusal.Fault.{Fault}
+use Rattle.answers.specs.Told.{refused_by}
 use Rattle.wah.proofs.Spelled.{fill-piece, literal-piece}
 
 -- the word 0, which a clean run has as its dirty word, sets no pad bit
@@ -108,14 +111,26 @@ module _ (R left x : ℕ) where
           same = λ k place xs. let z : left - 1 ≡ 0 = omega arith in literal-next u its-pad k place xs ∙ rw (e, z);
         }
 
--- ---- a step's answer, by its case
+-- ---- a step's answer, by its case, where P is how a fault is told
 
-module _ (R left x : ℕ) (r : Step) (s : Stepped R left x r) where
-  pub passed-of : (rest : ℕ) → r ≡ Next rest → Passed R left x rest
-  passed-of rest e = subst (λ (z : Step). Stepped R left x z) e s
+module _ (R left x : ℕ) (s : Result ℕ Fault) (is : Stepped R left x s) (P : Fault → Refusal → Type 0) (r : Result ℕ Refusal)
+    (cases : MatchResult s (λ rest. r ≡ Ok rest) (λ fault. IsErrAnd r (P fault))) where
+  pub passed-of : (rest : ℕ) → r ≡ Ok rest → Passed R left x rest
+  passed-of rest e = go s is cases
+    where
+      go : (s : Result ℕ Fault) → Stepped R left x s → MatchResult s (λ rest. r ≡ Ok rest) (λ fault. IsErrAnd r (P fault)) → Passed R left x rest
+      go (Ok n) p h = let q : n ≡ rest = cc in subst (λ (n : ℕ). Passed R left x n) q p
+      go (Err f) p h = elim (subst (λ (r : Result ℕ Refusal). IsErrAnd r (P f)) e h) [ ]
 
-  pub faulty-of : (number : ℕ) → r ≡ Fault number → Faulty R left x number
-  faulty-of number e = subst (λ (z : Step). Stepped R left x z) e s
+  pub faulty-of : (told : Refusal) → r ≡ Err told → (k place : ℕ)
+      → ((fault : Fault) → P fault told → told ≡ record { fault = fault; bitmap = k; word = place })
+      → (xs : List ℕ) → wah_fault_from k R place left (x ∷ xs) ≡ refused_by told
+  faulty-of told e k place said xs = go s is cases
+    where
+      go : (s : Result ℕ Fault) → Stepped R left x s → MatchResult s (λ rest. r ≡ Ok rest) (λ fault. IsErrAnd r (P fault))
+          → wah_fault_from k R place left (x ∷ xs) ≡ refused_by told
+      go (Ok n) p h = elim (subst (λ (r : Result ℕ Refusal). IsErrAnd r (λ y. Unit {0})) (sym e ∙ h) tt) [ ]
+      go (Err f) p h = rw (said f (subst (λ (r : Result ℕ Refusal). IsErrAnd r (P f)) e h)) (p.first k place xs)
 
 -- ---- in a body
 
@@ -129,10 +144,10 @@ module _ (b : List ℕ) (R left i : ℕ) (h : i < length b) (k start : ℕ) wher
       ∙ p.same k (start + i) (drop (suc i) b)
       ∙ rw (place, add-one i)
 
-  pub faulty-at : (number : ℕ) → Faulty R left (get_or b i 0) number
-      → wah_fault_from k R (start + i) left (drop i b) ≡ refused number k (start + i)
-  faulty-at number p =
-      ap (wah_fault_from k R (start + i) left) (drop-cons b i 0 h) ∙ p.first k (start + i) (drop (suc i) b)
+  -- the fault there is the body's
+  pub faulty-at : (v : Verdict) → ((xs : List ℕ) → wah_fault_from k R (start + i) left (get_or b i 0 ∷ xs) ≡ v)
+      → wah_fault_from k R (start + i) left (drop i b) ≡ v
+  faulty-at v p = ap (wah_fault_from k R (start + i) left) (drop-cons b i 0 h) ∙ p (drop (suc i) b)
 
 -- at the body's end
 pub end-fault : (k R place left i : ℕ) (b : List ℕ) → length b ≤ i

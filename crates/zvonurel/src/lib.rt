@@ -1,15 +1,15 @@
 // Zvonurel: EWAH and WAH bitmaps over lent slices of 32-bit words. Every public call is on this page; its contract
 // stands in the crate that it is passed on from.
 //
-// A call asks nothing of its input: what is wrong with it is refused, with paper 01's three numbers. Each `ensures`
+// A call asks nothing of its input: what is wrong with it is refused, with a refusal, whose fault has a number. Each `ensures`
 // settles what is returned, and every word of a lent buffer and of a lent state afterwards, for every input. The
 // outcomes that they name are defined in `meaning`'s `specs/Answer.antt` and `specs/Rewriting.antt`, in `column_meaning`'s
 // `specs/Columns.antt` and in `batches`' `specs/Append.antt`; `answers`' `specs/Told.antt` says which outcome an answer
 // tells.
 #![tactic(auto)]
 
-pub use answers::answer::{Answered, Flag, Histogram, Number, SignedValue, Value, Written};
-pub use answers::refusal::{Checked, Refusal};
+pub use answers::answer::Report;
+pub use answers::refusal::{Fault, Refusal};
 pub use batches::AppendState;
 pub use meaning::{Format, Row};
 
@@ -50,7 +50,7 @@ pub use on_writers::append;
 // The first fault of an index.
 pub use on_bitmaps::check;
 
-// Why `bitmap` returns an empty part; `Sound` where it was not refused.
+// Why `bitmap` returns an empty part; nothing where it was not refused.
 pub use on_bitmaps::bitmap_refusal;
 
 // The part of the index that is bitmap k's body, in the lent index itself: empty where the index or the number is refused.

@@ -4,7 +4,6 @@ ghost use Rattle.meaning.specs.declared.Format.TheVariants.{Wah};
 ghost use Rattle.meaning.specs.Answer as meaning;
 ghost use Rattle.replies.specs.Exported.{Checks, Flags, Numbers, Writes};
 
-use replies::reply;
 use replies::reply::{ZvChecked, ZvFlag, ZvNumber, ZvWritten};
 use zvonurel::Format;
 
@@ -12,28 +11,28 @@ use zvonurel::Format;
 pub extern "C" fn zv_wah_check_body(body: &[u32], rows: u32) -> ZvChecked
     ensures { Checks (meaning.check_body Wah rows body.now) result }
 {
-    reply::checked(zvonurel::check_body(Format::Wah, body, rows))
+    ZvChecked::from(zvonurel::check_body(Format::Wah, body, rows))
 }
 
 #[unsafe(no_mangle)]
 pub extern "C" fn zv_wah_body_row(body: &[u32], rows: u32, row: u32) -> ZvFlag
     ensures { Flags (meaning.body_row Wah rows body.now row) result }
 {
-    reply::flag(zvonurel::body_row(Format::Wah, body, rows, row))
+    ZvFlag::from(zvonurel::body_row(Format::Wah, body, rows, row))
 }
 
 #[unsafe(no_mangle)]
 pub extern "C" fn zv_wah_body_count(body: &[u32], rows: u32) -> ZvNumber
     ensures { Numbers (meaning.body_count Wah rows body.now) result }
 {
-    reply::number(zvonurel::body_count(Format::Wah, body, rows))
+    ZvNumber::from(zvonurel::body_count(Format::Wah, body, rows))
 }
 
 #[unsafe(no_mangle)]
 pub extern "C" fn zv_wah_body_nth(body: &[u32], rows: u32, n: u32) -> ZvNumber
     ensures { Numbers (meaning.body_nth Wah rows body.now n) result }
 {
-    reply::number(zvonurel::body_nth(Format::Wah, body, rows, n))
+    ZvNumber::from(zvonurel::body_nth(Format::Wah, body, rows, n))
 }
 
 #[unsafe(no_mangle)]
@@ -41,7 +40,7 @@ pub extern "C" fn zv_wah_expand(body: &[u32], rows: u32, out: &mut [u32]) -> ZvW
     ensures { Writes (meaning.expand Wah rows body.now (length out.old))
         result out.old out.new }
 {
-    reply::written(zvonurel::expand(Format::Wah, body, rows, out))
+    ZvWritten::from(zvonurel::expand(Format::Wah, body, rows, out))
 }
 
 #[unsafe(no_mangle)]
@@ -49,5 +48,5 @@ pub extern "C" fn zv_wah_compress(rows: u32, plain: &[u32], out: &mut [u32]) -> 
     ensures { Writes (meaning.compress Wah rows plain.now (length out.old))
         result out.old out.new }
 {
-    reply::written(zvonurel::compress(Format::Wah, rows, plain, out))
+    ZvWritten::from(zvonurel::compress(Format::Wah, rows, plain, out))
 }

@@ -7,21 +7,21 @@
 // how an outcome is told in numbers.
 #![tactic(auto)]
 
-ghost use Rattle.std.specs.Prelude.{length};
+ghost use Rattle.std.specs.Prelude.{◌≡◌, length};
 ghost use Rattle.meaning.specs.declared.Format.TheVariants.{Ewah};
 ghost use Rattle.meaning.specs.Answer as meaning;
 ghost use Rattle.column_meaning.specs.Columns as columns;
 ghost use Rattle.meaning.specs.declared.Ranking.TheVariants.{Largest, Smallest};
 ghost use Rattle.laws.specs.Demands.{Asked, ThresholdDemand};
 ghost use Rattle.laws.specs.RankLaws.{RankAsked, RankDemand};
-ghost use Rattle.replies.specs.Exported.{Checks, Flags, Numbers, Values, SignedValues, Writes, Reports, Lends, Counts, written_told, answered_told};
+ghost use Rattle.replies.specs.Exported.{Checks, Flags, Numbers, Values, SignedValues, Writes, Reports, Lends, Counts, written_told, answered_told, part_code, part_reply};
 
-use replies::reply;
+use replies::reply::Place;
 pub use replies::reply::{
     ZvAnswered, ZvChecked, ZvFlag, ZvHistogram, ZvNumber, ZvPart, ZvSignedValue, ZvValue, ZvWritten,
 };
 pub use zvonurel::AppendState;
-use zvonurel::{Checked, Format};
+use zvonurel::{Format, Refusal};
 
 mod alone;
 mod rewriting;
@@ -33,28 +33,28 @@ mod writing;
 pub extern "C" fn zv_check_body(body: &[u32], rows: u32) -> ZvChecked
     ensures { Checks (meaning.check_body Ewah rows body.now) result }
 {
-    reply::checked(zvonurel::check_body(Format::Ewah, body, rows))
+    ZvChecked::from(zvonurel::check_body(Format::Ewah, body, rows))
 }
 
 #[unsafe(no_mangle)]
 pub extern "C" fn zv_body_row(body: &[u32], rows: u32, row: u32) -> ZvFlag
     ensures { Flags (meaning.body_row Ewah rows body.now row) result }
 {
-    reply::flag(zvonurel::body_row(Format::Ewah, body, rows, row))
+    ZvFlag::from(zvonurel::body_row(Format::Ewah, body, rows, row))
 }
 
 #[unsafe(no_mangle)]
 pub extern "C" fn zv_body_count(body: &[u32], rows: u32) -> ZvNumber
     ensures { Numbers (meaning.body_count Ewah rows body.now) result }
 {
-    reply::number(zvonurel::body_count(Format::Ewah, body, rows))
+    ZvNumber::from(zvonurel::body_count(Format::Ewah, body, rows))
 }
 
 #[unsafe(no_mangle)]
 pub extern "C" fn zv_body_nth(body: &[u32], rows: u32, n: u32) -> ZvNumber
     ensures { Numbers (meaning.body_nth Ewah rows body.now n) result }
 {
-    reply::number(zvonurel::body_nth(Format::Ewah, body, rows, n))
+    ZvNumber::from(zvonurel::body_nth(Format::Ewah, body, rows, n))
 }
 
 #[unsafe(no_mangle)]
@@ -62,7 +62,7 @@ pub extern "C" fn zv_expand(body: &[u32], rows: u32, out: &mut [u32]) -> ZvWritt
     ensures { Writes (meaning.expand Ewah rows body.now (length out.old))
         result out.old out.new }
 {
-    reply::written(zvonurel::expand(Format::Ewah, body, rows, out))
+    ZvWritten::from(zvonurel::expand(Format::Ewah, body, rows, out))
 }
 
 #[unsafe(no_mangle)]
@@ -70,7 +70,7 @@ pub extern "C" fn zv_compress(rows: u32, plain: &[u32], out: &mut [u32]) -> ZvWr
     ensures { Writes (meaning.compress Ewah rows plain.now (length out.old))
         result out.old out.new }
 {
-    reply::written(zvonurel::compress(Format::Ewah, rows, plain, out))
+    ZvWritten::from(zvonurel::compress(Format::Ewah, rows, plain, out))
 }
 
 // ---- an index
@@ -79,14 +79,14 @@ pub extern "C" fn zv_compress(rows: u32, plain: &[u32], out: &mut [u32]) -> ZvWr
 pub extern "C" fn zv_check(index: &[u32]) -> ZvChecked
     ensures { Checks (meaning.check index.now) result }
 {
-    reply::checked(zvonurel::check(index))
+    ZvChecked::from(zvonurel::check(index))
 }
 
 #[unsafe(no_mangle)]
 pub extern "C" fn zv_bitmap_refusal(index: &[u32], k: u32) -> ZvChecked
     ensures { Checks (meaning.bitmap_refusal index.now k) result }
 {
-    reply::checked(zvonurel::bitmap_refusal(index, k))
+    ZvChecked::from(zvonurel::bitmap_refusal(index, k))
 }
 
 // Where in the index bitmap k's body lies, by the index's own contents: C has no slice to return.
@@ -94,32 +94,39 @@ pub extern "C" fn zv_bitmap_refusal(index: &[u32], k: u32) -> ZvChecked
 pub extern "C" fn zv_bitmap(index: &[u32], k: u32) -> ZvPart
     ensures { Lends index.now k result }
 {
-    let checked = zvonurel::bitmap_refusal(index, k);
-    match checked {
-        Checked::Refused(refusal) => reply::no_part(refusal),
-        Checked::Sound => reply::part(contents::start(index, k), contents::words(index, k)),
-    }
+    ZvPart::from(place(index, k))
+}
+
+// The same, before it is told in numbers.
+fn place(index: &[u32], k: u32) -> Result<Place, Refusal>
+    ensures { part_reply result ≡ part_code index.now k }
+{
+    zvonurel::bitmap_refusal(index, k)?;
+    Ok(Place {
+        start: contents::start(index, k),
+        length: contents::words(index, k),
+    })
 }
 
 #[unsafe(no_mangle)]
 pub extern "C" fn zv_row(index: &[u32], k: u32, row: u32) -> ZvFlag
     ensures { Flags (meaning.row index.now k row) result }
 {
-    reply::flag(zvonurel::row(index, k, row))
+    ZvFlag::from(zvonurel::row(index, k, row))
 }
 
 #[unsafe(no_mangle)]
 pub extern "C" fn zv_count(index: &[u32], k: u32) -> ZvNumber
     ensures { Numbers (meaning.count index.now k) result }
 {
-    reply::number(zvonurel::count(index, k))
+    ZvNumber::from(zvonurel::count(index, k))
 }
 
 #[unsafe(no_mangle)]
 pub extern "C" fn zv_nth(index: &[u32], k: u32, n: u32) -> ZvNumber
     ensures { Numbers (meaning.nth index.now k n) result }
 {
-    reply::number(zvonurel::nth(index, k, n))
+    ZvNumber::from(zvonurel::nth(index, k, n))
 }
 
 #[unsafe(no_mangle)]
@@ -127,7 +134,7 @@ pub extern "C" fn zv_expand_bitmap(index: &[u32], k: u32, out: &mut [u32]) -> Zv
     ensures { Writes (meaning.expand_bitmap index.now k (length out.old))
         result out.old out.new }
 {
-    reply::written(zvonurel::expand_bitmap(index, k, out))
+    ZvWritten::from(zvonurel::expand_bitmap(index, k, out))
 }
 
 // ---- two bitmaps of an index, or one
@@ -137,7 +144,7 @@ pub extern "C" fn zv_and(index: &[u32], j: u32, k: u32, out: &mut [u32]) -> ZvWr
     ensures { Writes (meaning.and index.now j k (length out.old))
         result out.old out.new }
 {
-    reply::written(zvonurel::and(index, j, k, out))
+    ZvWritten::from(zvonurel::and(index, j, k, out))
 }
 
 #[unsafe(no_mangle)]
@@ -145,7 +152,7 @@ pub extern "C" fn zv_or(index: &[u32], j: u32, k: u32, out: &mut [u32]) -> ZvWri
     ensures { Writes (meaning.or index.now j k (length out.old))
         result out.old out.new }
 {
-    reply::written(zvonurel::or(index, j, k, out))
+    ZvWritten::from(zvonurel::or(index, j, k, out))
 }
 
 #[unsafe(no_mangle)]
@@ -153,7 +160,7 @@ pub extern "C" fn zv_xor(index: &[u32], j: u32, k: u32, out: &mut [u32]) -> ZvWr
     ensures { Writes (meaning.xor index.now j k (length out.old))
         result out.old out.new }
 {
-    reply::written(zvonurel::xor(index, j, k, out))
+    ZvWritten::from(zvonurel::xor(index, j, k, out))
 }
 
 #[unsafe(no_mangle)]
@@ -161,7 +168,7 @@ pub extern "C" fn zv_and_not(index: &[u32], j: u32, k: u32, out: &mut [u32]) -> 
     ensures { Writes (meaning.and_not index.now j k (length out.old))
         result out.old out.new }
 {
-    reply::written(zvonurel::and_not(index, j, k, out))
+    ZvWritten::from(zvonurel::and_not(index, j, k, out))
 }
 
 #[unsafe(no_mangle)]
@@ -169,7 +176,7 @@ pub extern "C" fn zv_not(index: &[u32], k: u32, out: &mut [u32]) -> ZvWritten
     ensures { Writes (meaning.not_of index.now k (length out.old))
         result out.old out.new }
 {
-    reply::written(zvonurel::not(index, k, out))
+    ZvWritten::from(zvonurel::not(index, k, out))
 }
 
 // ---- a list of bitmap numbers
@@ -183,7 +190,7 @@ pub extern "C" fn zv_threshold(index: &[u32], list: &[u32], t: u32, out: &mut [u
         → ThresholdDemand index.now list.now t out.old
         (answered_told result out.new) out.new }
 {
-    reply::answered(zvonurel::threshold(index, list, t, out))
+    ZvAnswered::from(zvonurel::threshold(index, list, t, out))
 }
 
 #[unsafe(no_mangle)]
@@ -197,14 +204,14 @@ pub extern "C" fn zv_symmetric(
         (meaning.symmetric index.now list.now table.now (length out.old))
         result out.old out.new }
 {
-    reply::answered(zvonurel::symmetric(index, list, table, out))
+    ZvAnswered::from(zvonurel::symmetric(index, list, table, out))
 }
 
 #[unsafe(no_mangle)]
 pub extern "C" fn zv_histogram(index: &[u32], list: &[u32]) -> ZvHistogram
     ensures { Counts (meaning.histogram index.now list.now) result }
 {
-    reply::histogram(zvonurel::histogram(index, list))
+    ZvHistogram::from(zvonurel::histogram(index, list))
 }
 
 // ---- columns of an index, each named by a list: existence, then the slices, the lowest first
@@ -213,14 +220,14 @@ pub extern "C" fn zv_histogram(index: &[u32], list: &[u32]) -> ZvHistogram
 pub extern "C" fn zv_value(index: &[u32], column: &[u32], row: u32) -> ZvValue
     ensures { Values (columns.value index.now column.now row) result }
 {
-    reply::value(zvonurel::value(index, column, row))
+    ZvValue::from(zvonurel::value(index, column, row))
 }
 
 #[unsafe(no_mangle)]
 pub extern "C" fn zv_signed_value(index: &[u32], column: &[u32], row: u32) -> ZvSignedValue
     ensures { SignedValues (columns.signed_value index.now column.now row) result }
 {
-    reply::signed_value(zvonurel::signed_value(index, column, row))
+    ZvSignedValue::from(zvonurel::signed_value(index, column, row))
 }
 
 #[unsafe(no_mangle)]
@@ -228,7 +235,7 @@ pub extern "C" fn zv_sum(index: &[u32], first: &[u32], second: &[u32], out: &mut
     ensures { Writes (columns.sum index.now first.now second.now
         (length out.old)) result out.old out.new }
 {
-    reply::written(zvonurel::sum(index, first, second, out))
+    ZvWritten::from(zvonurel::sum(index, first, second, out))
 }
 
 #[unsafe(no_mangle)]
@@ -241,7 +248,7 @@ pub extern "C" fn zv_signed_difference(
     ensures { Writes (columns.signed_difference index.now first.now second.now
         (length out.old)) result out.old out.new }
 {
-    reply::written(zvonurel::signed_difference(index, first, second, out))
+    ZvWritten::from(zvonurel::signed_difference(index, first, second, out))
 }
 
 #[unsafe(no_mangle)]
@@ -254,7 +261,7 @@ pub extern "C" fn zv_smaller(
     ensures { Writes (columns.smaller index.now first.now second.now
         (length out.old)) result out.old out.new }
 {
-    reply::written(zvonurel::smaller(index, first, second, out))
+    ZvWritten::from(zvonurel::smaller(index, first, second, out))
 }
 
 #[unsafe(no_mangle)]
@@ -267,7 +274,7 @@ pub extern "C" fn zv_difference_or_zero(
     ensures { Writes (columns.difference_or_zero index.now first.now second.now
         (length out.old)) result out.old out.new }
 {
-    reply::written(zvonurel::difference_or_zero(index, first, second, out))
+    ZvWritten::from(zvonurel::difference_or_zero(index, first, second, out))
 }
 
 #[unsafe(no_mangle)]
@@ -278,7 +285,7 @@ pub extern "C" fn zv_largest(index: &[u32], column: &[u32], k: u32, out: &mut [u
         → RankDemand Largest index.now column.now k out.old
         (written_told result out.new) out.new }
 {
-    reply::written(zvonurel::largest(index, column, k, out))
+    ZvWritten::from(zvonurel::largest(index, column, k, out))
 }
 
 #[unsafe(no_mangle)]
@@ -289,5 +296,5 @@ pub extern "C" fn zv_smallest(index: &[u32], column: &[u32], k: u32, out: &mut [
         → RankDemand Smallest index.now column.now k out.old
         (written_told result out.new) out.new }
 {
-    reply::written(zvonurel::smallest(index, column, k, out))
+    ZvWritten::from(zvonurel::smallest(index, column, k, out))
 }

@@ -5,7 +5,6 @@ ghost use Rattle.meaning.specs.declared.Format.TheVariants.{Ewah, Wah};
 ghost use Rattle.meaning.specs.Rewriting as rewriting;
 ghost use Rattle.replies.specs.Exported.{Writes};
 
-use replies::reply;
 use replies::reply::ZvWritten;
 use zvonurel::Format;
 
@@ -16,7 +15,7 @@ pub extern "C" fn zv_body_to_ewah(body: &[u32], rows: u32, out: &mut [u32]) -> Z
     ensures { Writes (rewriting.rewrite Ewah Ewah rows body.now (length out.old))
         result out.old out.new }
 {
-    reply::written(zvonurel::rewrite(Format::Ewah, Format::Ewah, body, rows, out))
+    ZvWritten::from(zvonurel::rewrite(Format::Ewah, Format::Ewah, body, rows, out))
 }
 
 #[unsafe(no_mangle)]
@@ -24,7 +23,7 @@ pub extern "C" fn zv_body_to_wah(body: &[u32], rows: u32, out: &mut [u32]) -> Zv
     ensures { Writes (rewriting.rewrite Ewah Wah rows body.now (length out.old))
         result out.old out.new }
 {
-    reply::written(zvonurel::rewrite(Format::Ewah, Format::Wah, body, rows, out))
+    ZvWritten::from(zvonurel::rewrite(Format::Ewah, Format::Wah, body, rows, out))
 }
 
 #[unsafe(no_mangle)]
@@ -32,7 +31,7 @@ pub extern "C" fn zv_wah_body_to_ewah(body: &[u32], rows: u32, out: &mut [u32]) 
     ensures { Writes (rewriting.rewrite Wah Ewah rows body.now (length out.old))
         result out.old out.new }
 {
-    reply::written(zvonurel::rewrite(Format::Wah, Format::Ewah, body, rows, out))
+    ZvWritten::from(zvonurel::rewrite(Format::Wah, Format::Ewah, body, rows, out))
 }
 
 #[unsafe(no_mangle)]
@@ -40,7 +39,7 @@ pub extern "C" fn zv_wah_body_to_wah(body: &[u32], rows: u32, out: &mut [u32]) -
     ensures { Writes (rewriting.rewrite Wah Wah rows body.now (length out.old))
         result out.old out.new }
 {
-    reply::written(zvonurel::rewrite(Format::Wah, Format::Wah, body, rows, out))
+    ZvWritten::from(zvonurel::rewrite(Format::Wah, Format::Wah, body, rows, out))
 }
 
 // ---- a bitmap of an index
@@ -50,7 +49,7 @@ pub extern "C" fn zv_bitmap_to_ewah(index: &[u32], k: u32, out: &mut [u32]) -> Z
     ensures { Writes (rewriting.rewrite_bitmap index.now k Ewah (length out.old))
         result out.old out.new }
 {
-    reply::written(zvonurel::rewrite_bitmap(index, k, Format::Ewah, out))
+    ZvWritten::from(zvonurel::rewrite_bitmap(index, k, Format::Ewah, out))
 }
 
 #[unsafe(no_mangle)]
@@ -58,7 +57,7 @@ pub extern "C" fn zv_bitmap_to_wah(index: &[u32], k: u32, out: &mut [u32]) -> Zv
     ensures { Writes (rewriting.rewrite_bitmap index.now k Wah (length out.old))
         result out.old out.new }
 {
-    reply::written(zvonurel::rewrite_bitmap(index, k, Format::Wah, out))
+    ZvWritten::from(zvonurel::rewrite_bitmap(index, k, Format::Wah, out))
 }
 
 // ---- a whole index
@@ -68,7 +67,7 @@ pub extern "C" fn zv_index_to_ewah(index: &[u32], out: &mut [u32]) -> ZvWritten
     ensures { Writes (rewriting.rewrite_index index.now Ewah (length out.old))
         result out.old out.new }
 {
-    reply::written(zvonurel::rewrite_index(index, Format::Ewah, out))
+    ZvWritten::from(zvonurel::rewrite_index(index, Format::Ewah, out))
 }
 
 #[unsafe(no_mangle)]
@@ -76,5 +75,5 @@ pub extern "C" fn zv_index_to_wah(index: &[u32], out: &mut [u32]) -> ZvWritten
     ensures { Writes (rewriting.rewrite_index index.now Wah (length out.old))
         result out.old out.new }
 {
-    reply::written(zvonurel::rewrite_index(index, Format::Wah, out))
+    ZvWritten::from(zvonurel::rewrite_index(index, Format::Wah, out))
 }

@@ -5,7 +5,6 @@ ghost use Rattle.batches.specs.Append as batches;
 ghost use Rattle.appending.specs.Stepping.{batch_of};
 ghost use Rattle.replies.specs.Exported.{Writes};
 
-use replies::reply;
 use replies::reply::ZvWritten;
 use zvonurel::AppendState;
 
@@ -29,5 +28,5 @@ pub extern "C" fn zv_append(
         ≡ batches.state_after (batches.append state.old out.old (batch_of rows plain.now))
         state.old rows }
 {
-    reply::written(zvonurel::append(state, out, rows, plain))
+    ZvWritten::from(zvonurel::append(state, out, rows, plain))
 }

@@ -10,8 +10,8 @@ use Rattle.meaning.specs.Answer.{plain_fault, write}
 use Rattle.meaning.specs.declared.Format.TheVariants.{Ewah}
 use Rattle.batches.specs.Append.{followed}
 use Rattle.answers.specs.Told.{refused_by}
-use Rattle.answers.proofs.Checks.{sound-is, refuses}
-use Rattle.answers.proofs.Tells.{wrote-refused, wrote_then}
+use Rattle.answers.proofs.Checks.{sound-is, stopped}
+use Rattle.answers.proofs.Tells.{wrote_then}
 use Rattle.plain.proofs.PlainWords.{plain_rows}
 use Rattle.appending.specs.Stepping.{batch_of}
 use Rattle.appending.proofs.Batched.{over, within}
@@ -39,24 +39,24 @@ pub extend-requires : goal.extend-requires
 extend-requires c =
     let a = c.args in
     let valid = plain_rows a.more a.plain.now (λ i. (c.type_inv.plain i).fits)
-    (sound-is c.check_plain-checked.result (plain_fault a.more a.plain.now) c.check_plain-checked.ensures c.in-Sound.is) in record {
+    (sound-is c.check_plain.result (plain_fault a.more a.plain.now) c.check_plain.ensures c.in_ok-check_plain.was) in record {
       plain_rows = (valid, few c.before.before.before.before);
       by_index = c.requires.by_index;
     }
 
-pub returns-in-Refused : goal.returns-in-Refused
-returns-in-Refused c q g =
+pub returns-in_err-check_plain : goal.returns-in_err-check_plain
+returns-in_err-check_plain c q g =
     let a = c.args in
     let b = batch_of a.more a.plain.now in
     wrote-refused a.out.now _ _
-    (refuses c.check_plain-checked.result (plain_fault a.more a.plain.now) c.check_plain-checked.ensures _ _ c.in-Refused.is
+    (stopped c.check_plain.result (plain_fault a.more a.plain.now) c.check_plain.ensures _ c.from_residual.result _ c.in_err-check_plain.was c.from_residual.ensures.1
     ∙ sym (within a.rows q b (length a.out.now) (few c.before.before.before)))
 
-pub returns-in-Sound : goal.returns-in-Sound
-returns-in-Sound c q g =
+pub returns : goal.returns
+returns c q g =
     let a = c.args in
     let b = batch_of a.more a.plain.now in
     let longer = write Ewah (a.rows + a.more) (followed a.rows q (has_row 32 a.plain.now)) (length a.out.now) in
     rw (within a.rows q b (length a.out.now) (few c.before.before.before.before.before.before.before))
-    (wrote_then c.check_plain-checked.result (plain_fault a.more a.plain.now) longer c.extend.result a.out.now c.extend.new.out
-    c.check_plain-checked.ensures c.in-Sound.is (c.extend.ensures q g))
+    (wrote_then c.check_plain.result (plain_fault a.more a.plain.now) longer c.extend.result a.out.now c.extend.new.out
+    c.check_plain.ensures c.in_ok-check_plain.was (c.extend.ensures q g))

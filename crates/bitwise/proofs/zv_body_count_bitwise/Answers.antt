@@ -13,5 +13,5 @@ pub returns : goal.returns
 returns c =
     let a = c.args in
     let b = a.body.now in
-    let told = c.number.ensures ∙ ap number_code c.body_count.ensures in
-    numbers (meaning.body_count Ewah a.rows b) c.number.result (numbered.body-count Ewah a.rows b) told
+    let told = c.from.ensures ∙ ap number_code c.body_count.ensures in
+    numbers (meaning.body_count Ewah a.rows b) c.from.result (numbered.body-count Ewah a.rows b) told

@@ -1,6 +1,6 @@
 -- `on_bitmaps::bitmap_refusal` meets its contract: the check's refusal; or, by `index-means`, the head is there and the number is tested. Assumes nothing.
-use Rattle.answers.specs.Told.{verdict_of}
-use Rattle.answers.proofs.Checks.{sound-is, refuses, answers}
+use Rattle.answers.specs.Told.{outcome_of}
+use Rattle.answers.proofs.Checks.{sound-is, stopped, answers}
 use Rattle.meaning.specs.Refusal.{sound, refuse_if}
 use Rattle.meaning.specs.Answer.{check, bad_bitmap, bitmap_refusal}
 use Rattle.laws.proofs.IndexSound.{index-means}
@@ -9,16 +9,16 @@ use Rattle.on_bitmaps.proofs.bitmap_refusal.Goals as goal
 pub check_number-requires : goal.check_number-requires
 unfolding check
 check_number-requires c =
-    ((index-means c.args.index.now).0 (sound-is c.check-checked.result _ c.check-checked.ensures c.in-Sound.is)).head.head
+    ((index-means c.args.index.now).0 (sound-is c.check.result _ c.check.ensures c.in_ok-check.was)).head.head
 
-pub returns-in-Refused : goal.returns-in-Refused
-unfolding verdict_of bitmap_refusal
-returns-in-Refused c =
+pub returns-in_err-check : goal.returns-in_err-check
+unfolding outcome_of bitmap_refusal
+returns-in_err-check c =
     let a = c.args in
-    refuses c.check-checked.result (check a.index.now) c.check-checked.ensures (refuse_if (bad_bitmap a.index.now a.k) 8 0 0 sound) _ c.in-Refused.is
+    stopped c.check.result (check a.index.now) c.check.ensures (refuse_if (bad_bitmap a.index.now a.k) 8 0 0 sound) c.from_residual.result _ c.in_err-check.was c.from_residual.ensures.1
 
-pub returns-in-Sound : goal.returns-in-Sound
+pub returns : goal.returns
 unfolding bitmap_refusal
-returns-in-Sound c =
+returns c =
     let a = c.args in
-    answers c.check-checked.result (check a.index.now) c.check-checked.ensures (refuse_if (bad_bitmap a.index.now a.k) 8 0 0 sound) (verdict_of c.check_number.result) c.in-Sound.is c.check_number.ensures
+    answers c.check.result (check a.index.now) c.check.ensures (refuse_if (bad_bitmap a.index.now a.k) 8 0 0 sound) (outcome_of c.check_number.result) c.in_ok-check.was c.check_number.ensures

@@ -2,8 +2,8 @@
 use lib.ListN.{length}
 use Rattle.meaning.specs.Segment.{has_row}
 use Rattle.meaning.specs.Answer.{plain_fault, write, compress}
-use Rattle.answers.proofs.Checks.{sound-is, refuses}
-use Rattle.answers.proofs.Tells.{wrote-refused, wrote_then}
+use Rattle.answers.proofs.Checks.{sound-is}
+use Rattle.answers.proofs.Tells.{wrote-stopped, wrote_then}
 use Rattle.plain.proofs.PlainWords.{plain_rows}
 use Rattle.on_bodies.proofs.compress.Goals as goal
 
@@ -12,18 +12,18 @@ write_plain-requires c =
     let a = c.args in
     let words = c.shared_slice_known-1.given in
     plain_rows a.rows a.plain.now (λ i. (words i).fits)
-    (sound-is c.check_plain-checked.result (plain_fault a.rows a.plain.now) c.check_plain-checked.ensures c.in-Sound.is)
+    (sound-is c.check_plain.result (plain_fault a.rows a.plain.now) c.check_plain.ensures c.in_ok-check_plain.was)
 
-pub returns-in-Refused : goal.returns-in-Refused
+pub returns-in_err-check_plain : goal.returns-in_err-check_plain
 unfolding compress
-returns-in-Refused c =
+returns-in_err-check_plain c =
     let a = c.args in
-    wrote-refused a.out.now _ _ (refuses c.check_plain-checked.result (plain_fault a.rows a.plain.now) c.check_plain-checked.ensures (write a.format a.rows (has_row 32 a.plain.now) (length a.out.now)) _ c.in-Refused.is)
+    wrote-stopped _ (plain_fault a.rows a.plain.now) (write a.format a.rows (has_row 32 a.plain.now) (length a.out.now)) _ _ _ c.check_plain.ensures c.in_err-check_plain.was c.from_residual.ensures.1
 
-pub returns-in-Sound : goal.returns-in-Sound
+pub returns : goal.returns
 unfolding compress
-returns-in-Sound c =
+returns c =
     let a = c.args in
     let f = plain_fault a.rows a.plain.now in
-    wrote_then c.check_plain-checked.result f (write a.format a.rows (has_row 32 a.plain.now) (length a.out.now)) c.write_plain.result a.out.now c.write_plain.new.out c.check_plain-checked.ensures c.in-Sound.is
+    wrote_then c.check_plain.result f (write a.format a.rows (has_row 32 a.plain.now) (length a.out.now)) c.write_plain.result a.out.now c.write_plain.new.out c.check_plain.ensures c.in_ok-check_plain.was
     c.write_plain.ensures

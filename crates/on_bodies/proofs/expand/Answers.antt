@@ -1,40 +1,23 @@
--- `on_bodies::expand` meets its contract: the check's refusal; or, by `facts`, a sound body, and then `plain::expand::plain`. Assumes nothing.
-use mathlib.Core.Path.{◌≡◌}
-use Rattle.meaning.specs.Refusal.{sound}
+-- `on_bodies::expand` meets its contract: the check's refusal; or, by `countable`, a sound body, and then `plain::expand::plain`. Assumes nothing.
 use Rattle.meaning.specs.Format.{rows_of}
 use lib.ListN.{length}
 use Rattle.meaning.specs.Answer.{check_body, ask_plain, expand}
-use Rattle.answers.proofs.Checks.{sound-is, refuses}
-use Rattle.answers.proofs.Tells.{wrote-refused, wrote_then}
-use Rattle.on_bodies.proofs.Alone.{few-rows, facts}
-use Rattle.on_bodies.proofs.expand.Lts
-use Rattle.on_bodies.proofs.expand.Reads
-use Rattle.on_bodies.proofs.expand.Tie
+use Rattle.answers.proofs.Tells.{wrote-stopped, wrote_then}
+use Rattle.on_bodies.proofs.Alone.{countable}
 use Rattle.on_bodies.proofs.expand.Goals as goal
-
--- places in the code that lemmas below speak of
-abbrev In-Sound : Type 0
-In-Sound = Lts.Past-After-enum_told Tie.the-claims Reads.Pre Reads.Post Tie.handed_clauses
-
--- where the body was found sound
-is-sound : (c : In-Sound) → check_body c.args.format c.args.rows c.args.body.now ≡ sound
-is-sound c = let k = c.check_body-checked in sound-is k.result _ k.ensures c.in-Sound.is
 
 pub plain-requires : goal.plain-requires
 plain-requires c =
-    let s = is-sound c.before.before in record {
-      rows_le_most_rows = few-rows _ _ _ s;
-      sound_facts = facts _ _ _ s;
-    }
+    let s = countable _ _ _ _ c.check_body.ensures c.in_ok-check_body.was in record { rows_le_most_rows = s.0; sound_facts = s.1 }
 
-pub returns-in-Refused : goal.returns-in-Refused
+pub returns-in_err-check_body : goal.returns-in_err-check_body
 unfolding expand
-returns-in-Refused c =
+returns-in_err-check_body c =
     let a = c.args in
-    wrote-refused a.out.now _ _ (refuses c.check_body-checked.result (check_body a.format a.rows a.body.now) c.check_body-checked.ensures (ask_plain a.rows (rows_of a.format a.body.now) (length a.out.now)) _ c.in-Refused.is)
+    wrote-stopped _ (check_body a.format a.rows a.body.now) (ask_plain a.rows (rows_of a.format a.body.now) (length a.out.now)) _ _ _ c.check_body.ensures c.in_err-check_body.was c.from_residual.ensures.1
 
-pub returns-in-Sound : goal.returns-in-Sound
+pub returns : goal.returns
 unfolding expand
-returns-in-Sound c =
+returns c =
     let a = c.args in
-    wrote_then c.check_body-checked.result (check_body a.format a.rows a.body.now) (ask_plain a.rows (rows_of a.format a.body.now) (length a.out.now)) c.plain.result a.out.now c.plain.new.out c.check_body-checked.ensures c.in-Sound.is c.plain.ensures
+    wrote_then c.check_body.result (check_body a.format a.rows a.body.now) (ask_plain a.rows (rows_of a.format a.body.now) (length a.out.now)) c.plain.result a.out.now c.plain.new.out c.check_body.ensures c.in_ok-check_body.was c.plain.ensures

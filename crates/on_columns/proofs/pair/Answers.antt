@@ -3,21 +3,21 @@
 use lib.ListN.{length}
 use Rattle.meaning.specs.Answer.{check}
 use Rattle.column_meaning.specs.Columns.{ask_pair, pair}
-use Rattle.answers.proofs.Checks.{refuses, checked-index}
-use Rattle.answers.proofs.Tells.{wrote-refused, wrote_then}
+use Rattle.answers.proofs.Checks.{checked-index}
+use Rattle.answers.proofs.Tells.{wrote-stopped, wrote_then}
 use Rattle.on_columns.proofs.pair.Goals as goal
 
 pub pair-requires : goal.pair-requires
-pair-requires c = checked-index c.check-checked.result c.args.index.now c.check-checked.ensures c.in-Sound.is
+pair-requires c = checked-index c.check.result c.args.index.now c.check.ensures c.in_ok-check.was
 
-pub returns-in-Refused : goal.returns-in-Refused
+pub returns-in_err-check : goal.returns-in_err-check
 unfolding pair
-returns-in-Refused c =
+returns-in_err-check c =
     let a = c.args in
-    wrote-refused a.out.now _ _ (refuses c.check-checked.result (check a.index.now) c.check-checked.ensures (ask_pair a.index.now a.op a.first.now a.second.now (length a.out.now)) _ c.in-Refused.is)
+    wrote-stopped _ (check a.index.now) (ask_pair a.index.now a.op a.first.now a.second.now (length a.out.now)) _ _ _ c.check.ensures c.in_err-check.was c.from_residual.ensures.1
 
-pub returns-in-Sound : goal.returns-in-Sound
+pub returns : goal.returns
 unfolding pair
-returns-in-Sound c =
+returns c =
     let a = c.args in
-    wrote_then c.check-checked.result (check a.index.now) (ask_pair a.index.now a.op a.first.now a.second.now (length a.out.now)) c.pair.result a.out.now c.pair.new.out c.check-checked.ensures c.in-Sound.is c.pair.ensures
+    wrote_then c.check.result (check a.index.now) (ask_pair a.index.now a.op a.first.now a.second.now (length a.out.now)) c.pair.result a.out.now c.pair.new.out c.check.ensures c.in_ok-check.was c.pair.ensures

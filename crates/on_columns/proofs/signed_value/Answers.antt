@@ -2,21 +2,21 @@
 -- Assumes nothing.
 use Rattle.meaning.specs.Answer.{check}
 use Rattle.column_meaning.specs.Columns.{ask_signed_value, signed_value}
-use Rattle.answers.specs.Told.{signed_told}
-use Rattle.answers.proofs.Checks.{refuses, answers, checked-index}
+use Rattle.answers.specs.Told.{outcome_of}
+use Rattle.answers.proofs.Checks.{stopped, answers, checked-index}
 use Rattle.on_columns.proofs.signed_value.Goals as goal
 
 pub signed_value-requires : goal.signed_value-requires
-signed_value-requires c = checked-index c.check-checked.result c.args.index.now c.check-checked.ensures c.in-Sound.is
+signed_value-requires c = checked-index c.check.result c.args.index.now c.check.ensures c.in_ok-check.was
 
-pub returns-in-Refused : goal.returns-in-Refused
-unfolding signed_told signed_value
-returns-in-Refused c =
+pub returns-in_err-check : goal.returns-in_err-check
+unfolding outcome_of signed_value
+returns-in_err-check c =
     let a = c.args in
-    refuses c.check-checked.result (check a.index.now) c.check-checked.ensures (ask_signed_value a.index.now a.column.now a.row) _ c.in-Refused.is
+    stopped c.check.result (check a.index.now) c.check.ensures (ask_signed_value a.index.now a.column.now a.row) c.from_residual.result _ c.in_err-check.was c.from_residual.ensures.1
 
-pub returns-in-Sound : goal.returns-in-Sound
+pub returns : goal.returns
 unfolding signed_value
-returns-in-Sound c =
+returns c =
     let a = c.args in
-    answers c.check-checked.result (check a.index.now) c.check-checked.ensures (ask_signed_value a.index.now a.column.now a.row) _ c.in-Sound.is c.signed_value.ensures
+    answers c.check.result (check a.index.now) c.check.ensures (ask_signed_value a.index.now a.column.now a.row) _ c.in_ok-check.was c.signed_value.ensures

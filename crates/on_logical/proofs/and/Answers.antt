@@ -2,21 +2,21 @@
 use lib.ListN.{length}
 use Rattle.meaning.specs.Answer.{check, ask_logical, logical, and}
 use Rattle.meaning.specs.Question.{intersection}
-use Rattle.answers.proofs.Checks.{refuses, checked-index}
-use Rattle.answers.proofs.Tells.{wrote-refused, wrote_then}
+use Rattle.answers.proofs.Checks.{checked-index}
+use Rattle.answers.proofs.Tells.{wrote-stopped, wrote_then}
 use Rattle.on_logical.proofs.and.Goals as goal
 
 pub and-requires : goal.and-requires
-and-requires c = checked-index c.check-checked.result c.args.index.now c.check-checked.ensures c.in-Sound.is
+and-requires c = checked-index c.check.result c.args.index.now c.check.ensures c.in_ok-check.was
 
-pub returns-in-Refused : goal.returns-in-Refused
+pub returns-in_err-check : goal.returns-in_err-check
 unfolding logical and
-returns-in-Refused c =
+returns-in_err-check c =
     let a = c.args in
-    wrote-refused a.out.now _ _ (refuses c.check-checked.result (check a.index.now) c.check-checked.ensures (ask_logical a.index.now intersection a.j a.k (length a.out.now)) _ c.in-Refused.is)
+    wrote-stopped _ (check a.index.now) (ask_logical a.index.now intersection a.j a.k (length a.out.now)) _ _ _ c.check.ensures c.in_err-check.was c.from_residual.ensures.1
 
-pub returns-in-Sound : goal.returns-in-Sound
+pub returns : goal.returns
 unfolding logical and
-returns-in-Sound c =
+returns c =
     let a = c.args in
-    wrote_then c.check-checked.result (check a.index.now) (ask_logical a.index.now intersection a.j a.k (length a.out.now)) c.and.result a.out.now c.and.new.out c.check-checked.ensures c.in-Sound.is c.and.ensures
+    wrote_then c.check.result (check a.index.now) (ask_logical a.index.now intersection a.j a.k (length a.out.now)) c.and.result a.out.now c.and.new.out c.check.ensures c.in_ok-check.was c.and.ensures

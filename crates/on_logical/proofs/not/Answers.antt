@@ -1,21 +1,21 @@
 -- `on_logical::not` meets its contract: the check, and then `logical::not`. Assumes nothing.
 use lib.ListN.{length}
 use Rattle.meaning.specs.Answer.{check, ask_not, not_of}
-use Rattle.answers.proofs.Checks.{refuses, checked-index}
-use Rattle.answers.proofs.Tells.{wrote-refused, wrote_then}
+use Rattle.answers.proofs.Checks.{checked-index}
+use Rattle.answers.proofs.Tells.{wrote-stopped, wrote_then}
 use Rattle.on_logical.proofs.not.Goals as goal
 
 pub not-requires : goal.not-requires
-not-requires c = checked-index c.check-checked.result c.args.index.now c.check-checked.ensures c.in-Sound.is
+not-requires c = checked-index c.check.result c.args.index.now c.check.ensures c.in_ok-check.was
 
-pub returns-in-Refused : goal.returns-in-Refused
+pub returns-in_err-check : goal.returns-in_err-check
 unfolding not_of
-returns-in-Refused c =
+returns-in_err-check c =
     let a = c.args in
-    wrote-refused a.out.now _ _ (refuses c.check-checked.result (check a.index.now) c.check-checked.ensures (ask_not a.index.now a.k (length a.out.now)) _ c.in-Refused.is)
+    wrote-stopped _ (check a.index.now) (ask_not a.index.now a.k (length a.out.now)) _ _ _ c.check.ensures c.in_err-check.was c.from_residual.ensures.1
 
-pub returns-in-Sound : goal.returns-in-Sound
+pub returns : goal.returns
 unfolding not_of
-returns-in-Sound c =
+returns c =
     let a = c.args in
-    wrote_then c.check-checked.result (check a.index.now) (ask_not a.index.now a.k (length a.out.now)) c.not.result a.out.now c.not.new.out c.check-checked.ensures c.in-Sound.is c.not.ensures
+    wrote_then c.check.result (check a.index.now) (ask_not a.index.now a.k (length a.out.now)) c.not.result a.out.now c.not.new.out c.check.ensures c.in_ok-check.was c.not.ensures

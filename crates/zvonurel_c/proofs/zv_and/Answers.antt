@@ -8,4 +8,4 @@ use Rattle.zvonurel_c.proofs.zv_and.Goals as goal
 pub returns : goal.returns
 returns c =
     let a = c.args in
-    writes (meaning.and a.index.now a.j a.k (length a.out.now)) c.and.result c.written.result a.out.now c.and.new.out (numbered.and a.index.now a.j a.k (length a.out.now)) c.written.ensures c.and.ensures
+    writes (meaning.and a.index.now a.j a.k (length a.out.now)) c.and.result c.from.result a.out.now c.and.new.out (numbered.and a.index.now a.j a.k (length a.out.now)) c.from.ensures c.and.ensures

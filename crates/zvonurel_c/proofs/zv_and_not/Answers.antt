@@ -8,4 +8,4 @@ use Rattle.zvonurel_c.proofs.zv_and_not.Goals as goal
 pub returns : goal.returns
 returns c =
     let a = c.args in
-    writes (meaning.and_not a.index.now a.j a.k (length a.out.now)) c.and_not.result c.written.result a.out.now c.and_not.new.out (numbered.and-not a.index.now a.j a.k (length a.out.now)) c.written.ensures c.and_not.ensures
+    writes (meaning.and_not a.index.now a.j a.k (length a.out.now)) c.and_not.result c.from.result a.out.now c.and_not.new.out (numbered.and-not a.index.now a.j a.k (length a.out.now)) c.from.ensures c.and_not.ensures

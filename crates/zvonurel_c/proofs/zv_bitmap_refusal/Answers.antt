@@ -9,4 +9,4 @@ use Rattle.zvonurel_c.proofs.zv_bitmap_refusal.Goals as goal
 pub returns : goal.returns
 returns c =
     let a = c.args in
-    checks (meaning.bitmap_refusal a.index.now a.k) c.checked.result (numbered.bitmap-refusal a.index.now a.k) (c.checked.ensures ∙ ap checked_code c.bitmap_refusal.ensures)
+    checks (meaning.bitmap_refusal a.index.now a.k) c.from.result (numbered.bitmap-refusal a.index.now a.k) (c.from.ensures ∙ ap checked_code c.bitmap_refusal.ensures)

@@ -10,4 +10,4 @@ use Rattle.zvonurel_c.proofs.zv_body_nth.Goals as goal
 pub returns : goal.returns
 returns c =
     let a = c.args in
-    numbers (meaning.body_nth Ewah a.rows a.body.now a.n) c.number.result (numbered.body-nth Ewah a.rows a.body.now a.n) (c.number.ensures ∙ ap number_code c.body_nth.ensures)
+    numbers (meaning.body_nth Ewah a.rows a.body.now a.n) c.from.result (numbered.body-nth Ewah a.rows a.body.now a.n) (c.from.ensures ∙ ap number_code c.body_nth.ensures)

@@ -10,4 +10,4 @@ use Rattle.zvonurel_c.proofs.zv_body_row.Goals as goal
 pub returns : goal.returns
 returns c =
     let a = c.args in
-    flags (meaning.body_row Ewah a.rows a.body.now a.row) c.flag.result (numbered.body-row Ewah a.rows a.body.now a.row) (c.flag.ensures ∙ ap flag_code c.body_row.ensures)
+    flags (meaning.body_row Ewah a.rows a.body.now a.row) c.from.result (numbered.body-row Ewah a.rows a.body.now a.row) (c.from.ensures ∙ ap flag_code c.body_row.ensures)

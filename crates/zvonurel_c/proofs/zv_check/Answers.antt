@@ -9,4 +9,4 @@ use Rattle.zvonurel_c.proofs.zv_check.Goals as goal
 pub returns : goal.returns
 returns c =
     let a = c.args in
-    checks (meaning.check a.index.now) c.checked.result (numbered.check a.index.now) (c.checked.ensures ∙ ap checked_code c.check.ensures)
+    checks (meaning.check a.index.now) c.from.result (numbered.check a.index.now) (c.from.ensures ∙ ap checked_code c.check.ensures)

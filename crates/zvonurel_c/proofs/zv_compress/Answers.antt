@@ -9,4 +9,4 @@ use Rattle.zvonurel_c.proofs.zv_compress.Goals as goal
 pub returns : goal.returns
 returns c =
     let a = c.args in
-    writes (meaning.compress Ewah a.rows a.plain.now (length a.out.now)) c.compress.result c.written.result a.out.now c.compress.new.out (numbered.compress Ewah a.rows a.plain.now (length a.out.now)) c.written.ensures c.compress.ensures
+    writes (meaning.compress Ewah a.rows a.plain.now (length a.out.now)) c.compress.result c.from.result a.out.now c.compress.new.out (numbered.compress Ewah a.rows a.plain.now (length a.out.now)) c.from.ensures c.compress.ensures

@@ -9,4 +9,4 @@ use Rattle.zvonurel_c.proofs.zv_count.Goals as goal
 pub returns : goal.returns
 returns c =
     let a = c.args in
-    numbers (meaning.count a.index.now a.k) c.number.result (numbered.count a.index.now a.k) (c.number.ensures ∙ ap number_code c.count.ensures)
+    numbers (meaning.count a.index.now a.k) c.from.result (numbered.count a.index.now a.k) (c.from.ensures ∙ ap number_code c.count.ensures)

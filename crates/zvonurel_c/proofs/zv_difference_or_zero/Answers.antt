@@ -9,4 +9,4 @@ use Rattle.zvonurel_c.proofs.zv_difference_or_zero.Goals as goal
 pub returns : goal.returns
 returns c =
     let a = c.args in
-    writes (columns.difference_or_zero a.index.now a.first.now a.second.now (length a.out.now)) c.difference_or_zero.result c.written.result a.out.now c.difference_or_zero.new.out (numbered.pair a.index.now DifferenceOrZero a.first.now a.second.now (length a.out.now)) c.written.ensures c.difference_or_zero.ensures
+    writes (columns.difference_or_zero a.index.now a.first.now a.second.now (length a.out.now)) c.difference_or_zero.result c.from.result a.out.now c.difference_or_zero.new.out (numbered.pair a.index.now DifferenceOrZero a.first.now a.second.now (length a.out.now)) c.from.ensures c.difference_or_zero.ensures

@@ -9,4 +9,4 @@ use Rattle.zvonurel_c.proofs.zv_expand.Goals as goal
 pub returns : goal.returns
 returns c =
     let a = c.args in
-    writes (meaning.expand Ewah a.rows a.body.now (length a.out.now)) c.expand.result c.written.result a.out.now c.expand.new.out (numbered.expand Ewah a.rows a.body.now (length a.out.now)) c.written.ensures c.expand.ensures
+    writes (meaning.expand Ewah a.rows a.body.now (length a.out.now)) c.expand.result c.from.result a.out.now c.expand.new.out (numbered.expand Ewah a.rows a.body.now (length a.out.now)) c.from.ensures c.expand.ensures

@@ -8,4 +8,4 @@ use Rattle.zvonurel_c.proofs.zv_expand_bitmap.Goals as goal
 pub returns : goal.returns
 returns c =
     let a = c.args in
-    writes (meaning.expand_bitmap a.index.now a.k (length a.out.now)) c.expand_bitmap.result c.written.result a.out.now c.expand_bitmap.new.out (numbered.expand-bitmap a.index.now a.k (length a.out.now)) c.written.ensures c.expand_bitmap.ensures
+    writes (meaning.expand_bitmap a.index.now a.k (length a.out.now)) c.expand_bitmap.result c.from.result a.out.now c.expand_bitmap.new.out (numbered.expand-bitmap a.index.now a.k (length a.out.now)) c.from.ensures c.expand_bitmap.ensures

@@ -14,7 +14,7 @@ use Rattle.zvonurel_c.proofs.zv_largest.Goals as goal
 pub returns : goal.returns
 returns c =
     let a = c.args in
-    let e = writes (columns.largest a.index.now a.column.now a.k (length a.out.now)) c.largest.result c.written.result a.out.now c.largest.new.out (numbered.ranked a.index.now Largest a.column.now a.k (length a.out.now)) c.written.ensures c.largest.ensures.wrote in record {
+    let e = writes (columns.largest a.index.now a.column.now a.k (length a.out.now)) c.largest.result c.from.result a.out.now c.largest.new.out (numbered.ranked a.index.now Largest a.column.now a.k (length a.out.now)) c.from.ensures c.largest.ensures.wrote in record {
       writes = e;
       rank_demand = λ asked. demanded (λ (p : Outcome (List ℕ)). RankDemand Largest a.index.now a.column.now a.k a.out.now p c.largest.new.out)
           (columns.largest a.index.now a.column.now a.k (length a.out.now))

@@ -8,4 +8,4 @@ use Rattle.zvonurel_c.proofs.zv_not.Goals as goal
 pub returns : goal.returns
 returns c =
     let a = c.args in
-    writes (meaning.not_of a.index.now a.k (length a.out.now)) c.not.result c.written.result a.out.now c.not.new.out (numbered.not-of a.index.now a.k (length a.out.now)) c.written.ensures c.not.ensures
+    writes (meaning.not_of a.index.now a.k (length a.out.now)) c.not.result c.from.result a.out.now c.not.new.out (numbered.not-of a.index.now a.k (length a.out.now)) c.from.ensures c.not.ensures

@@ -9,4 +9,4 @@ use Rattle.zvonurel_c.proofs.zv_nth.Goals as goal
 pub returns : goal.returns
 returns c =
     let a = c.args in
-    numbers (meaning.nth a.index.now a.k a.n) c.number.result (numbered.nth a.index.now a.k a.n) (c.number.ensures ∙ ap number_code c.nth.ensures)
+    numbers (meaning.nth a.index.now a.k a.n) c.from.result (numbered.nth a.index.now a.k a.n) (c.from.ensures ∙ ap number_code c.nth.ensures)

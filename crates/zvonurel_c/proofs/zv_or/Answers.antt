@@ -8,4 +8,4 @@ use Rattle.zvonurel_c.proofs.zv_or.Goals as goal
 pub returns : goal.returns
 returns c =
     let a = c.args in
-    writes (meaning.or a.index.now a.j a.k (length a.out.now)) c.or.result c.written.result a.out.now c.or.new.out (numbered.or a.index.now a.j a.k (length a.out.now)) c.written.ensures c.or.ensures
+    writes (meaning.or a.index.now a.j a.k (length a.out.now)) c.or.result c.from.result a.out.now c.or.new.out (numbered.or a.index.now a.j a.k (length a.out.now)) c.from.ensures c.or.ensures

@@ -9,4 +9,4 @@ use Rattle.zvonurel_c.proofs.zv_row.Goals as goal
 pub returns : goal.returns
 returns c =
     let a = c.args in
-    flags (meaning.row a.index.now a.k a.row) c.flag.result (numbered.row a.index.now a.k a.row) (c.flag.ensures ∙ ap flag_code c.row.ensures)
+    flags (meaning.row a.index.now a.k a.row) c.from.result (numbered.row a.index.now a.k a.row) (c.from.ensures ∙ ap flag_code c.row.ensures)

@@ -9,4 +9,4 @@ use Rattle.zvonurel_c.proofs.zv_signed_difference.Goals as goal
 pub returns : goal.returns
 returns c =
     let a = c.args in
-    writes (columns.signed_difference a.index.now a.first.now a.second.now (length a.out.now)) c.signed_difference.result c.written.result a.out.now c.signed_difference.new.out (numbered.pair a.index.now Difference a.first.now a.second.now (length a.out.now)) c.written.ensures c.signed_difference.ensures
+    writes (columns.signed_difference a.index.now a.first.now a.second.now (length a.out.now)) c.signed_difference.result c.from.result a.out.now c.signed_difference.new.out (numbered.pair a.index.now Difference a.first.now a.second.now (length a.out.now)) c.from.ensures c.signed_difference.ensures

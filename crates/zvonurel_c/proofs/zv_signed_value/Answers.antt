@@ -9,4 +9,4 @@ use Rattle.zvonurel_c.proofs.zv_signed_value.Goals as goal
 pub returns : goal.returns
 returns c =
     let a = c.args in
-    signed-values (columns.signed_value a.index.now a.column.now a.row) c.signed_value-2.result (numbered.signed-value a.index.now a.column.now a.row) (c.signed_value-2.ensures ∙ ap signed_code c.signed_value.ensures)
+    signed-values (columns.signed_value a.index.now a.column.now a.row) c.from.result (numbered.signed-value a.index.now a.column.now a.row) (c.from.ensures ∙ ap signed_code c.signed_value.ensures)

@@ -9,4 +9,4 @@ use Rattle.zvonurel_c.proofs.zv_smaller.Goals as goal
 pub returns : goal.returns
 returns c =
     let a = c.args in
-    writes (columns.smaller a.index.now a.first.now a.second.now (length a.out.now)) c.smaller.result c.written.result a.out.now c.smaller.new.out (numbered.pair a.index.now Smaller a.first.now a.second.now (length a.out.now)) c.written.ensures c.smaller.ensures
+    writes (columns.smaller a.index.now a.first.now a.second.now (length a.out.now)) c.smaller.result c.from.result a.out.now c.smaller.new.out (numbered.pair a.index.now Smaller a.first.now a.second.now (length a.out.now)) c.from.ensures c.smaller.ensures

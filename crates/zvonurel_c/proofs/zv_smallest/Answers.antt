@@ -14,7 +14,7 @@ use Rattle.zvonurel_c.proofs.zv_smallest.Goals as goal
 pub returns : goal.returns
 returns c =
     let a = c.args in
-    let e = writes (columns.smallest a.index.now a.column.now a.k (length a.out.now)) c.smallest.result c.written.result a.out.now c.smallest.new.out (numbered.ranked a.index.now Smallest a.column.now a.k (length a.out.now)) c.written.ensures c.smallest.ensures.wrote in record {
+    let e = writes (columns.smallest a.index.now a.column.now a.k (length a.out.now)) c.smallest.result c.from.result a.out.now c.smallest.new.out (numbered.ranked a.index.now Smallest a.column.now a.k (length a.out.now)) c.from.ensures c.smallest.ensures.wrote in record {
       writes = e;
       rank_demand = λ asked. demanded (λ (p : Outcome (List ℕ)). RankDemand Smallest a.index.now a.column.now a.k a.out.now p c.smallest.new.out)
           (columns.smallest a.index.now a.column.now a.k (length a.out.now))

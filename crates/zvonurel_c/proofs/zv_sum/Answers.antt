@@ -9,4 +9,4 @@ use Rattle.zvonurel_c.proofs.zv_sum.Goals as goal
 pub returns : goal.returns
 returns c =
     let a = c.args in
-    writes (columns.sum a.index.now a.first.now a.second.now (length a.out.now)) c.sum.result c.written.result a.out.now c.sum.new.out (numbered.pair a.index.now Sum a.first.now a.second.now (length a.out.now)) c.written.ensures c.sum.ensures
+    writes (columns.sum a.index.now a.first.now a.second.now (length a.out.now)) c.sum.result c.from.result a.out.now c.sum.new.out (numbered.pair a.index.now Sum a.first.now a.second.now (length a.out.now)) c.from.ensures c.sum.ensures

@@ -8,4 +8,4 @@ use Rattle.zvonurel_c.proofs.zv_symmetric.Goals as goal
 pub returns : goal.returns
 returns c =
     let a = c.args in
-    reports a.index.now a.list.now (meaning.symmetric a.index.now a.list.now a.table.now (length a.out.now)) c.symmetric.result c.answered.result a.out.now c.symmetric.new.out (numbered.symmetric a.index.now a.list.now a.table.now (length a.out.now)) c.answered.ensures c.symmetric.ensures
+    reports a.index.now a.list.now (meaning.symmetric a.index.now a.list.now a.table.now (length a.out.now)) c.symmetric.result c.from.result a.out.now c.symmetric.new.out (numbered.symmetric a.index.now a.list.now a.table.now (length a.out.now)) c.from.ensures c.symmetric.ensures

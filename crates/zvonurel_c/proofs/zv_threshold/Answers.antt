@@ -12,7 +12,7 @@ use Rattle.zvonurel_c.proofs.zv_threshold.Goals as goal
 pub returns : goal.returns
 returns c =
     let a = c.args in
-    let e = reports a.index.now a.list.now (meaning.threshold a.index.now a.list.now a.t (length a.out.now)) c.threshold.result c.answered.result a.out.now c.threshold.new.out (numbered.threshold a.index.now a.list.now a.t (length a.out.now)) c.answered.ensures c.threshold.ensures.reported in record {
+    let e = reports a.index.now a.list.now (meaning.threshold a.index.now a.list.now a.t (length a.out.now)) c.threshold.result c.from.result a.out.now c.threshold.new.out (numbered.threshold a.index.now a.list.now a.t (length a.out.now)) c.from.ensures c.threshold.ensures.reported in record {
       reports = e;
       threshold_demand = λ asked. demanded (λ (p : Outcome (List ℕ)). ThresholdDemand a.index.now a.list.now a.t a.out.now p c.threshold.new.out)
           (meaning.threshold a.index.now a.list.now a.t (length a.out.now))

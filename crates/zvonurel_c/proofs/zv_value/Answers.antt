@@ -9,4 +9,4 @@ use Rattle.zvonurel_c.proofs.zv_value.Goals as goal
 pub returns : goal.returns
 returns c =
     let a = c.args in
-    values (columns.value a.index.now a.column.now a.row) c.value-2.result (numbered.value a.index.now a.column.now a.row) (c.value-2.ensures ∙ ap value_code c.value.ensures)
+    values (columns.value a.index.now a.column.now a.row) c.from.result (numbered.value a.index.now a.column.now a.row) (c.from.ensures ∙ ap value_code c.value.ensures)

@@ -8,4 +8,4 @@ use Rattle.zvonurel_c.proofs.zv_xor.Goals as goal
 pub returns : goal.returns
 returns c =
     let a = c.args in
-    writes (meaning.xor a.index.now a.j a.k (length a.out.now)) c.xor.result c.written.result a.out.now c.xor.new.out (numbered.xor a.index.now a.j a.k (length a.out.now)) c.written.ensures c.xor.ensures
+    writes (meaning.xor a.index.now a.j a.k (length a.out.now)) c.xor.result c.from.result a.out.now c.xor.new.out (numbered.xor a.index.now a.j a.k (length a.out.now)) c.from.ensures c.xor.ensures

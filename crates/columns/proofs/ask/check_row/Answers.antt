@@ -4,7 +4,7 @@ use mathlib.Core.Bool.{false}
 use mathlib.Core.Path.{◌≡◌, sym, ap, ◌∙◌}
 use Rattle.meaning.specs.Limits.{most_value_column}
 use Rattle.column_meaning.specs.Columns.{bad_column, bad_row}
-use Rattle.answers.specs.Told.{refused_by, verdict_of}
+use Rattle.answers.specs.Told.{refused_by, outcome_of}
 use Rattle.columns.proofs.Asking.{good-column, row-bad-list, row-bad-row, row-rest}
 use Rattle.columns.proofs.ask.check_row.Lts
 use Rattle.columns.proofs.ask.check_row.Reads
@@ -30,7 +30,7 @@ row-good : (e : Else-row_is_bad)
 row-good e = sym e.row_is_bad.ensures ∙ e.if-row_is_bad.false
 
 pub returns-then-column_is_bad : goal.returns-then-column_is_bad
-unfolding verdict_of
+unfolding outcome_of
 returns-then-column_is_bad c =
     ap refused_by c.bad_argument.ensures
     ∙ row-bad-list _ _ _ (sym c.column_is_bad.ensures ∙ c.if-column_is_bad.true)
@@ -43,7 +43,7 @@ row_is_bad-requires c =
     }
 
 pub returns-then-row_is_bad : goal.returns-then-row_is_bad
-unfolding verdict_of
+unfolding outcome_of
 returns-then-row_is_bad c =
     ap refused_by c.bad_argument-then-row_is_bad.ensures
     ∙ row-bad-row _ _ _ (good-list c.before.before.before.before)

@@ -6,8 +6,8 @@ use mir.Val.{SFits}
 use mir.ValLaws.{to_z-of_z}
 use Rattle.meaning.specs.Refusal.{answer, Verdict}
 use Rattle.column_meaning.specs.Columns.{signed_at, ask_signed_value}
-use Rattle.answers.specs.Told.{signed_told}
-use Rattle.answers.proofs.Checks.{sound-is, refuses, answers}
+use Rattle.answers.specs.Told.{outcome_of}
+use Rattle.answers.proofs.Checks.{sound-is, stopped, answers}
 use Rattle.columns.proofs.Asking.{row_verdict, asked-then, row-passed, good-column, good-row}
 use borrow.Author.Rules.{rules}
 use Rattle.columns.proofs.ask.signed_value.Goals as goal
@@ -16,25 +16,24 @@ pub signed_value-requires : goal.signed_value-requires
 signed_value-requires c =
     let a = c.args in
     let v : Verdict = row_verdict a.index.now a.list.now a.row in
-    let p = row-passed _ _ _ (sound-is c.check_row-checked.result v c.check_row-checked.ensures c.in-Sound.is) in
+    let p = row-passed _ _ _ (sound-is c.check_row.result v c.check_row.ensures c.in_ok-check_row.was) in
     let g = good-column _ _ _ p.0 in record {
       index_facts = c.requires;
       least_column_in_bounds = (g.0, g.1, g.2, good-row _ _ _ p.1);
     }
 
-pub returns-in-Refused : goal.returns-in-Refused
-unfolding signed_told ask_signed_value
-returns-in-Refused c =
+pub returns-in_err-check_row : goal.returns-in_err-check_row
+unfolding outcome_of ask_signed_value
+returns-in_err-check_row c =
     let a = c.args in
-    refuses c.check_row-checked.result (row_verdict a.index.now a.list.now a.row) c.check_row-checked.ensures
-    (answer (signed_at a.index.now a.list.now a.row)) _ c.in-Refused.is
+    stopped c.check_row.result (row_verdict a.index.now a.list.now a.row) c.check_row.ensures (answer (signed_at a.index.now a.list.now a.row)) c.from_residual.result _ c.in_err-check_row.was c.from_residual.ensures.1
     ∙ asked-then a.index.now a.list.now a.row _
 
-pub returns-in-Sound : goal.returns-in-Sound
-unfolding signed_told ask_signed_value
-returns-in-Sound c =
+pub returns : goal.returns
+unfolding outcome_of ask_signed_value
+returns c =
     let a = c.args in
     let low : SFits w64 c.signed_value.result = search rules in
-    answers c.check_row-checked.result (row_verdict a.index.now a.list.now a.row) c.check_row-checked.ensures
-    _ _ c.in-Sound.is (ap answer (to_z-of_z w64 c.signed_value.result low ∙ c.signed_value.ensures))
+    answers c.check_row.result (row_verdict a.index.now a.list.now a.row) c.check_row.ensures
+    _ _ c.in_ok-check_row.was (ap answer (to_z-of_z w64 c.signed_value.result low ∙ c.signed_value.ensures))
     ∙ asked-then a.index.now a.list.now a.row _

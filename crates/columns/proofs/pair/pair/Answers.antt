@@ -9,8 +9,8 @@ use Rattle.meaning.specs.Limits.{most_column}
 use Rattle.meaning.specs.Refusal.{Outcome, ◌then◌}
 use Rattle.column_meaning.specs.Columns.{bad_column, strays, write_pair}
 use Rattle.answers.specs.Told.{Wrote}
-use Rattle.answers.proofs.Checks.{refuses}
-use Rattle.answers.proofs.Tells.{wrote-refused, wrote_then}
+use Rattle.answers.proofs.Checks.{stopped}
+use Rattle.answers.proofs.Tells.{wrote_then}
 use Rattle.columns.proofs.Asking.{good-column, pair-bad-first, pair-bad-second, pair-rest}
 use native.Mathlib.Omega.{arith}
 use Rattle.columns.proofs.pair.pair.Lts
@@ -57,16 +57,16 @@ pair_second-requires c =
       second_value = good-second c.before.before.before.before;
     }
 
-pub returns-in-Refused : goal.returns-in-Refused
-returns-in-Refused c =
+pub returns-in_err-strays : goal.returns-in_err-strays
+returns-in_err-strays c =
     let a = c.args in
     wrote-refused a.out.now _ _
-    (refuses c.strays-checked.result _ c.strays-checked.ensures (strays a.index.now a.second.now then write_pair a.index.now a.op a.first.now a.second.now (length a.out.now)) _ c.in-Refused.is
+    (stopped c.strays.result _ c.strays.ensures (strays a.index.now a.second.now then write_pair a.index.now a.op a.first.now a.second.now (length a.out.now)) c.from_residual.result _ c.in_err-strays.was c.from_residual.ensures.1
     ∙ pair-rest a.op a.index.now a.first.now a.second.now a.out.now (good-first c.before.before.before.before.before) (good-second c.before.before.before))
 
-pub returns-in-Sound : goal.returns-in-Sound
-returns-in-Sound c =
+pub returns : goal.returns
+returns c =
     let a = c.args in
     subst (λ (o : Outcome (List ℕ)). Wrote o c.pair_second.result a.out.now c.pair_second.new.out)
     (pair-rest a.op a.index.now a.first.now a.second.now a.out.now (good-first c.before.before.before.before.before.before.before.before.before) (good-second c.before.before.before.before.before.before.before))
-    (wrote_then c.strays-checked.result _ (strays a.index.now a.second.now then write_pair a.index.now a.op a.first.now a.second.now (length a.out.now)) c.pair_second.result a.out.now c.pair_second.new.out c.strays-checked.ensures c.in-Sound.is c.pair_second.ensures)
+    (wrote_then c.strays.result _ (strays a.index.now a.second.now then write_pair a.index.now a.op a.first.now a.second.now (length a.out.now)) c.pair_second.result a.out.now c.pair_second.new.out c.strays.ensures c.in_ok-strays.was c.pair_second.ensures)

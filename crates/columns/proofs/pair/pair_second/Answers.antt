@@ -2,8 +2,8 @@
 -- Assumes nothing.
 use lib.ListN.{length}
 use Rattle.column_meaning.specs.Columns.{write_pair}
-use Rattle.answers.proofs.Checks.{refuses}
-use Rattle.answers.proofs.Tells.{wrote-refused, wrote_then}
+
+use Rattle.answers.proofs.Tells.{wrote-stopped, wrote_then}
 use Rattle.columns.proofs.Asking.{good-column}
 use native.Mathlib.Omega.{arith}
 use Rattle.columns.proofs.pair.pair_second.Goals as goal
@@ -15,12 +15,12 @@ strays-checked-requires c =
       least_column_in_bounds = (g.0, omega (arith, g.1), g.2);
     }
 
-pub returns-in-Refused : goal.returns-in-Refused
-returns-in-Refused c =
+pub returns-in_err-strays : goal.returns-in_err-strays
+returns-in_err-strays c =
     let a = c.args in
-    wrote-refused a.out.now _ _ (refuses c.strays-checked.result _ c.strays-checked.ensures (write_pair a.index.now a.op a.first.now a.second.now (length a.out.now)) _ c.in-Refused.is)
+    wrote-stopped _ _ (write_pair a.index.now a.op a.first.now a.second.now (length a.out.now)) _ _ _ c.strays.ensures c.in_err-strays.was c.from_residual.ensures.1
 
-pub returns-in-Sound : goal.returns-in-Sound
-returns-in-Sound c =
+pub returns : goal.returns
+returns c =
     let a = c.args in
-    wrote_then c.strays-checked.result _ (write_pair a.index.now a.op a.first.now a.second.now (length a.out.now)) c.write_pair.result a.out.now c.write_pair.new.out c.strays-checked.ensures c.in-Sound.is c.write_pair.ensures
+    wrote_then c.strays.result _ (write_pair a.index.now a.op a.first.now a.second.now (length a.out.now)) c.write_pair.result a.out.now c.write_pair.new.out c.strays.ensures c.in_ok-strays.was c.write_pair.ensures

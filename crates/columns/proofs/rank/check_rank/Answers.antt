@@ -4,7 +4,7 @@ use mathlib.Core.Bool.{false}
 use mathlib.Core.Path.{◌≡◌, sym, ap, ◌∙◌}
 use Rattle.meaning.specs.Limits.{most_column}
 use Rattle.column_meaning.specs.Columns.{bad_column}
-use Rattle.answers.specs.Told.{refused_by, verdict_of}
+use Rattle.answers.specs.Told.{refused_by, outcome_of}
 use Rattle.columns.proofs.Asking.{good-column, rank-bad-list, rank-too-many, rank-rest}
 use native.Mathlib.Omega.{arith}
 use Rattle.columns.proofs.rank.check_rank.Lts
@@ -23,7 +23,7 @@ good-list : (e : Else-column_is_bad)
 good-list e = sym e.column_is_bad.ensures ∙ e.if-column_is_bad.false
 
 pub returns-then-column_is_bad : goal.returns-then-column_is_bad
-unfolding verdict_of
+unfolding outcome_of
 returns-then-column_is_bad c =
     ap refused_by c.bad_argument.ensures
     ∙ rank-bad-list _ _ _ (sym c.column_is_bad.ensures ∙ c.if-column_is_bad.true)
@@ -36,7 +36,7 @@ existing-requires c =
     }
 
 pub returns-then-existing-k : goal.returns-then-existing-k
-unfolding verdict_of
+unfolding outcome_of
 returns-then-existing-k c =
     ap refused_by c.bad_argument-then-existing-k.ensures
     ∙ rank-too-many _ _ _ (good-list c.before.before.before.before) c.existing.result c.existing.ensures c.if-existing-k.true

@@ -6,8 +6,8 @@ use Rattle.meaning.specs.Segment.{segment_count}
 use Rattle.meaning.specs.Ewah.{fault_from, ewah_fault}
 use Rattle.ewah.proofs.check.check.Given as goal
 
-abbrev pub invariant-loop-at : goal.invariant-loop-at
-invariant-loop-at l = (l.at ≤ length l.body) × (l.left ≤ segment_count 32 l.rows) × (fault_from l.bitmap l.rows (l.start + l.at) 0 l.left (drop l.at l.body) ≡ ewah_fault l.bitmap l.start l.rows l.body)
+abbrev pub invariant-loop-rest : goal.invariant-loop-rest
+invariant-loop-rest l = (l.rest.at ≤ length l.body) × (l.rest.left ≤ segment_count 32 l.rows) × (fault_from l.bitmap l.rows (l.start + l.rest.at) 0 l.rest.left (drop l.rest.at l.body) ≡ ewah_fault l.bitmap l.start l.rows l.body)
 
-abbrev pub decreases-loop-at : goal.decreases-loop-at
-decreases-loop-at l = length l.body - l.at
+abbrev pub decreases-loop-rest : goal.decreases-loop-rest
+decreases-loop-rest l = length l.body - l.rest.at

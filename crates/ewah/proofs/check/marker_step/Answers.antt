@@ -12,12 +12,12 @@ pub returns-then-dirty_over_pad : goal.returns-then-dirty_over_pad
 returns-then-dirty_over_pad c =
     let a = c.args in
     let m = c.read-m.ensures in
-    step-dirty a.body.now a.rows a.at a.left _ _ c.requires.at_in_bounds m.clean_is m.dirty-is
+    step-dirty a.body.now a.rows a.from.at a.from.left _ _ c.requires.at_in_bounds m.clean_is m.dirty-is
     c.if-body-at.false c.if-left-clean.false c.dirty_over_pad.result c.dirty_over_pad.ensures c.if-dirty_over_pad.true
 
 pub returns : goal.returns
 returns c =
     let a = c.args in
     let m = c.read-m.ensures in
-    step-next a.body.now a.rows a.at a.left _ _ c.requires.at_in_bounds m.clean_is m.dirty-is
+    step-next a.body.now a.rows a.from.at a.from.left _ _ c.requires.at_in_bounds m.clean_is m.dirty-is
     c.if-body-at.false c.if-left-clean.false c.dirty_over_pad.result c.dirty_over_pad.ensures c.if-dirty_over_pad.false

@@ -6,7 +6,6 @@ use Rattle.meaning.specs.Index.{bitmap_count, entry_place, entries_fault}
 use Rattle.index.proofs.check.check_entries.Given as goal
 
 abbrev pub invariant-loop-k : goal.invariant-loop-k
-invariant-loop-k l = (l.n ≡ bitmap_count l.index) × (l.k ≤ l.n) × (l.end ≤ length l.index) × (entries_fault l.index l.k (l.n - l.k) l.end ≡ entries_fault l.index 0 (bitmap_count l.index) (entry_place l.index (bitmap_count l.index)))
-
-abbrev pub decreases-loop-k : goal.decreases-loop-k
-decreases-loop-k l = l.n - l.k
+invariant-loop-k l =
+    (l.end ≤ length l.index)
+    × (entries_fault l.index l.k (l.n - l.k) l.end ≡ entries_fault l.index 0 (bitmap_count l.index) (entry_place l.index (bitmap_count l.index)))

@@ -12,7 +12,7 @@ pub returns-then-list_is_bad : goal.returns-then-list_is_bad
 unfolding ask_histogram
 returns-then-list_is_bad c =
     let a = c.args in
-    counted-refused a.index.now a.list.now _ (sym c.list_is_bad.ensures ∙ c.if-list_is_bad.true) c.bad_argument.result c.bad_argument.ensures c.no_histogram.result c.no_histogram.ensures
+    counted-refused a.index.now a.list.now _ (sym c.list_is_bad.ensures ∙ c.if-list_is_bad.true) c.bad_argument.result c.bad_argument.ensures
 
 pub histogram-requires : goal.histogram-requires
 histogram-requires c =

@@ -1,15 +1,8 @@
--- `single::body::nth` meets its contract: what `body_read::nth::nth` found, its row or 8. Assumes nothing.
-use mathlib.Core.Path.{sym, ap, ◌∙◌}
-use Rattle.answers.specs.Told.{refused_by, number_of, found_of}
+-- `single::body::nth` meets its contract: what `body_read::nth::nth` found, or a bad argument. Assumes nothing.
+use mathlib.Core.Path.{ap, ◌∙◌}
+use Rattle.answers.specs.Told.{outcome_of}
+use Rattle.single.proofs.Asks.{found-or-refused}
 use Rattle.single.proofs.body.nth.Goals as goal
 
-pub returns-in-Row : goal.returns-in-Row
-unfolding number_of found_of
-returns-in-Row c = sym (ap found_of c.in-Row.is) ∙ c.nth-found.ensures
-
-pub returns-in-Past : goal.returns-in-Past
-unfolding number_of found_of
-returns-in-Past c =
-    ap refused_by c.bad_argument.ensures
-    ∙ sym (ap found_of c.in-Past.is)
-    ∙ c.nth-found.ensures
+pub returns : goal.returns
+returns c = ap outcome_of c.ok_or.ensures.value ∙ found-or-refused c.nth.result c.bad_argument.result c.bad_argument.ensures ∙ c.nth.ensures

@@ -1,63 +1,51 @@
 -- `wah::check::check` meets its contract. Where the loop stands, the faults of the rest are those of the body. Assumes nothing.
+use borrow.Author.Rules.{rules}
 use borrow.Author.Tests.{lt-ltb, le-ltb}
 use native.Mathlib.Omega.{arith}
+use lib.ListN.{length}
 use Prim.Native.Nat.{◌+◌}
 use mathlib.Core.Path.{◌≡◌, sym, ◌∙◌}
-use lib.Dec.{ltb}
-use Rattle.meaning.specs.Refusal.{sound, refuse_if}
+use Rattle.meaning.specs.Refusal.{refuse_if}
 use Rattle.meaning.specs.Wah.{wah_fault}
-use Rattle.answers.specs.Told.{verdict_of}
+use Rattle.answers.specs.Told.{outcome_of}
+use Rattle.std.proofs.lemmas.Result.{err_from_is_err_and}
 use Rattle.wah.proofs.Steps.{passed-of, faulty-of, passed-at, faulty-at, end-fault}
-use Rattle.wah.proofs.check.check.Lts
-use Rattle.wah.proofs.check.check.Reads
-use Rattle.wah.proofs.check.check.Tie
 use Rattle.wah.proofs.check.check.Goals as goal
-
--- places in the code that lemmas below speak of
-abbrev After-loop-at : Type 0
-After-loop-at = Lts.After-loop Tie.the-claims Reads.Pre Reads.Post goal.the-invariant-loop-at goal.the-decreases-loop-at Tie.handed_clauses
 
 pub loop-at-init : goal.loop-at-init
 unfolding wah_fault
 loop-at-init c =
+    let z : c.args.start + 0 ≡ c.args.start = omega arith in
+    (omega arith, rw (z, c.segments-left.ensures))
+
+pub returns-in_err-left : goal.returns-in_err-left
+unfolding outcome_of
+returns-in_err-left c =
+    let l = c.loop-at in
     let a = c.args in
-    let z : a.start + 0 ≡ a.start = omega arith in
-    (omega arith, omega arith, rw (z, c.segments-left.ensures))
+    let p = err_from_is_err_and c.from_residual.result c.from_residual.ensures.1 in
+    let told = faulty-of _ _ _ _ c.word_step.ensures _ _ c.map_err.ensures.cases _ c.in_err-left.was a.bitmap (a.start + l.at-counter) (λ fault q. search rules) in
+    rw (p.1, p.2) (sym (faulty-at a.body.now a.rows l.left l.at-counter c.loop-at-test.true a.bitmap a.start _ told) ∙ l.invariant.1)
 
 pub loop-at-preserved : goal.loop-at-preserved
 loop-at-preserved c =
     let l = c.loop-at in
     let a = c.args in
-    let p = passed-of _ _ _ _ c.word_step-step.ensures _ c.in-Next.is in
-    let inside = c.loop-at-test.true in
-    let same = passed-at a.body.now a.rows l.left l.at inside a.bitmap a.start _ p in
-    (omega arith, omega (arith, p.fewer), sym same ∙ l.invariant.2)
-
-pub returns-in-Fault : goal.returns-in-Fault
-unfolding verdict_of
-returns-in-Fault c =
-    let l = c.loop-at in
-    let a = c.args in
-    let p = faulty-of _ _ _ _ c.word_step-step.ensures _ c.in-Fault.is in
-    let inside = c.loop-at-test.true in
-    sym (faulty-at a.body.now a.rows l.left l.at inside a.bitmap a.start _ p) ∙ l.invariant.2
-
--- behind the last word
-ended : (c : After-loop-at)
-    → let l = c.loop-at in
-    let a = c.args in
-    refuse_if (ltb 0 l.left) 6 a.bitmap (a.start + l.at) sound
-    ≡ wah_fault a.bitmap a.start a.rows a.body.now
-ended c =
-    let l = c.loop-at in
-    let a = c.args in
-    sym (end-fault a.bitmap a.rows (a.start + l.at) l.left l.at a.body.now c.loop-at-test.false)
-    ∙ l.invariant.2
+    let p = passed-of _ _ _ _ c.word_step.ensures _ _ c.map_err.ensures.cases _ c.in_ok-left.was in
+    let same = passed-at a.body.now a.rows l.left l.at-counter c.loop-at-test.true a.bitmap a.start _ p in
+    (omega (arith, p.fewer), sym same ∙ l.invariant.1)
 
 pub returns-then-left-gt0 : goal.returns-then-left-gt0
-unfolding verdict_of refuse_if
-returns-then-left-gt0 c = rw (lt-ltb 0 c.loop-at.left c.if-left-gt0.true) at (ended c.before.before)
+unfolding outcome_of refuse_if
+returns-then-left-gt0 c =
+    let l = c.loop-at in
+    let a = c.args in
+    let e : l.at-counter ≡ length a.body.now = omega (arith, c.loop-at-test.false, l.auto.at-counter-end) in
+    rw c.refused.ensures (rw (e, lt-ltb 0 l.left c.if-left-gt0.true) at (sym (end-fault a.bitmap a.rows (a.start + l.at-counter) l.left l.at-counter a.body.now c.loop-at-test.false) ∙ l.invariant.1))
 
 pub returns : goal.returns
-unfolding verdict_of refuse_if
-returns c = rw (le-ltb 0 c.loop-at.left c.if-left-gt0.false) at (ended c.before.before)
+unfolding outcome_of refuse_if
+returns c =
+    let l = c.loop-at in
+    let a = c.args in
+    rw (le-ltb 0 l.left c.if-left-gt0.false) at (sym (end-fault a.bitmap a.rows (a.start + l.at-counter) l.left l.at-counter a.body.now c.loop-at-test.false) ∙ l.invariant.1)

@@ -1,15 +1,12 @@
 -- `wah::check::check` meets its contract. Where the loop stands, the faults of the rest are those of the body. Assumes nothing.
-use Prim.Native.Nat.{◌+◌, ◌-◌, ◌≤◌}
+use Prim.Native.Nat.{◌+◌, ◌≤◌}
 use mathlib.Core.Path.{◌≡◌}
-use lib.ListN.{length, drop}
+use lib.ListN.{drop}
 use Rattle.meaning.specs.Segment.{segment_count}
 use Rattle.meaning.specs.Wah.{wah_fault_from, wah_fault}
 use Rattle.wah.proofs.check.check.Given as goal
 
 abbrev pub invariant-loop-at : goal.invariant-loop-at
 invariant-loop-at l =
-    (l.at ≤ length l.body) × (l.left ≤ segment_count 31 l.rows)
-    × (wah_fault_from l.bitmap l.rows (l.start + l.at) l.left (drop l.at l.body) ≡ wah_fault l.bitmap l.start l.rows l.body)
-
-abbrev pub decreases-loop-at : goal.decreases-loop-at
-decreases-loop-at l = length l.body - l.at
+    (l.left ≤ segment_count 31 l.rows)
+    × (wah_fault_from l.bitmap l.rows (l.start + l.at-counter) l.left (drop l.at-counter l.body) ≡ wah_fault l.bitmap l.start l.rows l.body)

@@ -10,4 +10,4 @@ use Rattle.zvonurel_c.proofs.alone.zv_wah_body_count.Goals as goal
 pub returns : goal.returns
 returns c =
     let a = c.args in
-    numbers (meaning.body_count Wah a.rows a.body.now) c.number.result (numbered.body-count Wah a.rows a.body.now) (c.number.ensures ∙ ap number_code c.body_count.ensures)
+    numbers (meaning.body_count Wah a.rows a.body.now) c.from.result (numbered.body-count Wah a.rows a.body.now) (c.from.ensures ∙ ap number_code c.body_count.ensures)

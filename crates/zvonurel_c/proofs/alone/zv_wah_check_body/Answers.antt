@@ -10,4 +10,4 @@ use Rattle.zvonurel_c.proofs.alone.zv_wah_check_body.Goals as goal
 pub returns : goal.returns
 returns c =
     let a = c.args in
-    checks (meaning.check_body Wah a.rows a.body.now) c.checked.result (numbered.check-body Wah a.rows a.body.now) (c.checked.ensures ∙ ap checked_code c.check_body.ensures)
+    checks (meaning.check_body Wah a.rows a.body.now) c.from.result (numbered.check-body Wah a.rows a.body.now) (c.from.ensures ∙ ap checked_code c.check_body.ensures)

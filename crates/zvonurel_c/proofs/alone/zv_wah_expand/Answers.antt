@@ -9,4 +9,4 @@ use Rattle.zvonurel_c.proofs.alone.zv_wah_expand.Goals as goal
 pub returns : goal.returns
 returns c =
     let a = c.args in
-    writes (meaning.expand Wah a.rows a.body.now (length a.out.now)) c.expand.result c.written.result a.out.now c.expand.new.out (numbered.expand Wah a.rows a.body.now (length a.out.now)) c.written.ensures c.expand.ensures
+    writes (meaning.expand Wah a.rows a.body.now (length a.out.now)) c.expand.result c.from.result a.out.now c.expand.new.out (numbered.expand Wah a.rows a.body.now (length a.out.now)) c.from.ensures c.expand.ensures

@@ -11,5 +11,5 @@ pub returns : goal.returns
 returns c =
     let x = c.rewrite_bitmap in
     let a = c.args in
-    writes (rewriting.rewrite_bitmap a.index.now a.k Wah (length a.out.now)) x.result c.written.result a.out.now x.new.out
-    (numbered.rewrite-bitmap a.index.now a.k Wah (length a.out.now)) c.written.ensures x.ensures
+    writes (rewriting.rewrite_bitmap a.index.now a.k Wah (length a.out.now)) x.result c.from.result a.out.now x.new.out
+    (numbered.rewrite-bitmap a.index.now a.k Wah (length a.out.now)) c.from.ensures x.ensures

@@ -11,5 +11,5 @@ pub returns : goal.returns
 returns c =
     let x = c.rewrite in
     let a = c.args in
-    writes (rewriting.rewrite Wah Wah a.rows a.body.now (length a.out.now)) x.result c.written.result a.out.now x.new.out
-    (numbered.rewrite Wah Wah a.rows a.body.now (length a.out.now)) c.written.ensures x.ensures
+    writes (rewriting.rewrite Wah Wah a.rows a.body.now (length a.out.now)) x.result c.from.result a.out.now x.new.out
+    (numbered.rewrite Wah Wah a.rows a.body.now (length a.out.now)) c.from.ensures x.ensures

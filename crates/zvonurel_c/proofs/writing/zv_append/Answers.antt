@@ -19,5 +19,5 @@ pub returns-clause-writes : goal.returns-clause-writes
 returns-clause-writes c =
     let a = c.args in
     let b = batch_of a.rows a.plain.now in
-    writes-some (batches.append a.state.now a.out.now b) c.append.result c.written.result a.out.now c.append.new.out
-    (λ n k w e. not-zero n k w (subst BatchNumbered e (append-laws.numbered a.state.now a.out.now b))) c.written.ensures c.append.ensures.wrote
+    writes-some (batches.append a.state.now a.out.now b) c.append.result c.from.result a.out.now c.append.new.out
+    (λ n k w e. not-zero n k w (subst BatchNumbered e (append-laws.numbered a.state.now a.out.now b))) c.from.ensures c.append.ensures.wrote
