@@ -33,9 +33,9 @@ use Rattle.appending.specs.Stepping.{behind, FoundIs, Stepped}
 -- ---- 12: the writer found again
 
 -- a body that the check refuses is not in canonical form
-pub faulty : (R : ℕ) (b : List ℕ) {r : Refusal} → ewah_fault 0 0 R b ≡ refused_by r → Canonical Ewah R b → ⊥
-faulty R b e c =
-    refused-not-sound e (subst (λ (w : List ℕ). Sound Ewah R w) (sym c) (canonical-body Ewah R (rows_of Ewah b)).is_sound)
+pub faulty : (R : ℕ) (b : List ℕ) (r : Refusal) → ewah_fault 0 0 R b ≡ refused_by r → Canonical Ewah R b → ⊥
+faulty R b r e c =
+    refused-not-sound r e (subst (λ (w : List ℕ). Sound Ewah R w) (sym c) (canonical-body Ewah R (rows_of Ewah b)).is_sound)
 
 -- a word that is stored past the first n is in neither list
 take-set : (n : ℕ) (l : List ℕ) (i x : ℕ) → take n (set l i x) ≡ set (take n l) i x
@@ -76,7 +76,7 @@ module _ (R : ℕ) (p : ℕ → Bool) (b : Batch) (room : ℕ) where
 
 -- ---- the step: the answer was told, and the buffer is `out'`
 
-module _ (s : AppendState) (b : Batch) {out : List ℕ} {r : Written} {out' : List ℕ} (w : Wrote (append s out b) r out out') where
+module _ (s : AppendState) (b : Batch) {out : List ℕ} {r : Result ℕ Refusal} {out' : List ℕ} (w : Wrote (append s out b) r out out') where
   module _ (z : Result ℕ Refusal) (e : r ≡ z) where
     told_is : Wrote (append s out b) z out out'
     told_is = subst (λ (v : Result ℕ Refusal). Wrote (append s out b) v out out') e w
@@ -85,25 +85,25 @@ module _ (s : AppendState) (b : Batch) {out : List ℕ} {r : Written} {out' : Li
     state-is = ap (λ (o : Outcome (List ℕ)). state_after o s b.rows) told_is.told
 
   -- all rows together are within the limit
-  pub few-rows : (n : ℕ) → r ≡ Words n → s.rows + b.rows ≤ most_rows
+  pub few-rows : (n : ℕ) → r ≡ Ok n → s.rows + b.rows ≤ most_rows
   unfolding written_of
-  few-rows n e = (taken-batch s out b (take n out') (sym (told_is (Words n) e).told)).few
+  few-rows n e = (taken-batch s out b (take n out') (sym (told_is (Ok n) e).told)).few
 
   -- on a refusal the numbers are as they were
-  pub step-refused : (f : Refusal) → r ≡ Refused f → Stepped s out b (record { rows = s.rows; words = s.words; told = Refused f }) out'
+  pub step-refused : (f : Refusal) → r ≡ Err f → Stepped s out b (record { rows = s.rows; words = s.words; told = Err f }) out'
   unfolding state_after written_of
   step-refused f e = record {
-    wrote = told_is (Refused f) e;
-    rows_are = ap (λ (v : AppendState). v.rows) (state-is (Refused f) e);
-    words_are = ap (λ (v : AppendState). v.words) (state-is (Refused f) e);
+    wrote = told_is (Err f) e;
+    rows_are = ap (λ (v : AppendState). v.rows) (state-is (Err f) e);
+    words_are = ap (λ (v : AppendState). v.words) (state-is (Err f) e);
   }
 
-  pub step_words : (n : ℕ) → r ≡ Words n → Stepped s out b (record { rows = s.rows + b.rows; words = n; told = Words n }) out'
+  pub step_words : (n : ℕ) → r ≡ Ok n → Stepped s out b (record { rows = s.rows + b.rows; words = n; told = Ok n }) out'
   unfolding state_after written_of words_of words_reported
   step_words n e =
-      let t = told_is (Words n) e in
+      let t = told_is (Ok n) e in
       record {
         wrote = t;
-        rows_are = ap (λ (v : AppendState). v.rows) (state-is (Words n) e);
-        words_are = t.words ∙ sym (ap words_reported t.told) ∙ ap (λ (v : AppendState). v.words) (state-is (Words n) e);
+        rows_are = ap (λ (v : AppendState). v.rows) (state-is (Ok n) e);
+        words_are = t.words ∙ sym (ap words_reported t.told) ∙ ap (λ (v : AppendState). v.words) (state-is (Ok n) e);
       }

@@ -5,6 +5,7 @@
 ghost use Rattle.std.specs.Prelude.{◌≡◌, Bool, ℕ, ◌≤◌, length};
 ghost use Rattle.meaning.specs.Limits.{most_rows};
 ghost use Rattle.answers.specs.Told.{Wrote, refusal};
+ghost use Rattle.answers.specs.declared.refusal.Fault.TheVariants.{Mismatched};
 ghost use Rattle.batches.specs.Append as batches;
 ghost use Rattle.resume.specs.Resume.{PlaceOf, ResumedIs};
 ghost use Rattle.appending.specs.Stepping.{state_of, batch_of, behind, FoundIs, Stepped};

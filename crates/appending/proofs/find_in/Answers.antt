@@ -11,10 +11,10 @@ pub resume-requires : goal.resume-requires
 resume-requires c =
     let b = c.args.body.now in
     let R = c.args.rows in
-    (c.requires, (sound-means Ewah R b).0 (sound-is c.check.result (ewah_fault 0 0 R b) c.check.ensures c.in_ok-check.was))
+    (c.requires, (sound-means Ewah R b).0 (sound-is c.check-checked.result (ewah_fault 0 0 R b) c.check-checked.ensures c.in-Ok.is))
 
-pub returns-in_err-check : goal.returns-in_err-check
-returns-in_err-check c =
+pub returns-in-Err : goal.returns-in-Err
+returns-in-Err c =
     let a = c.args in
-    faulty a.rows a.body.now
-    (refused-is c.check.result (ewah_fault 0 0 a.rows a.body.now) c.check.ensures _ c.in_err-check.was)
+    faulty a.rows a.body.now _
+    (refused-is c.check-checked.result (ewah_fault 0 0 a.rows a.body.now) c.check-checked.ensures _ c.in-Err.is)

@@ -24,12 +24,12 @@ module _ (x : After-answer_batch-told) where
 
 pub overflow_add-all : goal.overflow_add-all
 overflow_add-all c =
-    record { fits = omega (arith, few-rows (state c.before.before.before.before) (batch c.before.before.before.before) c.answer_batch-told.ensures _ c.in-Words.is) }
+    record { fits = omega (arith, few-rows (state c.before.before.before.before) (batch c.before.before.before.before) c.answer_batch-told.ensures _ c.in-Ok.is) }
 
-pub returns-in-Refused : goal.returns-in-Refused
-returns-in-Refused c =
-    step-refused (state c.before.before.before.before) (batch c.before.before.before.before) c.answer_batch-told.ensures _ c.in-Refused.is
+pub returns-in-Err : goal.returns-in-Err
+returns-in-Err c =
+    step-refused (state c.before.before.before.before) (batch c.before.before.before.before) c.answer_batch-told.ensures _ c.in-Err.is
 
-pub returns-in-Words : goal.returns-in-Words
-returns-in-Words c =
-    step_words (state c.before.before.before.before) (batch c.before.before.before.before) c.answer_batch-told.ensures _ c.in-Words.is
+pub returns-in-Ok : goal.returns-in-Ok
+returns-in-Ok c =
+    step_words (state c.before.before.before.before) (batch c.before.before.before.before) c.answer_batch-told.ensures _ c.in-Ok.is
