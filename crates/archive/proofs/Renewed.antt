@@ -22,7 +22,8 @@ use Rattle.laws.proofs.IndexSound.{index-means}
 use Rattle.laws.proofs.NewIndexes.{most_body_words, count-is, next_place, last-place, place-low, length-low, is-new as new-index}
 use Rattle.laws.proofs.Rewritten.{sets-length}
 use Rattle.answers.specs.declared.refusal.Refusal.{Refusal}
-use Rattle.answers.specs.declared.answer.Written.TheVariants as written
+use Rattle.answers.specs.declared.refusal.Fault.TheVariants.{NoRoom}
+use Rattle.std.specs.Prelude.{Ok, Err}
 use Rattle.answers.specs.Told.{refusal, Wrote}
 use Rattle.answers.proofs.Tells.{wrote_none, wrote-words}
 use Rattle.row_write.specs.Packing.{Rewritten}
@@ -137,13 +138,13 @@ module _ (index : List ℕ) (G : Format) (old measured : List ℕ) (same : measu
   abbrev writing : Outcome (List ℕ)
   writing = write_index G (row_count index) (sets_from index 0 (bitmap_count index)) (length old)
 
-  pub wrote-no-room : index_room (length measured) < need → (r : Refusal) → r ≡ refusal 9 need
-      → Wrote writing (written.Refused r) old measured
+  pub wrote-no-room : index_room (length measured) < need → (r : Refusal) → r ≡ refusal NoRoom need
+      → Wrote writing (Err r) old measured
   unfolding write_index
   wrote-no-room h r e = rw (e, same) (wrote_none old (anew index G) need is (omega (arith, h, ap (λ (l : List ℕ). index_room (length l)) same)))
 
   pub wrote-anew : need ≤ index_room (length measured) → (out : List ℕ) → out ≡ anew index G ++ drop (length (anew index G)) measured
-      → Wrote writing (written.Words need) old out
+      → Wrote writing (Ok need) old out
   unfolding write_index
   wrote-anew h out e =
       wrote-words old (anew index G) need is out (omega (arith, h, ap (λ (l : List ℕ). index_room (length l)) same))

@@ -13,7 +13,7 @@ ghost use Rattle.row_write.specs.Packing.{Rewritten};
 ghost use Rattle.archive.specs.Anew.{anew, BodyAdded};
 
 use answers::answer;
-use answers::answer::Written;
+use answers::refusal::Refusal;
 use meaning::Format;
 
 // The body of bitmap k in canonical form of the format `to`: written to the front of `out` where `store` says so, else
@@ -82,9 +82,9 @@ fn write(index: &[u32], to: Format, out: &mut [u32])
     }
 }
 
-// All bitmaps, in their order, as a new index with bodies of the format `to`; 9 where it does not fit, or would be longer than an
+// All bitmaps, in their order, as a new index with bodies of the format `to`, unless it does not fit, or would be longer than an
 // index may be.
-pub fn rewrite(index: &[u32], to: Format, out: &mut [u32]) -> Written
+pub fn rewrite(index: &[u32], to: Format, out: &mut [u32]) -> Result<usize, Refusal>
     requires { IndexFacts index.now }
     ensures { Wrote (write_index to (row_count index.now)
         (sets_from index.now 0 (bitmap_count index.now)) (length out.old))
@@ -92,8 +92,8 @@ pub fn rewrite(index: &[u32], to: Format, out: &mut [u32]) -> Written
 {
     let need = measure(index, to, out);
     if contents::room(out.len()) < need {
-        return Written::Refused(answer::no_room(need as u64));
+        return Err(answer::no_room(need as u64));
     }
     write(index, to, out);
-    Written::Words(need)
+    Ok(need)
 }

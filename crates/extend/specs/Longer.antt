@@ -1,11 +1,11 @@
--- A body that is made longer by a batch of plain words: its rows, whether it fits, and what is told of it. Request 9.
+-- A body that is made longer by a batch of plain words: its rows, whether it fits, and what is told of it.
 -- Assumes nothing.
-use Rattle.std.specs.Prelude.{ℕ, ◌+◌, ◌%◌, ◌≤◌, Bool, ◌≡◌, List, length, take, drop}
+use Rattle.std.specs.Prelude.{ℕ, ◌+◌, ◌%◌, ◌≤◌, Bool, ◌≡◌, List, length, take, drop, Result}
 use Rattle.meaning.specs.Segment.{has_row}
 use Rattle.meaning.specs.Format.{canonical}
 use Rattle.meaning.specs.declared.Format.TheVariants.{Ewah}
 use Rattle.meaning.specs.Answer.{write}
-use Rattle.answers.specs.declared.answer.Written.{Written}
+use Rattle.answers.specs.declared.refusal.Refusal.{Refusal}
 use Rattle.answers.specs.Told.{Wrote}
 use Rattle.ewah_write.specs.declared.writer.Writer.{Writer}
 use Rattle.row_write.specs.declared.output.Output.{Output}
@@ -23,7 +23,7 @@ abbrev pub Fits : (R : ℕ) → (q : ℕ → Bool) → (k : ℕ) → (plain out 
 Fits R q k plain out = length (canonical Ewah (R + k) (longer R q plain)) ≤ length out
 
 -- r tells of this body, and of the buffer from `out` to `out'`, what a call that writes it does
-abbrev pub WroteLonger : (R : ℕ) → (q : ℕ → Bool) → (k : ℕ) → (plain : List ℕ) → Written → (out out' : List ℕ) → Type 0
+abbrev pub WroteLonger : (R : ℕ) → (q : ℕ → Bool) → (k : ℕ) → (plain : List ℕ) → Result ℕ Refusal → (out out' : List ℕ) → Type 0
 WroteLonger R q k plain r out out' = Wrote (write Ewah (R + k) (longer R q plain) (length out)) r out out'
 
 -- the output o has the writer and the rows of the place p, behind R rows

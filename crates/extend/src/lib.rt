@@ -14,7 +14,7 @@ ghost use Rattle.resume.specs.Resume.{PlaceOf};
 ghost use Rattle.extend.specs.Longer.{Fits, WroteLonger, Reopened, BatchNext, MarkerStored};
 
 use answers::answer;
-use answers::answer::Written;
+use answers::refusal::Refusal;
 use body_write::bound;
 use ewah::cursor::Piece;
 use ewah::marker;
@@ -72,30 +72,36 @@ fn restore(out: &mut [u32], w: Writer)
 }
 
 // The longer body's words, into a buffer with room for them; the words behind stay.
-fn write(out: &mut [u32], p: Place, before: u32, plain: &[u32], rows: u32) -> Written
+fn write(out: &mut [u32], p: Place, before: u32, plain: &[u32], rows: u32) -> usize
     requires plain_rows { PlainRows rows plain.now × (before + rows ≤ most_rows) }
     requires by_index { (q : ℕ → Bool) × PlaceOf before q out.old p × Fits before q rows plain.now out.old }
     ensures { (q : ℕ → Bool) → PlaceOf before q out.old p
         → Fits before q rows plain.now out.old
-        → WroteLonger before q rows plain.now result out.old out.new }
+        → WroteLonger before q rows plain.now (Ok result) out.old out.new }
 {
     restore(out, p.writer);
-    Written::Words(feed(out, reopen(p, before), plain, rows, true))
+    feed(out, reopen(p, before), plain, rows, true)
 }
 
-// The body of the rows so far and the batch's; 9 where it does not fit.
-pub fn extend(out: &mut [u32], p: Place, before: u32, plain: &[u32], rows: u32) -> Written
+// The body of the rows so far and the batch's, unless it does not fit.
+pub fn extend(
+    out: &mut [u32],
+    p: Place,
+    before: u32,
+    plain: &[u32],
+    rows: u32,
+) -> Result<usize, Refusal>
     requires plain_rows { PlainRows rows plain.now × (before + rows ≤ most_rows) }
     requires by_index { (q : ℕ → Bool) × PlaceOf before q out.old p }
     ensures { (q : ℕ → Bool) → PlaceOf before q out.old p
         → WroteLonger before q rows plain.now result out.old out.new }
 {
     if bound::most_words(Format::Ewah, before + rows) <= out.len() {
-        return write(out, p, before, plain, rows);
+        return Ok(write(out, p, before, plain, rows));
     }
     let need = feed(out, reopen(p, before), plain, rows, false);
     if out.len() < need {
-        return Written::Refused(answer::no_room(need as u64));
+        return Err(answer::no_room(need as u64));
     }
-    write(out, p, before, plain, rows)
+    Ok(write(out, p, before, plain, rows))
 }

@@ -1,4 +1,4 @@
--- A body's writer found again: what it stands for. Request 9.
+-- A body's writer found again: what it stands for.
 -- Assumes nothing.
 use Rattle.std.specs.Prelude.{ℕ, ◌+◌, ◌-◌, ◌*◌, ◌/◌, ◌%◌, ◌≤◌, ◌<◌, Bool, true, ◌≡◌, length, get_or, take, drop, set}
 use mathlib.Core.List.{List, map, foldl}

@@ -1,4 +1,4 @@
--- What a walk over an EWAH body tests at each marker, to know whether the body is in canonical form. Request 9.
+-- What a walk over an EWAH body tests at each marker, to know whether the body is in canonical form.
 -- Assumes nothing.
 use Rattle.std.specs.Prelude.{ℕ, Bool, cond, not, ◌&&◌, eqb, ltb}
 use Rattle.meaning.specs.Limits.{most_clean, most_dirty}

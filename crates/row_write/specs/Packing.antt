@@ -1,5 +1,4 @@
 -- Rows that go through a packer to the writer of a body: how far they are, what each step does, and what comes out.
--- Request 4.
 -- Assumes nothing.
 use Rattle.std.specs.Prelude.{ℕ, ◌+◌, ◌*◌, ◌^◌, ◌≤◌, ◌<◌, Bool, true, false, ◌≡◌, List, ◌++◌, length, drop}
 use Rattle.meaning.specs.Format.{width, canonical}

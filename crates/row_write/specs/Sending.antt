@@ -1,5 +1,4 @@
 -- A canonical body whose segments go to the writer one after the other, stored or only measured: how far it is.
--- Request 4.
 -- Assumes nothing.
 use Rattle.std.specs.Prelude.{ℕ, ◌≤◌, Bool, true, ◌≡◌, List, length}
 use Rattle.meaning.specs.Limits.{most_rows}

@@ -1,9 +1,10 @@
--- `extend::extend` meets its contract: what surely fits is written, and else it is measured; 9 by `write_kept`.
+-- `extend::extend` meets its contract: what surely fits is written, and else it is measured; where it does not fit by `write_kept`.
 -- Assumes nothing.
 use Prim.Native.Nat.{ℕ, ◌+◌}
 use mathlib.Core.Bool.{Bool, false}
 use mathlib.Core.Path.{◌≡◌, refl, sym, subst}
 use mathlib.Core.List.{List}
+use Rattle.std.specs.Prelude.{Ok}
 use native.Mathlib.Omega.{arith}
 use Rattle.meaning.specs.declared.Format.TheVariants.{Ewah}
 use Rattle.answers.proofs.Tells.{write_kept, write_mid}
@@ -86,4 +87,4 @@ returns c q at =
     let a = c.args in
     let x = c.write-2 in
     write_mid Ewah (a.before + a.rows) (longer a.before q a.plain.now) a.out.now c.feed-need.new.out
-    x.result x.new.out (kept c.before.before.before.before.before.before.before.before) (x.ensures q (place_kept c.before.before.before.before.before.before.before.before q at) (fits c.before.before.before.before.before q at))
+    (Ok x.result) x.new.out (kept c.before.before.before.before.before.before.before.before) (x.ensures q (place_kept c.before.before.before.before.before.before.before.before q at) (fits c.before.before.before.before.before q at))
