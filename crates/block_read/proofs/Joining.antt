@@ -79,12 +79,6 @@ even-taken F b c n x v r h e l go = record {
 -- ---- span after span
 
 module _ {F : Format} {b : List ℕ} {c₀ : Cursor} where
-  pub taken_none : (x : List ℕ) → InOrder F b c₀ → (left_of c₀.piece ≡ 0 → pieces_from F b c₀ ≡ []) → SpanTaken F b c₀ 0 x c₀
-  taken_none x k z = record {
-    goes = record { in_order = k; on = λ o a. let e : o + 0 ≡ o = omega arith in rw e a; at-end = z };
-    words = λ o a i l. absurd (omega arith);
-  }
-
   -- the next span is at least one segment
   pub span-here : {done n : ℕ} {x : List ℕ} {c : Cursor} → SpanTaken F b c₀ done x c → HasAhead F b c₀ n → done < n → 1 ≤ span_of c
   span-here {done = done} {c = c} p h l = span-some F b (h.0 + done) c (p.goes.on h.0 h.1) p.goes.at-end (omega (arith, h.2))

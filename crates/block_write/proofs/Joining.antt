@@ -62,9 +62,6 @@ module _ {out xs : List ℕ} {w r : Writer} (j : Joining out xs w r) where
       go blank t = absurd (omega (arith, t.same.2, j.some, j.few))
       go (draft done v c ds) t = omega (arith, t.same.0, t.same.1)
 
-  pub marker-fits : w.at < length out
-  marker-fits = omega (arith, at_low, words-fit)
-
   -- after both stores: the segments' words, pasted, and the word m of the marker that counts them
   pub pushed-many : (m : ℕ) → m ≡ marker r.last.value r.last.clean r.last.dirty
       → Pushed out (set (paste out w.used xs (length xs)) w.at m) w (map mixed xs) r

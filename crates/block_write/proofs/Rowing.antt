@@ -1,24 +1,28 @@
 -- The words of a row one after the other: the segments of the first i of them, and what room they take.
 -- Assumes nothing.
-use Prim.Native.Nat.{ℕ, ◌+◌, ◌-◌, ◌^◌, ◌≤◌, ◌<◌}
-use mathlib.Core.Bool.{Bool, true, false}
-use mathlib.Core.Path.{◌≡◌, refl, sym, ap, ◌∙◌, subst}
+use Prim.Native.Nat.{ℕ, suc, ◌+◌, ◌≤◌, ◌<◌}
+use mathlib.Core.Bool.{Bool, true, false, not}
+use mathlib.Core.Path.{◌≡◌, refl, sym, ap, ap₂, ◌∙◌, subst}
 use mathlib.Core.List.{List, [], ◌∷◌, ◌++◌, map}
 use native.Mathlib.Decide.{ℕ_discrete}
 use native.Mathlib.Omega.{arith}
 use native.Mathlib.Numerals.{add-one}
 use lib.ListN.{length, take, drop, get_or, replicate, take-append-drop, length-append, length-map}
 use lib.Seq.{take-suc, take_all, length-take-le}
-use Rattle.meaning.specs.Segment.{Segment, mixed, kind, all_set}
+use borrow.Author.Tests.{ne_eqb}
+use lib.Dec.{eqb}
+use mir.Val.{bool_byte}
+use Rattle.meaning.specs.Segment.{Segment, clean, mixed, kind, all_set}
 use Rattle.meaning.specs.Format.{width}
 use Rattle.meaning.specs.declared.Format.{Format}
 use Rattle.meaning.specs.declared.Format.TheVariants.{Ewah}
-use Rattle.laws.proofs.Segments.{map-append}
+use Rattle.laws.proofs.Formats.{width-pos}
+use Rattle.laws.proofs.Segments.{map-append, kind-mixed, kind-full}
 use Rattle.ewah_write.specs.declared.writer.Writer.{Writer}
 use Rattle.body_write.specs.Bodies.{Growing, RoomFor, Grown, Emitted}
 use Rattle.body_write.proofs.Joined.{still-growing, room-first, room-rest}
-use Rattle.body_write.proofs.Emitting.{emitted-none, emitted-more}
-use Rattle.block_write.specs.Rowed.{row_segments}
+use Rattle.body_write.proofs.Emitting.{emitted-more}
+use Rattle.block_write.specs.Rowed.{row_segments, CleanWord}
 
 -- ---- the first i words
 
@@ -31,11 +35,6 @@ first_more f xs i h =
 
 pub first-all : (f : ℕ → Segment) (xs : List ℕ) (i : ℕ) → length xs ≤ i → map f (take i xs) ≡ map f xs
 first-all f xs i h = ap (map f) (take_all i xs h)
-
--- two readings of the words that agree on the first i, and on the next one
-pub agree-more : (f g : ℕ → Segment) (xs : List ℕ) (i : ℕ) → i < length xs → f (get_or xs i 0) ≡ g (get_or xs i 0)
-    → map f (take i xs) ≡ map g (take i xs) → map f (take (i + 1) xs) ≡ map g (take (i + 1) xs)
-agree-more f g xs i h e p = rw (first_more f xs i h, first_more g xs i h, e, p)
 
 module _ (F : Format) (xs : List ℕ) (i : ℕ) (h : i < length xs) where
   -- how a word is read, the segments of the first words, and the next one
@@ -58,11 +57,6 @@ module _ (F : Format) (xs : List ℕ) (i : ℕ) (h : i < length xs) where
       ∙ map-append read (take (i + 1) xs) (drop (i + 1) xs)
       ∙ ap (λ (l : List Segment). l ++ map read (drop (i + 1) xs)) (first_more read xs i h)
 
-  -- where a body has room for all segments, it has for one more
-  pub growing-next : {w v : Writer} → Growing F w (length xs) → Grown F w (map (kind (width F)) (take i xs)) v
-      → Growing F v 1
-  growing-next p g = still-growing first 1 (p.0, p.1, omega (arith, p.2, first-length)) g
-
   -- room for all is room for the next one
   pub room_next : {w v : Writer} {n : ℕ} → RoomFor F (map (kind (width F)) xs) w n
       → Grown F w (map (kind (width F)) (take i xs)) v → RoomFor F (kind (width F) (get_or xs i 0) ∷ []) v n
@@ -80,45 +74,33 @@ module _ (F : Format) (xs : List ℕ) (i : ℕ) (h : i < length xs) where
       let few = length-append first next in
       rw (first_more read xs i h) (emitted-more first next (p.0, p.1, omega (arith, p.2, few, first-length)) f g)
 
--- ---- one by one
+-- after all but the last the last one
+pub emitted-last : (F : Format) (xs : List ℕ) (i : ℕ) → length xs ≡ i + 1 → {real : ℕ} {out mid out' : List ℕ} {w v r : Writer} {store : Bool}
+    → Growing F w (length xs) → Emitted F (width F) out mid w (map (kind (width F)) (take i xs)) store v
+    → Emitted F real mid out' v (kind (width F) (get_or xs i 0) ∷ []) store r
+    → Emitted F real out out' w (map (kind (width F)) xs) store r
+emitted-last F xs i n p f g = rw (first-all (kind (width F)) xs (i + 1) (omega arith)) at (emitted-next F xs i (omega arith) p f g)
 
--- the first i words are emitted, the last of all with the rows of the mask, and those before it with all of theirs
-abbrev pub EmittedTo : (F : Format) (words : List ℕ) (mask : ℕ) (store : Bool) (old : List ℕ) (w : Writer)
-    (out : List ℕ) (v : Writer) (i : ℕ) → Type 0
-EmittedTo F words mask store old w out v i =
-    (real : ℕ) → (i < length words → real ≡ width F) → (length words ≤ i → mask ≡ 2 ^ real - 1)
-    → Emitted F real old out w (map (kind (width F)) (take i words)) store v
+-- ---- words by their kind
 
-module _ (F : Format) (words : List ℕ) (mask : ℕ) (store : Bool) (old : List ℕ) (w : Writer) where
-  pub each_none : 1 ≤ length words → EmittedTo F words mask store old w old w 0
-  each_none some real whole last =
-      subst (λ (k : ℕ). Emitted F k old old w [] store w) (sym (whole (omega arith))) (emitted-none F old w store)
+-- the value of a word of a clean segment
+pub value-of : (x v : ℕ) → v ≡ bool_byte (not (eqb x 0)) → (v < 2) × ((F : Format) → CleanWord F x → kind (width F) x ≡ clean v)
+unfolding kind
+value-of x v e = elim (ℕ_discrete x 0) [
+  | yes z ↦ let is : v ≡ 0 = rw z at e in rw (z, is) (omega arith, λ F h. refl)
+  | no z ↦
+      let is : v ≡ 1 = rw (ne_eqb x 0 z) at e in
+      rw is (omega arith, λ F h. ap (kind (width F)) (h z) ∙ kind-full (width F) (width-pos F))
+]
 
-  module _ (out : List ℕ) (v : Writer) (i : ℕ) (h : i < length words)
-      (g : EmittedTo F words mask store old w out v i) where
-    by_whole : Emitted F (width F) old out w (map (kind (width F)) (take i words)) store v
-    by_whole = g (width F) (λ l. refl) (λ l. absurd (omega arith))
-
-    pub each-growing : Growing F w (length words) → Growing F v 1
-    each-growing p = growing-next F words i h p by_whole.grown
-
-    pub each-room : {n : ℕ} → RoomFor F (map (kind (width F)) words) w n
-        → RoomFor F (kind (width F) (get_or words i 0) ∷ []) v n
-    each-room p = room_next F words i h p by_whole.grown
-
-    -- the next one, of which `own` has the rows
-    pub each_more : {out' : List ℕ} {r : Writer} (own : ℕ) → Growing F w (length words)
-        → (i + 1 ≡ length words → own ≡ mask) × ((i + 1 ≡ length words → ⊥) → own ≡ all_set (width F))
-        → ((real : ℕ) → own ≡ 2 ^ real - 1
-        → Emitted F real out out' v (kind (width F) (get_or words i 0) ∷ []) store r)
-        → EmittedTo F words mask store old w out' r (i + 1)
-    each_more own p rows emit real whole last = emitted-next F words i h p by_whole (emit real rows_are)
-      where
-        rows_are : own ≡ 2 ^ real - 1
-        rows_are = elim (ℕ_discrete (i + 1) (length words)) [
-          | yes e ↦ rows.0 e ∙ last (omega arith)
-          | no e ↦ rows.1 e ∙ unfold all_set in ap (λ (k : ℕ). 2 ^ k - 1) (sym (whole (omega arith)))
-        ]
+-- words that are neither all zeros nor all ones are mixed
+pub all-mixed : (xs : List ℕ) → ((k : ℕ) → k < length xs → (get_or xs k 0 ≡ 0 → ⊥) × (get_or xs k 0 ≡ 4294967295 → ⊥))
+    → map (kind 32) xs ≡ map mixed xs
+unfolding all_set
+all-mixed [] h = refl
+all-mixed (x ∷ xs) h =
+    let here = h 0 (omega arith) in
+    ap₂ (λ (s : Segment) (l : List Segment). s ∷ l) (kind-mixed 32 x here.0 here.1) (all-mixed xs (λ k l. h (suc k) (omega arith)))
 
 -- ---- the segments of a row
 

@@ -7,6 +7,10 @@ use Rattle.meaning.specs.declared.Format.{Format}
 use Rattle.ewah_write.specs.declared.writer.Writer.{Writer}
 use Rattle.ewah_write.specs.Drafts.{Grown}
 
+-- the words that a row of n segments has: one where all are alike
+abbrev pub row_length : (n : ℕ) (even : Bool) → ℕ
+row_length n even = cond even 1 n
+
 -- the segments of a row of words; where all n segments are alike, of its first word
 unfoldable pub row_segments : Format → (words : List ℕ) (n : ℕ) (even : Bool) → List Segment
 row_segments F words n even = cond even (replicate n (kind (width F) (get_or words 0 0))) (map (kind (width F)) words)

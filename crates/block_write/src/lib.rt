@@ -12,7 +12,7 @@ ghost use Rattle.meaning.specs.declared.Format.{Format};
 ghost use Rattle.meaning.specs.declared.Format.TheVariants.{Ewah};
 ghost use Rattle.ewah_write.specs.Drafts as ewah;
 ghost use Rattle.body_write.specs.Bodies.{Growing, RoomFor, Emitted};
-ghost use Rattle.block_write.specs.Rowed.{row_segments, CleanWord, Joined};
+ghost use Rattle.block_write.specs.Rowed.{row_length, row_segments, CleanWord, Joined};
 
 use body_write::writer;
 use ewah::marker;
@@ -21,14 +21,18 @@ use ewah_write::writer::Writer;
 use meaning::{Format, MOST_DIRTY};
 use words::rows;
 
+// The words that a row of n segments has: one where all are alike.
+pub fn row_length(n: u32, even: bool) -> usize
+    ensures { result ≡ row_length n even }
+{
+    if even { 1 } else { n as usize }
+}
+
 // The value of the clean segments whose word is x.
 fn clean_value(x: u32) -> u32
     ensures { (result < 2) × ((F : Format) → CleanWord F x → kind (width F) x ≡ clean result) }
 {
-    if x == 0 {
-        return 0;
-    }
-    1
+    u32::from(x != 0)
 }
 
 // n clean segments, all of the word x; the mask has the rows of the last.
@@ -55,18 +59,7 @@ fn emit_even(
 fn all_mixed(words: &[u32]) -> bool
     ensures { result ≡ true → map (kind 32) words.now ≡ map mixed words.now }
 {
-    let mut i: usize = 0;
-    while i < words.len() {
-        let x = words[i];
-        if x == 0 {
-            return false;
-        }
-        if x == 0xFFFF_FFFF {
-            return false;
-        }
-        i += 1;
-    }
-    true
+    words.iter().all(|x| *x != 0 && *x != 0xFFFF_FFFF)
 }
 
 // Whether the last EWAH marker has room for the words. A body with no word yet counts as having a full one.
@@ -97,19 +90,6 @@ fn joins(format: Format, w: Writer, words: &[u32]) -> bool
     }
 }
 
-// The words go to `out` from `at` on.
-fn copy_at(out: &mut [u32], at: usize, words: &[u32])
-    requires { at + length words.now ≤ length out.old }
-    ensures { out.new
-        ≡ paste out.old at words.now (length words.now) }
-{
-    let mut i: usize = 0;
-    while i < words.len() {
-        out[at + i] = words[i];
-        i += 1;
-    }
-}
-
 // m mixed segments more under the last marker, which has room for them.
 fn grow_words(w: Writer, m: u32) -> Writer
     requires { (1 ≤ m) × (w.last.dirty + m ≤ most_dirty) × (w.used < 2 ^ 62) }
@@ -118,12 +98,11 @@ fn grow_words(w: Writer, m: u32) -> Writer
     let last = w.last;
     Writer {
         used: w.used + m as usize,
-        at: w.at,
         last: Marker {
-            value: last.value,
-            clean: last.clean,
             dirty: last.dirty + m,
+            ..last
         },
+        ..w
     }
 }
 
@@ -136,7 +115,7 @@ fn push_words(out: &mut [u32], w: Writer, words: &[u32]) -> Writer
     let at = w.at;
     let used = w.used;
     let r = grow_words(w, words.len() as u32);
-    copy_at(&mut *out, used, words);
+    out[used..used + words.len()].copy_from_slice(words);
     out[at] = marker::word(r.last);
     r
 }
@@ -155,17 +134,6 @@ fn emit_mixed(out: &mut [u32], w: Writer, words: &[u32], store: bool) -> Writer
     grow_words(w, words.len() as u32)
 }
 
-// The rows of segment i of so many: those of the mask if it is the last, and else all.
-fn rows_of(format: Format, i: usize, count: usize, mask: u32) -> u32
-    requires { i < count }
-    ensures { (i + 1 ≡ count → result ≡ mask) × ((i + 1 ≡ count → ⊥) → result ≡ all_set (width format)) }
-{
-    if i + 1 == count {
-        return mask;
-    }
-    rows::full(format)
-}
-
 // Words of any segments, one by one; the mask has the rows of the last.
 fn emit_each(
     format: Format,
@@ -181,19 +149,19 @@ fn emit_each(
     ensures { (real : ℕ) → mask ≡ 2 ^ real - 1 → Emitted format real out.old out.new w
         (map (kind (width format)) words.now) store result }
 {
+    let full = rows::full(format);
+    let last = words.len() - 1;
+    let others = &words[..last];
     let mut v = w;
-    let mut i: usize = 0;
-    while i < words.len() {
-        let own = rows_of(format, i, words.len(), mask);
-        let r = writer::emit_segment(format, out, v, words[i], own, store);
+    for x in others {
+        let r = writer::emit_segment(format, out, v, *x, full, store);
         v = r;
-        i += 1;
     }
-    v
+    writer::emit_segment(format, out, v, words[last], mask, store)
 }
 
 // A row of n segments, one by one or as a run, is written where `store` says so, and else only measured; the mask has the
-// rows of the last. For a body by itself: it leaves the quicker `emit_row` to those who write many, who alone call it.
+// rows of the last. For a body by itself: `emit_row` is quicker for those who write many.
 pub fn emit_apart(
     format: Format,
     out: &mut [u32],
@@ -218,7 +186,7 @@ pub fn emit_apart(
     emit_each(format, out, w, words, mask, store)
 }
 
-// A row of n segments is written where `store` says so, and else only measured; the mask has the rows of the last.
+// `emit_apart`, but for mixed segments that the last marker has room for: these go to it all at once.
 pub fn emit_row(
     format: Format,
     out: &mut [u32],
@@ -237,11 +205,8 @@ pub fn emit_row(
     ensures { (real : ℕ) → mask ≡ 2 ^ real - 1 → Emitted format real out.old out.new w
         (row_segments format words.now n even) store result }
 {
-    if even {
-        return emit_even(format, out, w, words[0], n, mask, store);
-    }
-    if joins(format, w, words) {
+    if !even && joins(format, w, words) {
         return emit_mixed(out, w, words, store);
     }
-    emit_each(format, out, w, words, mask, store)
+    emit_apart(format, out, w, words, n, even, mask, store)
 }

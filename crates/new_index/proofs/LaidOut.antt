@@ -1,120 +1,35 @@
 -- The head, the contents and the bodies of a new index, written one behind the other.
 -- Assumes nothing.
 use Prim.Native.Nat.{ℕ, zero, suc, ◌+◌, ◌-◌, ◌*◌, ◌/◌, ◌%◌, ◌≤◌, ◌<◌}
-use mathlib.Core.Path.{◌≡◌, refl, sym, ap, ap₂, ◌∙◌, subst}
+use mathlib.Core.Path.{◌≡◌, sym, ap, ap₂, ◌∙◌, subst}
 use mathlib.Core.List.{List, [], ◌∷◌, ◌++◌, append_assoc, append-nil}
 use native.Mathlib.Decide.{dec_le}
 use native.Mathlib.Numerals.{add-one}
 use native.Mathlib.Omega.{arith}
 use lib.ListN.{length, get_or, take, drop, set, length-set, take-append-drop}
 use lib.Seq.{get_or-set_same, get_or-set_other, drop-set-lt, ext_get_or, get_or-take, take-add, take_all, length-take-le}
-use Rattle.meaning.specs.Limits.{most_segments, most_value_column, most_starts, head_words, entry_words}
+use Rattle.meaning.specs.Limits.{most_segments, most_starts, head_words, entry_words}
 use Rattle.meaning.specs.Format.{kind_of}
 use Rattle.meaning.specs.declared.Format.{Format}
 use Rattle.meaning.specs.Question.{total_words}
 use Rattle.meaning.specs.NewIndex.{entries_of, joined, contents_end, assembled}
 use Rattle.laws.proofs.NewIndexes.{entries-length, entries-start, entries-words, joined-more, total-more, length-is}
+use Rattle.ewah_write.specs.declared.writer.Writer.{Writer}
 use Rattle.new_index.specs.Writers.{writer_of, region}
 use Rattle.new_index.specs.Layouts.{Headed}
 
 -- ---- the starts
 
--- the first m bodies have their starts, and the next one starts at `at`
-pub record Starting (ns : List ℕ) (from : ℕ) (r : List ℕ) (at m : ℕ) : Type 0 where
+-- the first m bodies have their starts
+pub record Starting (ws : List Writer) (from : ℕ) (r : List ℕ) (m : ℕ) : Type 0 where
   pub long : length r ≡ most_starts
   pub first : get_or r 0 0 ≡ from
-  pub next : (i : ℕ) → i < m → get_or r (i + 1) 0 ≡ get_or r i 0 + (writer_of ns i).used
-  pub here : at ≡ get_or r m 0
-  pub low : at ≤ from + m * (2 * most_segments)
-
-pub starting-none : (ns r : List ℕ) (from : ℕ) → length r ≡ most_starts → Starting ns from (set r 0 from) from 0
-starting-none ns r from h =
-    let e : get_or (set r 0 from) 0 0 ≡ from = get_or-set_same r 0 from 0 (omega arith) in
-    record { long = length-set r 0 from ∙ h; first = e; next = λ i l. absurd (omega arith); here = sym e; low = omega arith }
-
-module _ (ns r : List ℕ) (from at m : ℕ) (h : m < most_value_column) (u : (writer_of ns m).used ≤ 2 * most_segments) (g : Starting ns from r at m) where
-  abbrev end : ℕ
-  end = at + (writer_of ns m).used
-
-  abbrev r' : List ℕ
-  r' = set r (m + 1) end
-
-  stays : (i : ℕ) → i ≤ m → get_or r' i 0 ≡ get_or r i 0
-  stays i l = get_or-set_other r (m + 1) i end 0 (omega arith)
-
-  put : get_or r' (m + 1) 0 ≡ end
-  put = get_or-set_same r (m + 1) end 0 (omega (arith, g.long))
-
-  next : (i : ℕ) → i < m + 1 → get_or r' (i + 1) 0 ≡ get_or r' i 0 + (writer_of ns i).used
-  next i l = elim (dec_le m i) [
-    | yes w ↦ let z : i ≡ m = omega arith in rw (z, put, stays m (omega arith)) (ap (λ (k : ℕ). k + (writer_of ns m).used) g.here)
-    | no w ↦ rw (stays (i + 1) (omega arith), stays i (omega arith)) (g.next i (omega arith))
-  ]
-
-  pub starting-more : Starting ns from r' end (m + 1)
-  starting-more = record {
-    long = length-set r (m + 1) end ∙ g.long;
-    first = stays 0 (omega arith) ∙ g.first;
-    next = next;
-    here = sym put;
-    low = omega (arith, g.low);
-  }
+  pub next : (i : ℕ) → i < m → get_or r (i + 1) 0 ≡ get_or r i 0 + (writer_of ws i).used
+  pub low : get_or r m 0 ≤ from + m * (2 * most_segments)
 
 -- ---- the head and the contents
 
 module _ (F : Format) (old : List ℕ) (rows : ℕ) (starts : List ℕ) (count : ℕ) (fits : head_words + entry_words * count ≤ length old) where
-  -- the head alone; c is the count, as a word, and k the word of the format
-  module _ (k c : ℕ) (f : k ≡ kind_of F) (e : c ≡ count) where
-    abbrev one : List ℕ
-    one = set old 0 k
-
-    abbrev two : List ℕ
-    two = set one 1 rows
-
-    abbrev headed : List ℕ
-    headed = set two 2 c
-
-    headed-none : Headed F old rows starts count headed 0
-    headed-none = record {
-      long = simp length-set;
-      kind = get_or-set_other two 2 0 c 0 (omega arith) ∙ get_or-set_other one 1 0 rows 0 (omega arith) ∙ get_or-set_same old 0 k 0 (omega arith) ∙ f;
-      rows_are = get_or-set_other two 2 1 c 0 (omega arith) ∙ get_or-set_same one 1 rows 0 (simp length-set (omega arith));
-      count-is = get_or-set_same two 2 c 0 (simp length-set (omega arith)) ∙ e;
-      entries = λ i l. absurd (omega arith);
-      behind = stays two 2 c (omega arith) ∙ stays one 1 rows (omega arith) ∙ stays old 0 k (omega arith);
-    }
-      where
-        stays : (l : List ℕ) (i x : ℕ) → i < 3 → drop (head_words + entry_words * count) (set l i x) ≡ drop (head_words + entry_words * count) l
-        stays l i x h = drop-set-lt (head_words + entry_words * count) l i x (omega arith)
-
-    -- its first word
-    pub headed-kind : get_or headed 0 0 ≡ kind_of F
-    headed-kind = headed-none.kind
-
-    -- what is written behind the head is counted from there on
-    pub headed-here : (G : Format) → get_or headed 0 0 ≡ kind_of G → Headed G headed rows starts count headed 0
-    headed-here G kind =
-        let g = headed-none in
-        record {
-          long = refl;
-          kind = kind;
-          rows_are = g.rows_are;
-          count-is = g.count-is;
-          entries = g.entries;
-          behind = refl;
-        }
-
-    pub headed-since : (out : List ℕ) (m : ℕ) → Headed F headed rows starts count out m
-        → Headed F old rows starts count out m
-    headed-since out m f = record {
-      long = f.long ∙ headed-none.long;
-      kind = f.kind;
-      rows_are = f.rows_are;
-      count-is = f.count-is;
-      entries = f.entries;
-      behind = f.behind ∙ headed-none.behind;
-    }
-
   -- one entry more
   module _ (out : List ℕ) (m a l : ℕ) (h : m < count) (ea : a ≡ get_or starts m 0) (el : l ≡ get_or starts (m + 1) 0 - get_or starts m 0)
       (g : Headed F old rows starts count out m) where

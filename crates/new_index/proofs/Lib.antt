@@ -1,4 +1,3 @@
-pub mod Numbers
 pub mod Regions
 pub mod RowParts
 pub mod LaidOut

@@ -3,62 +3,33 @@
 use Prim.Native.Nat.{ℕ, ◌+◌, ◌-◌, ◌^◌, ◌≤◌, ◌<◌}
 use mathlib.Core.Bool.{Bool}
 use mathlib.Core.Path.{◌≡◌, refl, sym, ap, ◌∙◌}
-use mathlib.Core.List.{List, ◌++◌, append_assoc}
-use lib.ListN.{length, get_or, take, drop, take-append-drop, length-append, length-drop}
-use lib.Seq.{take_at, drop_at, drop-drop, take-take, take-append-le, drop-append-le, length-take-le}
+use mathlib.Core.List.{List, [], ◌++◌}
+use borrow.Author.Rules.{rules}
+use borrow.Rule.Slice.PartMut.{put_mid}
+use lib.ListN.{length, get_or, take, drop, set, replicate, length-set, length-drop}
+use lib.Seq.{get_or-take, get_or-set_same, get_or-set_other, length-take-le}
+use Rattle.std.proofs.lemmas.List.{places, get_or-replicate, get_or_append_left}
+use Rattle.std.proofs.lemmas.Slice.{between_is, between-put_mid, take-put_mid_below, drop-put_mid}
 use native.Mathlib.Decide.{dec_le}
 use native.Mathlib.Omega.{arith}
+use Rattle.meaning.specs.Limits.{most_value_column}
 use Rattle.meaning.specs.Segment.{Segment}
 use Rattle.meaning.specs.declared.Format.{Format}
 use Rattle.ewah_write.specs.declared.writer.Writer.{Writer}
-use Rattle.body_write.specs.Bodies.{Emitted}
-use Rattle.new_index.specs.Writers.{writer_of, Stored, Laid, region, EmittedAll}
+use Rattle.body_write.specs.Bodies.{Stands, Emitted}
+use Rattle.new_index.specs.Writers.{writer_of, no_writer, Laid, region, EmittedAll}
 
--- ---- the elements from f to t are replaced
+-- ---- the writers at the start
 
-module _ (l : List ℕ) (f t : ℕ) (ys : List ℕ) (ft : f ≤ t) (tl : t ≤ length l) (n : length ys ≡ t - f) where
-  abbrev l' : List ℕ
-  l' = take f l ++ (ys ++ drop (t - f) (drop f l))
+pub all-alike : {F : Format} (w : Writer) → Stands F w [] → (i : ℕ) → i < most_value_column
+    → Stands F (writer_of (replicate most_value_column w) i) []
+all-alike w h i l = rw (get_or-replicate most_value_column i w no_writer l) h
 
-  front_length : length (take f l) ≡ f
-  front_length = length-take-le f l (omega arith)
+-- ---- a part that lies before the elements that were replaced
 
-  as-rest : drop (t - f) (drop f l) ≡ drop t l
-  as-rest = let k : f + (t - f) ≡ t = omega arith in drop-drop (t - f) f l ∙ ap (λ (j : ℕ). drop j l) k
-
-  new-length : length l' ≡ length l
-  new-length =
-      rw (length-append (take f l) (ys ++ drop (t - f) (drop f l)), length-append ys (drop (t - f) (drop f l)), as-rest)
-      (omega (arith, front_length, length-drop t l))
-
-  new-part : take (t - f) (drop f l') ≡ ys
-  new-part =
-      ap (λ (x : List ℕ). take (t - f) x) (drop_at (take f l) (ys ++ drop (t - f) (drop f l)) f front_length)
-      ∙ take_at ys (drop (t - f) (drop f l)) (t - f) n
-
-  take-before : (a : ℕ) → a ≤ f → take a l' ≡ take a l
-  take-before a h = take-append-le a (take f l) _ (omega (arith, front_length)) ∙ take-take a f l h
-
-  part-before : (a b : ℕ) → a ≤ b → b ≤ f → take (b - a) (drop a l') ≡ take (b - a) (drop a l)
-  part-before a b ab bf =
-      inside (ys ++ drop (t - f) (drop f l)) ∙ sym (inside (drop f l))
-      ∙ ap (λ (x : List ℕ). take (b - a) (drop a x)) (take-append-drop f l)
-    where
-      inside : (z : List ℕ) → take (b - a) (drop a (take f l ++ z)) ≡ take (b - a) (drop a (take f l))
-      inside z =
-          ap (λ (x : List ℕ). take (b - a) x) (drop-append-le a (take f l) z (omega (arith, front_length)))
-          ∙ take-append-le (b - a) (drop a (take f l)) z (omega (arith, front_length, length-drop a (take f l)))
-
-  drop-after : (a : ℕ) → t ≤ a → drop a l' ≡ drop a l
-  drop-after a h =
-      let k : t + (a - t) ≡ a = omega arith in
-      let g : length (take f l ++ ys) ≡ t = length-append (take f l) ys ∙ omega (arith, front_length) in
-      ap (drop a) (ap (λ (x : List ℕ). take f l ++ (ys ++ x)) as-rest ∙ sym (append_assoc (take f l) ys (drop t l)))
-      ∙ ap (λ (j : ℕ). drop j ((take f l ++ ys) ++ drop t l)) (sym k)
-      ∙ sym (drop-drop (a - t) t ((take f l ++ ys) ++ drop t l))
-      ∙ ap (drop (a - t)) (drop_at (take f l ++ ys) (drop t l) t g)
-      ∙ drop-drop (a - t) t l
-      ∙ ap (λ (j : ℕ). drop j l) k
+part-before : (l ys : List ℕ) (f k a b : ℕ) → f ≤ length l → b ≤ f → take (b - a) (drop a (put_mid f k l ys)) ≡ take (b - a) (drop a l)
+part-before l ys f k a b fl bf =
+    between_is (put_mid f k l ys) a b ∙ ap (drop a) (take-put_mid_below f k l ys b bf fl) ∙ sym (between_is l a b)
 
 -- ---- a push to each part in turn
 
@@ -71,34 +42,26 @@ region-length starts out count i laid h =
     (omega (arith, length-drop (get_or starts i 0) out, in_order, in_all, laid.within))
 
 -- of segments ss, of whose last one the mask has the rows
-module _ (F : Format) (mask : ℕ) (starts old nsₒ : List ℕ) (count : ℕ) (ss : ℕ → List Segment) (store : Bool) where
+module _ (F : Format) (mask : ℕ) (starts old : List ℕ) (wsₒ : List Writer) (count : ℕ) (ss : ℕ → List Segment) (store : Bool) where
   -- the first m bodies got theirs
-  pub record Going (out ns : List ℕ) (m : ℕ) : Type 0 where
+  pub record Going (out : List ℕ) (ws : List Writer) (m : ℕ) : Type 0 where
     pub long : length out ≡ length old
-    pub numbers-long : length ns ≡ length nsₒ
+    pub writers-long : length ws ≡ length wsₒ
     pub done : (real : ℕ) → mask ≡ 2 ^ real - 1 → (i : ℕ) → i < m
-        → Emitted F real (region starts old i) (region starts out i) (writer_of nsₒ i) (ss i) store (writer_of ns i)
-    pub ahead : (i : ℕ) → m ≤ i → writer_of ns i ≡ writer_of nsₒ i
+        → Emitted F real (region starts old i) (region starts out i) (writer_of wsₒ i) (ss i) store (writer_of ws i)
+    pub ahead : (i : ℕ) → m ≤ i → writer_of ws i ≡ writer_of wsₒ i
     pub same : (i : ℕ) → m ≤ i → i < count → region starts out i ≡ region starts old i
     pub front : take (get_or starts 0 0) out ≡ take (get_or starts 0 0) old
     pub back : drop (get_or starts count 0) out ≡ drop (get_or starts count 0) old
 
-  pub going-none : Going old nsₒ 0
-  going-none = record {
-    long = refl;
-    numbers-long = refl;
-    done = λ real e i h. absurd (omega arith);
-    ahead = λ i h. refl;
-    same = λ i h l. refl;
-    front = refl;
-    back = refl;
-  }
-
-  module _ (laid : Laid starts count (length old)) (out ns : List ℕ) (m : ℕ) (g : Going out ns m) where
+  module _ (laid : Laid starts count (length old)) (out : List ℕ) (ws : List Writer) (m : ℕ) (g : Going out ws m) where
     -- the next one's part became ys, and its writer v
     module _ (h : m < count) (ys : List ℕ) (v : Writer) (long' : length ys ≡ length (region starts out m))
-        (e : (real : ℕ) → mask ≡ 2 ^ real - 1 → Emitted F real (region starts out m) ys (writer_of ns m) (ss m) store v)
-        (ns' : List ℕ) (st : Stored ns m v ns') where
+        (e : (real : ℕ) → mask ≡ 2 ^ real - 1 → Emitted F real (region starts out m) ys (writer_of ws m) (ss m) store v)
+        (k : m < length ws) where
+      abbrev ws' : List Writer
+      ws' = set ws m v
+
       abbrev f : ℕ
       f = get_or starts m 0
 
@@ -106,7 +69,7 @@ module _ (F : Format) (mask : ℕ) (starts old nsₒ : List ℕ) (count : ℕ) (
       t = get_or starts (m + 1) 0
 
       abbrev out' : List ℕ
-      out' = take f out ++ (ys ++ drop (t - f) (drop f out))
+      out' = put_mid f (t - f) out ys
 
       ft : f ≤ t
       ft = laid.rising m (m + 1) (omega arith) (omega arith)
@@ -121,48 +84,67 @@ module _ (F : Format) (mask : ℕ) (starts old nsₒ : List ℕ) (count : ℕ) (
       elsewhere : (i : ℕ) → i < count → (i ≡ m → ⊥) → region starts out' i ≡ region starts out i
       elsewhere i l d = elim (dec_le i m) [
         | yes w ↦
-            part-before out f t ys ft tl n (get_or starts i 0) (get_or starts (i + 1) 0)
-            (laid.rising i (i + 1) (omega arith) (omega arith)) (laid.rising (i + 1) m (omega arith) (omega arith))
+            part-before out ys f (t - f) (get_or starts i 0) (get_or starts (i + 1) 0) (omega (arith, ft, tl))
+            (laid.rising (i + 1) m (omega arith) (omega arith))
         | no w ↦
             ap (λ (x : List ℕ). take (get_or starts (i + 1) 0 - get_or starts i 0) x)
-            (drop-after out f t ys ft tl n (get_or starts i 0) (laid.rising (m + 1) i (omega arith) (omega arith)))
+            (drop-put_mid f (t - f) out ys (get_or starts i 0)
+            (omega (arith, ft, laid.rising (m + 1) i (omega arith) (omega arith))) (omega (arith, ft, tl)) n)
       ]
 
       module _ (real : ℕ) (rows : mask ≡ 2 ^ real - 1) where
-        here : Emitted F real (region starts old m) (region starts out' m) (writer_of nsₒ m) (ss m) store
-            (writer_of ns' m)
+        here : Emitted F real (region starts old m) (region starts out' m) (writer_of wsₒ m) (ss m) store
+            (writer_of ws' m)
         here =
-            rw (new-part out f t ys ft tl n, st.here, ← g.same m (omega arith) h, ← g.ahead m (omega arith))
+            rw (between-put_mid f (t - f) out ys t (omega (arith, ft, tl)) n, get_or-set_same ws m v no_writer k, ← g.same m (omega arith) h, ← g.ahead m (omega arith))
             (e real rows)
 
         done : (i : ℕ) → i < m + 1
-            → Emitted F real (region starts old i) (region starts out' i) (writer_of nsₒ i) (ss i) store (writer_of ns' i)
+            → Emitted F real (region starts old i) (region starts out' i) (writer_of wsₒ i) (ss i) store (writer_of ws' i)
         done i l = elim (dec_le m i) [
           | yes w ↦ let z : i ≡ m = omega arith in rw z here
           | no w ↦
-              rw (elsewhere i (omega arith) (λ z. absurd (omega arith)), st.others i (λ z. absurd (omega arith)))
+              rw (elsewhere i (omega arith) (λ z. absurd (omega arith)), get_or-set_other ws m i v no_writer (omega arith))
               (g.done real rows i (omega arith))
         ]
 
-      pub going_more : Going out' ns' (m + 1)
+      pub going_more : Going out' ws' (m + 1)
       going_more = record {
-        long = new-length out f t ys ft tl n ∙ g.long;
-        numbers-long = st.long ∙ g.numbers-long;
+        long = search (rules, places) ∙ g.long;
+        writers-long = length-set ws m v ∙ g.writers-long;
         done = done;
-        ahead = λ i l. st.others i (λ z. absurd (omega arith)) ∙ g.ahead i (omega arith);
+        ahead = λ i l. get_or-set_other ws m i v no_writer (omega arith) ∙ g.ahead i (omega arith);
         same = λ i l k. elsewhere i k (λ z. absurd (omega arith)) ∙ g.same i (omega arith) k;
-        front = take-before out f t ys ft tl n (get_or starts 0 0) (laid.rising 0 m (omega arith) (omega arith)) ∙ g.front;
+        front = take-put_mid_below f (t - f) out ys (get_or starts 0 0) (laid.rising 0 m (omega arith) (omega arith)) (omega (arith, ft, tl)) ∙ g.front;
         back =
-            drop-after out f t ys ft tl n (get_or starts count 0) (laid.rising (m + 1) count (omega arith) (omega arith))
+            drop-put_mid f (t - f) out ys (get_or starts count 0)
+            (omega (arith, ft, laid.rising (m + 1) count (omega arith) (omega arith))) (omega (arith, ft, tl)) n
             ∙ g.back;
       }
 
-    pub going-all : m ≡ count → (real : ℕ) → mask ≡ 2 ^ real - 1 → EmittedAll F real starts old out nsₒ ns count ss store
+    pub going-all : m ≡ count → (real : ℕ) → mask ≡ 2 ^ real - 1 → EmittedAll F real starts old out wsₒ ws count ss store
     going-all z real rows = record {
       long = g.long;
-      numbers-long = g.numbers-long;
+      writers-long = g.writers-long;
       each = λ i l. g.done real rows i (omega arith);
       others = λ i l. g.ahead i (omega arith);
       front = g.front;
       back = g.back;
+    }
+
+-- what the first c writers got, they got among all
+pub emitted-part : {F : Format} {real : ℕ} {starts out out' : List ℕ} {ws ys : List Writer} {c : ℕ} {ss : ℕ → List Segment} {store : Bool}
+    → c ≤ length ws → EmittedAll F real starts out out' (take c ws) ys (length (take c ws)) ss store
+    → EmittedAll F real starts out out' ws (ys ++ drop c ws) c ss store
+emitted-part {ws = ws} {ys = ys} {c = c} h g =
+    let long : length (take c ws) ≡ c = length-take-le c ws h in
+    let here : length ys ≡ c = g.writers-long ∙ long in
+    record {
+      long = g.long;
+      writers-long = search (rules, places);
+      each = λ i l.
+          rw (← get_or-take c ws i no_writer l, get_or_append_left ys (drop c ws) no_writer i (omega arith)) (g.each i (omega arith));
+      others = λ i l. search (rules, places);
+      front = g.front;
+      back = rw long at g.back;
     }

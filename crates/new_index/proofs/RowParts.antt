@@ -1,16 +1,16 @@
 -- The words of one row, as a part of the block of rows.
 -- Assumes nothing.
-use Prim.Native.Nat.{ℕ, ◌+◌, ◌-◌, ◌*◌, ◌≤◌, ◌<◌}
+use Prim.Native.Nat.{ℕ, ◌+◌, ◌-◌, ◌*◌, ◌≤◌}
 use mathlib.Core.Bool.{Bool, true, false}
 use mathlib.Core.Path.{◌≡◌, refl, ap, ◌∙◌}
 use mathlib.Core.List.{List}
 use native.Mathlib.Omega.{arith}
 use lib.ListN.{length, get_or, take, drop, length-drop}
 use lib.Seq.{get_or-drop, get_or-take, length-take-le}
-use Rattle.meaning.specs.Limits.{most_value_column, block_segments, block_words}
+use Rattle.meaning.specs.Limits.{block_segments}
 use Rattle.meaning.specs.declared.Format.{Format}
-use Rattle.block_write.specs.Rowed.{row_segments, CleanWord}
-use Rattle.new_index.specs.Writers.{row_length, row_of}
+use Rattle.block_write.specs.Rowed.{row_length, row_segments, CleanWord}
+use Rattle.new_index.specs.Writers.{row_of}
 
 -- a row has at most a block's words
 pub row_low : (n : ℕ) (even : Bool) → (even ≡ false → n ≤ block_segments) → row_length n even ≤ block_segments
@@ -30,7 +30,7 @@ module _ (F : Format) (rows : List ℕ) (n : ℕ) (even : Bool) (k m : ℕ) (e :
   unfolding row_of
   row_is = ap (λ (j : ℕ). row_segments F (take j (drop (k * block_segments) rows)) n even) (many ∙ e)
 
-  module _ (long : length rows ≡ block_words) (h : k < most_value_column) (low : m ≤ block_segments) where
+  module _ (fits : k * block_segments + m ≤ length rows) where
     row-length : length words ≡ m
     row-length = length-take-le _ (drop (k * block_segments) rows) (omega (arith, length-drop (k * block_segments) rows)) ∙ many
 

@@ -4,13 +4,14 @@ use Rattle.std.specs.Prelude.{ℕ, ◌+◌, ◌-◌, ◌*◌, ◌<◌, ◌≡◌
 use Rattle.meaning.specs.Limits.{most_starts, head_words, entry_words}
 use Rattle.meaning.specs.Format.{kind_of}
 use Rattle.meaning.specs.declared.Format.{Format}
+use Rattle.ewah_write.specs.declared.writer.Writer.{Writer}
 use Rattle.new_index.specs.Writers.{writer_of}
 
 -- r has the starts of `count` bodies, the first at `from`, and the end of the last
-pub record StartsOf (ns : List ℕ) (count from : ℕ) (r : List ℕ) : Type 0 where
+pub record StartsOf (ws : List Writer) (count from : ℕ) (r : List ℕ) : Type 0 where
   pub long : length r ≡ most_starts
   pub first : get_or r 0 0 ≡ from
-  pub next : (i : ℕ) → i < count → get_or r (i + 1) 0 ≡ get_or r i 0 + (writer_of ns i).used
+  pub next : (i : ℕ) → i < count → get_or r (i + 1) 0 ≡ get_or r i 0 + (writer_of ws i).used
 
 -- the head, and the first m of `count` entries, are written over the front of `old`, and what lies behind the contents stays
 pub record Headed (F : Format) (old : List ℕ) (rows : ℕ) (starts : List ℕ) (count : ℕ) (out : List ℕ) (m : ℕ) : Type 0 where

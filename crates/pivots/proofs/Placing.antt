@@ -7,10 +7,9 @@ use mathlib.Core.List.{List}
 use lib.ListN.{get_or}
 use lib.Pow.{pow_mono}
 use native.Mathlib.Decide.{dec_le}
-use native.Mathlib.Nat.{div-eq_of_lt, mul-le-mul_left, mul-le-mul_right, suc-mul}
+use native.Mathlib.Nat.{div-eq_of_lt, mul-le-mul_right, suc-mul}
 use native.Mathlib.Numerals.{add-one}
 use native.Mathlib.Omega.{arith}
-use Rattle.meaning.specs.Limits.{word_bits, block_segments}
 use Rattle.meaning.specs.Rows.{sum_below, count_below, nth_below}
 use Rattle.meaning.specs.Segment.{bit_at, is_set}
 use Rattle.meaning.specs.Format.{width}
@@ -45,10 +44,6 @@ bits-reached x n j z l e =
     (omega (arith, count_set (is_set x) j is-set), λ w h. omega (arith, set_below x w j h is-set))
 
 -- ---- in a block
-
--- the rows of a block are few
-pub rows_few : (i w : ℕ) → i ≤ block_segments → w ≤ word_bits → i * w ≤ block_segments * word_bits
-rows_few i w h l = omega (arith, mul-le-mul_left i l)
 
 -- a segment more
 pub set_next : (ws : List ℕ) (i : ℕ)

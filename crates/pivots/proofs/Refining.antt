@@ -10,7 +10,6 @@ use lib.ListN.{get_or, replicate, get_or-replicate}
 use native.Mathlib.Nat.{div-eq_of_lt}
 use native.Mathlib.Omega.{arith}
 use Rattle.meaning.specs.Limits.{word_bits, block_segments}
-use Rattle.meaning.specs.Rows.{bit}
 use Rattle.meaning.specs.Segment.{bit_at, is_set}
 use Rattle.column_meaning.specs.Ranking.{ahead}
 use Rattle.meaning.specs.declared.Ranking.{Ranking}
@@ -25,7 +24,7 @@ use Rattle.words.proofs.Entries.{Filled}
 use Rattle.words.specs.Sums.{PartOf}
 use Rattle.adder.specs.Digits.{number_at}
 use Rattle.adder.proofs.Adding.{digits_at, digits-bits, digit-of, low-digits}
-use Rattle.pivots.specs.Splits.{Refined, SplitBy}
+use Rattle.pivots.specs.Splits.{Refined}
 
 -- ---- one word
 
@@ -123,9 +122,6 @@ pub digit-is : (v i : ℕ) → bit_and (v / 2 ^ i) 1 ≡ bit_at v i
 unfolding bit_at
 digit-is v i = and_mask (v / 2 ^ i) 1
 
-pub digit_low : (v : ℕ) → bit_and v 1 < 2
-digit_low v = rw (and_mask v 1) (omega arith)
-
 number-low : (x : List ℕ) (n w j : ℕ) → number_at x n w j < 2 ^ n
 unfolding number_at
 number-low x n w j = low-digits (digits_at x w j) (digits-bits x w j) n
@@ -211,11 +207,3 @@ module _ {op : Ranking} {x : List ℕ} {n pivot i : ℕ} {a s r a' s' : List ℕ
 
 div-one : (v : ℕ) → v / 2 ^ 0 ≡ v
 div-one v = omega arith
-
--- down to the lowest digit
-pub split-all : {op : Ranking} {x : List ℕ} {n pivot : ℕ} {a s : List ℕ} → SplitFrom op x n pivot 0 a s
-    → SplitBy op x n pivot a s
-split-all {op} {x} {n} {pivot} g = record {
-  ahead-bits = λ w j l k. rw (div-one (number_at x n w j), div-one pivot) at (g.ahead-bits w j l k);
-  same_bits = λ w j l k. rw (div-one (number_at x n w j), div-one pivot) at (g.same_bits w j l k);
-}

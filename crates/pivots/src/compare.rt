@@ -29,10 +29,7 @@ pub fn lead(op: Ranking) -> u32
 fn filled(on: bool) -> u32
     ensures { (j : ℕ) → j < word_bits → is_set result j ≡ on }
 {
-    if on {
-        return 0xFFFF_FFFF;
-    }
-    0
+    if on { 0xFFFF_FFFF } else { 0 }
 }
 
 // One digit more, which x has. Of the rows that agreed with the pivot so far those agree on whose digit is its own; the others come
@@ -66,9 +63,7 @@ pub fn split(op: Ranking, x: &[u32; BLOCK_WORDS], n: usize, pivot: u32) -> Compa
         ahead: [0; BLOCK_SEGMENTS],
         same: rows::row(x, 0),
     };
-    let mut i = n;
-    while 0 < i {
-        i -= 1;
+    for i in (0..n).rev() {
         let digit = (pivot >> i as u32) & 1;
         let t = refine(s, rows::row(x, (i + 1) * BLOCK_SEGMENTS), digit, first);
         s = t;

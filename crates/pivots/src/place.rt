@@ -28,15 +28,13 @@ fn in_block(words: [u32; BLOCK_SEGMENTS], n: u32, w: u32, take: u32) -> u32
         → Reached F o n p take result }
 {
     let mut left = take;
-    let mut i: u32 = 0;
-    while i < n {
+    for i in 0..n {
         let x = words[i as usize];
         let c = bits::count(x);
         if left <= c {
             return i * w + reach(x, left);
         }
         left -= c;
-        i += 1;
     }
     n * w
 }

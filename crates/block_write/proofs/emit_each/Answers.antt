@@ -1,42 +1,43 @@
--- `block_write::emit_each` meets its contract. The invariant: the first i words are emitted, before the last by whole
--- segments.
+-- `block_write::emit_each` meets its contract: a word more by `emitted-next`, and the last by `emitted-last`.
 -- Assumes nothing.
-use mathlib.Core.Path.{refl, ◌∙◌}
-use Rattle.meaning.specs.Segment.{kind}
+use Prim.Native.Nat.{◌-◌}
+use mathlib.Core.Path.{◌≡◌, ◌∙◌}
+use lib.ListN.{length}
+use lib.Seq.{get_or-take, length-take-le}
+use Rattle.meaning.specs.Segment.{all_set}
 use Rattle.meaning.specs.Format.{width}
-use Rattle.block_write.proofs.Rowing.{first-all, each_none, each-growing, each-room, each_more}
+use Rattle.block_write.proofs.Rowing.{room_next, emitted-next, emitted-last}
 use native.Mathlib.Omega.{arith}
 use Rattle.block_write.proofs.emit_each.Goals as goal
 
-pub loop-i-init : goal.loop-i-init
-loop-i-init c =
-    (omega arith, refl, each_none c.args.format c.args.words.now c.args.mask c.args.store _ _ c.requires.in_bounds)
+pub emit_segment-r-requires-clause-room_for : goal.emit_segment-r-requires-clause-room_for
+emit_segment-r-requires-clause-room_for c =
+    λ e.
+    let l = c.loop-x in
+    let words = c.args.words.now in
+    let long = length-take-le (length words - 1) words (omega arith) in
+    let here = get_or-take (length words - 1) words l.x-index 0 (omega (arith, long)) in
+    rw (here, l.invariant.0) (room_next c.args.format words l.x-index (omega (arith, long)) (c.requires.room_for e) l.invariant.1.grown)
 
-pub emit_segment-r-requires : goal.emit_segment-r-requires
-emit_segment-r-requires c =
-    let l = c.loop-i in
-    let h = c.loop-i-test.true in
-    let a = c.args in
-    let words = a.words.now in record {
-      growing = each-growing a.format words a.mask a.store _ _ l.out l.v l.i h l.invariant.2 c.requires.growing;
-      room_for = λ e. rw l.invariant.1
-          (each-room a.format words a.mask a.store _ _ l.out l.v l.i h l.invariant.2 (c.requires.room_for e));
-    }
-
-pub loop-i-preserved : goal.loop-i-preserved
-loop-i-preserved c =
+pub loop-x-preserved : goal.loop-x-preserved
+unfolding all_set
+loop-x-preserved c =
+    let l = c.loop-x in
     let p = c.emit_segment-r in
-    let l = c.loop-i in
-    let h = c.loop-i-test.true in (
-      omega arith,
-      p.auto.out ∙ l.invariant.1,
-      each_more c.args.format c.args.words.now c.args.mask c.args.store _ _ l.out l.v l.i h
-          l.invariant.2 c.rows_of-own.result c.requires.growing c.rows_of-own.ensures p.ensures,
+    let F = c.args.format in
+    let words = c.args.words.now in
+    let long = length-take-le (length words - 1) words (omega arith) in
+    let here = get_or-take (length words - 1) words l.x-index 0 (omega (arith, long)) in (
+      p.auto.out ∙ l.invariant.0,
+      emitted-next F words l.x-index (omega (arith, long)) c.requires.growing l.invariant.1
+          (rw here at (p.ensures (width F) c.full-full.ensures)),
     )
 
 pub returns : goal.returns
 returns c =
     λ real e.
-    let l = c.loop-i in
-    rw (first-all (kind (width c.args.format)) c.args.words.now l.i c.loop-i-test.false) at
-    (l.invariant.2 real (λ h. absurd (omega (arith, c.loop-i-test.false))) (λ h. e))
+    let l = c.loop-x in
+    let words = c.args.words.now in
+    let long = length-take-le (length words - 1) words (omega arith) in
+    let at : l.x-index ≡ length words - 1 = omega (arith, long) in
+    emitted-last c.args.format words l.x-index (omega (arith, at)) c.requires.growing l.invariant.1 (rw (← at) at (c.emit_segment.ensures real e))

@@ -1,14 +1,13 @@
--- `block_write::emit_each` meets its contract. The invariant: the first i words are emitted, before the last by whole
--- segments.
+-- `block_write::emit_each` meets its contract. The invariant: the first words are emitted, by whole segments.
 -- Assumes nothing.
-use Prim.Native.Nat.{◌-◌, ◌≤◌}
 use mathlib.Core.Path.{◌≡◌}
-use lib.ListN.{length}
-use Rattle.block_write.proofs.Rowing.{EmittedTo}
+use mathlib.Core.List.{map}
+use lib.ListN.{length, take}
+use Rattle.meaning.specs.Segment.{kind}
+use Rattle.meaning.specs.Format.{width}
+use Rattle.body_write.specs.Bodies.{Emitted}
 use Rattle.block_write.proofs.emit_each.Given as goal
 
-abbrev pub invariant-loop-i : goal.invariant-loop-i
-invariant-loop-i l = (l.i ≤ length l.words) × (length l.out ≡ length l.initial.out) × EmittedTo l.format l.words l.mask l.store l.initial.out l.initial.v l.out l.v l.i
-
-abbrev pub decreases-loop-i : goal.decreases-loop-i
-decreases-loop-i l = length l.words - l.i
+abbrev pub invariant-loop-x : goal.invariant-loop-x
+invariant-loop-x l = (length l.out ≡ length l.initial.out)
+    × Emitted l.format (width l.format) l.initial.out l.out l.initial.v (map (kind (width l.format)) (take l.x-index l.words)) l.store l.v

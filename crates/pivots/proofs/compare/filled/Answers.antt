@@ -7,5 +7,5 @@ use Rattle.pivots.proofs.compare.filled.Goals as goal
 pub returns-then-on : goal.returns-then-on
 returns-then-on c j l = full-set 32 j l ∙ sym c.if-on.true
 
-pub returns : goal.returns
-returns c j l = zero_clear j ∙ sym c.if-on.false
+pub returns-else-on : goal.returns-else-on
+returns-else-on c j l = zero_clear j ∙ sym c.if-on.false

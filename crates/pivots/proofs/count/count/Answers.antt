@@ -3,7 +3,7 @@
 use mathlib.Core.Path.{◌≡◌, sym, ap, ap₂, ◌∙◌}
 use Prim.Native.Nat.{ℕ, ◌+◌, ◌-◌, ◌*◌, ◌^◌, ◌≤◌, ◌<◌, min}
 use lib.Bits.{bit_and}
-use lib.ListN.{length, get_or, length-set}
+use lib.ListN.{length, get_or}
 use native.Mathlib.Omega.{arith}
 use borrow.Author.Rules.{rules}
 use Rattle.meaning.specs.Limits.{block_segments}
@@ -48,17 +48,6 @@ returns-then-even c F R o p g l h =
 -- they are no more than there are words
 within : (c : Else-even) → c.args.n ≤ length c.args.words
 within c = let long : length c.args.words ≡ block_segments = search rules in omega (arith, c.requires.2 c.if-even.false)
-
-pub bounds-words-last : goal.bounds-words-last
-bounds-words-last c = omega (arith, c.requires.2 c.if-even.false)
-
-pub bounds-cut-last : goal.bounds-cut-last
-bounds-cut-last c = omega (arith, c.requires.2 c.if-even.false)
-
-pub count_each-requires : goal.count_each-requires
-count_each-requires c =
-    let s = c.args in
-    omega (arith, within c.before, length-set s.words (s.n - 1) (bit_and (get_or s.words (s.n - 1) 0) s.mask))
 
 pub returns : goal.returns
 returns c F R o p g l h =

@@ -3,13 +3,10 @@
 -- Assumes nothing.
 use mathlib.Core.Bool.{false}
 use mathlib.Core.Path.{◌≡◌}
-use Prim.Native.Nat.{◌+◌, ◌-◌, ◌≤◌}
+use Prim.Native.Nat.{◌+◌}
 use Rattle.meaning.specs.Rows.{sum_below}
 use Rattle.pivots.proofs.Counting.{set_word}
 use Rattle.pivots.proofs.place.in_block.Given as goal
 
 abbrev pub invariant-loop-i : goal.invariant-loop-i
-invariant-loop-i l = (l.i ≤ l.n) × (l.left + sum_below l.i (set_word false l.words) ≡ l.take)
-
-abbrev pub decreases-loop-i : goal.decreases-loop-i
-decreases-loop-i l = l.n - l.i
+invariant-loop-i l = l.left + sum_below l.i (set_word false l.words) ≡ l.take
