@@ -28,29 +28,15 @@ use Rattle.laws.proofs.IndexSound.{index-means}
 use Rattle.laws.proofs.Tests.{or-false}
 use Rattle.laws.proofs.Demanded.{answered-is}
 use Rattle.answers.specs.declared.refusal.Refusal.{Refusal}
-use Rattle.answers.specs.declared.answer.Answered.{Answered}
-use Rattle.answers.specs.declared.answer.Answered.TheVariants.{Words, Refused}
-use Rattle.answers.specs.Told.{answered_of, words_in, Reported}
+use Rattle.std.specs.Prelude.{Result, Ok, Err}
+use Rattle.answers.specs.declared.answer.Report.{Report}
+use Rattle.answers.specs.Told.{number_of, answered_of, words_in, Reported}
+use Rattle.text.specs.declared.lines.Head.{Head}
 use Rattle.threshold.specs.declared.start.Begun.{Begun}
 use Rattle.text.specs.Lines.{refused_text, head_text, lines_from}
 use Rattle.threshold.specs.Output.{answer_room, all_named, outcome_text, asked, most_bytes, ragged, words_of, output_of}
-use Rattle.text.specs.Texts.{Appended}
-use Rattle.text.specs.Listings.{lines_left, Covers}
-use Rattle.threshold.specs.Begins.{Begins}
-
--- ---- a refusal
-
--- its line is all
-pub begins-refused : (text answer' out out' : List ℕ) (bytes : ℕ) → Appended out 0 text out' bytes
-    → Begins text answer' out out' (record { bytes = bytes; words = 0; rows = 0; format = Ewah })
-unfolding lines_from pieces decode
-begins-refused text answer' out out' bytes a =
-    record {
-      is = sym (append-nil (take bytes out') ∙ a.is);
-      inside = a.inside;
-      words_inside = omega arith;
-      covers = record { some = tt; few = omega arith; all = omega arith };
-    }
+use Rattle.text.specs.Standings.{Covers}
+use Rattle.threshold.specs.Begins.{Answers}
 
 -- ---- the names
 
@@ -113,18 +99,18 @@ answering index list T room b e =
 -- its text: the head, and a line for each row
 answer-text : (index : List ℕ) (T : ℕ) (b : List ℕ)
     → let p = rows_of (format_of index) b in
-    let R = get_or index 1 0 in
-    outcome_text index T (answer b) ≡ head_text R (get_or index 2 0) T (count_below R p) ++ lines_from p 0 R
-unfolding outcome_text row_count bitmap_count
+    let R = row_count index in
+    outcome_text index T (answer b) ≡ head_text R (bitmap_count index) T (count_below R p) ++ lines_from p 0 R
+unfolding outcome_text
 answer-text index T b = refl
 
 -- the outcome of the program's question is told, with its words, and an answer stands at the buffer's front
-pub record Told (index : List ℕ) (T : ℕ) (buffer' : List ℕ) (r : Answered) : Type 0 where
+pub record Told (index : List ℕ) (T : ℕ) (buffer' : List ℕ) (r : Result Report Refusal) : Type 0 where
   pub told : answered_of r buffer' ≡ threshold index (all_named (bitmap_count index)) T answer_room
   pub words : words_in r ≡ words_reported (threshold index (all_named (bitmap_count index)) T answer_room)
 
 pub told_of : (index : List ℕ) (T n : ℕ) (all : List ℕ) → all ≡ all_named most_bitmaps → n ≡ min (bitmap_count index) most_bitmaps
-    → (buffer buffer' : List ℕ) → length buffer ≡ answer_room → (r : Answered)
+    → (buffer buffer' : List ℕ) → length buffer ≡ answer_room → (r : Result Report Refusal)
     → Reported index (take n all) (threshold index (take n all) T (length buffer)) r buffer buffer'
     → Told index T buffer' r
 told_of index T n all all-is n-is buffer buffer' room r rep =
@@ -133,21 +119,22 @@ told_of index T n all all-is n-is buffer buffer' room r rep =
     same : threshold index (take n all) T (length buffer) ≡ threshold index (all_named (bitmap_count index)) T answer_room
     same = same-question index T (length buffer) n all all-is n-is ∙ ap (threshold index (all_named (bitmap_count index)) T) room
 
-module _ {index : List ℕ} {T : ℕ} {buffer' : List ℕ} {r : Answered} (g : Told index T buffer' r) where
-  pub ask-refused : (q : Refusal) → r ≡ Refused q → (out out' : List ℕ) (b : Begun)
-      → Begins (refused_text q.number q.bitmap q.word) buffer' out out' b
-      → Begins (asked T index) buffer' out out' b
+module _ {index : List ℕ} {T : ℕ} {buffer' : List ℕ} {r : Result Report Refusal} (g : Told index T buffer' r) where
+  pub ask-refused : (q : Refusal) → r ≡ Err q → asked T index ≡ refused_text (number_of q.fault) q.bitmap q.word
   unfolding answered_of outcome_text asked
-  ask-refused q e out out' b h =
-      let told = sym (ap (λ (x : Answered). answered_of x buffer') e) ∙ g.told in
-      subst (λ (t : List ℕ). Begins t buffer' out out' b) (ap (outcome_text index T) told) h
+  ask-refused q e =
+      let told = sym (ap (λ (x : Result Report Refusal). answered_of x buffer') e) ∙ g.told in
+      sym (ap (outcome_text index T) told)
 
-  module _ {w s : ℕ} (e : r ≡ Words w s) where
+  module _ {report : Report} (e : r ≡ Ok report) where
+    abbrev w : ℕ
+    w = report.words
+
     answer-is : threshold index (all_named (bitmap_count index)) T answer_room ≡ answer (take w buffer')
     unfolding answered_of
-    answer-is = sym g.told ∙ ap (λ (x : Answered). answered_of x buffer') e
+    answer-is = sym g.told ∙ ap (λ (x : Result Report Refusal). answered_of x buffer') e
 
-    pub within : w ≤ length buffer'
+    pub within : report.words ≤ length buffer'
     unfolding words_in words_reported
     within =
         let q : w ≡ length (take w buffer') = sym (ap words_in e) ∙ g.words ∙ ap words_reported answer-is in
@@ -159,8 +146,8 @@ module _ {index : List ℕ} {T : ℕ} {buffer' : List ℕ} {r : Answered} (g : T
     pub has-head : head_words ≤ length index
     has-head = facts.head.head
 
-    module _ {F : Format} (F-is : F ≡ format_of index) {rows : ℕ} (rows_is : rows ≡ get_or index 1 0) where
-      pub may-count : (rows ≤ most_rows) × SoundFacts F rows (take w buffer')
+    module _ {F : Format} (F-is : F ≡ format_of index) {rows : ℕ} (rows_is : rows ≡ row_count index) where
+      pub may-count : (rows ≤ most_rows) × SoundFacts F rows (take report.words buffer')
       unfolding row_count
       may-count = rw (F-is, rows_is) (facts.head.few-rows, facts.body)
 
@@ -174,30 +161,16 @@ module _ {index : List ℕ} {T : ℕ} {buffer' : List ℕ} {r : Answered} (g : T
             all = rw n (rows_fit (width F) (width-pos F) rows);
           }
 
-      pub ask-answered : (named count : ℕ) → named ≡ get_or index 2 0
-          → count ≡ count_below rows (rows_of F (take w buffer'))
-          → (out out' : List ℕ) (bytes : ℕ) → Appended out 0 (head_text rows named T count) out' bytes
-          → Begins (asked T index) buffer' out out' (record { bytes = bytes; words = w; rows = rows; format = F })
-      ask-answered named count n-is c-is out out' bytes a =
-          record { is = text-is; inside = a.inside; words_inside = within; covers = covered }
+      pub ask-answered : (named count : ℕ) → named ≡ bitmap_count index
+          → count ≡ count_below rows (rows_of F (take report.words buffer'))
+          → Answers (asked T index) buffer' (record { head = record { rows = rows; named = named; t = T; set = count }; format = F; words = report.words })
+      ask-answered named count n-is c-is = record { is = whole; inside = within; covers = covered }
         where
-          p : ℕ → Bool
-          p = rows_of F (take w buffer')
-
           -- the head, and all rows behind it
-          whole : asked T index ≡ head_text rows named T count ++ lines_from p 0 rows
+          whole : asked T index ≡ head_text rows named T count ++ lines_from (rows_of F (take w buffer')) 0 rows
           whole =
               rw (c-is, n-is, F-is, rows_is)
               (unfold asked in ap (outcome_text index T) answer-is ∙ answer-text index T (take w buffer'))
-
-          none-off : rows ≡ rows - 0
-          none-off = omega arith
-
-          text-is : asked T index ≡ take bytes out' ++ lines_left F (take w buffer') rows 0
-          text-is =
-              whole
-              ∙ ap (λ (t : List ℕ). t ++ lines_from p 0 rows) (sym a.is)
-              ∙ ap (λ (m : ℕ). take bytes out' ++ lines_from p 0 m) none-off
 
 -- ---- the input
 

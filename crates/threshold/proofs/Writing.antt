@@ -1,7 +1,12 @@
 -- What a writer has been given of a listing, chunk by chunk.
 -- Assumes nothing.
-use Rattle.std.proofs.Common.{◌≡◌, ℕ, List, [], ◌++◌, Option, sym, ap, ◌∙◌, append_assoc, append-nil, subst}
+use Rattle.std.proofs.Common.{◌≡◌, ℕ, ◌-◌, refl, arith, List, [], ◌++◌, Option, sym, ap, ◌∙◌, append_assoc, append-nil, subst}
 use Rattle.std.specs.Io.KnownBytes.{Appends}
+use Rattle.meaning.specs.Format.{rows_of}
+use Rattle.meaning.specs.declared.Format.{Format}
+use Rattle.text.specs.declared.listing.Listing.{Listing}
+use Rattle.text.specs.Lines.{lines_from}
+use Rattle.text.specs.Listings.{lines_left}
 use Rattle.std.proofs.KnownBytes.{Appends-nil, Appends-trans}
 
 -- a part of the text was written, and `left` is still to come
@@ -26,3 +31,8 @@ module _ {text : List ℕ} {old new : Option (List ℕ)} {left : List ℕ} (p : 
   -- nothing is left
   pub partly-all : left ≡ [] → Appends old new text
   partly-all e = subst (Appends old new) (sym (p.all ∙ ap (λ (t : List ℕ). p.part ++ t) e ∙ append-nil p.part)) p.wrote
+
+-- a listing at row 0 lists all rows
+pub all-left : (s : Listing) (F : Format) (b : List ℕ) (R : ℕ) → s.format ≡ F → s.body.now ≡ b → s.rows ≡ R → s.row ≡ 0
+    → lines_left s ≡ lines_from (rows_of F b) 0 R
+all-left s F b R e f g z = let n : R - 0 ≡ R = omega arith in rw (e, f, g, z, n) refl

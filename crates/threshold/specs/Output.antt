@@ -1,4 +1,4 @@
--- The bytes that the program writes for the bytes that it reads. Section "The program" of paper 01.
+-- The bytes that the program writes for the bytes that it reads.
 -- Assumes nothing.
 use Rattle.std.specs.Prelude.{ℕ, ◌+◌, ◌*◌, ◌/◌, ◌%◌, Bool, cond, not, ◌||◌, List, [], ◌∷◌, ◌++◌, eqb, ltb, length, get_or, drop}
 use Rattle.meaning.specs.Limits.{word_bytes}

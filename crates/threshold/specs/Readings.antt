@@ -25,7 +25,7 @@ all_pass (writes input output ∷ rs) = same (output_of input) output && all_pas
 unfoldable pub readings : List Reading
 unfolding question
 readings =
-    -- the paper's own: LOOPED with T = 2
+    -- LOOPED with T = 2
     writes (question 2 looped) (114 ∷ 111 ∷ 119 ∷ 115 ∷ 32 ∷ 52 ∷ 10 ∷ 110 ∷ 97 ∷ 109 ∷ 101 ∷ 100 ∷ 32 ∷ 51 ∷ 10 ∷ 116 ∷ 104 ∷ 114 ∷ 101 ∷ 115 ∷ 104 ∷ 111 ∷ 108 ∷ 100 ∷ 32 ∷ 50 ∷ 10 ∷ 115 ∷ 101 ∷ 116 ∷ 32 ∷ 50 ∷ 10 ∷ 49 ∷ 10 ∷ 51 ∷ 10 ∷ [])
     -- rows 0 and 39 of 40
     ∷ writes (question 1 (1 ∷ 40 ∷ 1 ∷ 5 ∷ 3 ∷ 0x00040000 ∷ 0x00000001 ∷ 0x00000080 ∷ [])) (114 ∷ 111 ∷ 119 ∷ 115 ∷ 32 ∷ 52 ∷ 48 ∷ 10 ∷ 110 ∷ 97 ∷ 109 ∷ 101 ∷ 100 ∷ 32 ∷ 49 ∷ 10 ∷ 116 ∷ 104 ∷ 114 ∷ 101 ∷ 115 ∷ 104 ∷ 111 ∷ 108 ∷ 100 ∷ 32 ∷ 49 ∷ 10 ∷ 115 ∷ 101 ∷ 116 ∷ 32 ∷ 50 ∷ 10 ∷ 48 ∷ 10 ∷ 51 ∷ 57 ∷ 10 ∷ [])

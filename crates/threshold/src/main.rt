@@ -1,20 +1,25 @@
 // The program: T and an index on standard input, and the rows that at least T of its bitmaps have on standard output.
 #![tactic(auto)]
 
-ghost use Rattle.std.specs.Prelude.{◌+◌, ◌≤◌, ◌≡◌, length, IfSome, OnOk};
+ghost use Rattle.std.specs.Prelude.{◌+◌, ◌≡◌, length, IfSome, OnOk};
 ghost use Rattle.std.specs.Io.KnownBytes.{Appends};
 ghost use Rattle.threshold.specs.Output.{most_bytes, output_of};
-ghost use Rattle.text.specs.Listings.{Covers, lines_left};
+ghost use Rattle.text.specs.Listings.{lines_left};
 
+use arrayvec::ArrayString;
 use input::MOST_BYTES;
-use meaning::Format;
 use std::io;
 use std::io::{Read, Write};
 use streams::Got;
+use text::lines::RefusalLine;
+use text::listing::Listing;
 
 mod input;
 mod start;
 mod streams;
+
+// The bytes of a chunk of the listing.
+const CHUNK_BYTES: usize = 65536;
 
 // Room for the longest input, and one byte more.
 fn room() -> [u8; MOST_BYTES + 1]
@@ -25,24 +30,14 @@ fn room() -> [u8; MOST_BYTES + 1]
 
 // Writes the lines of a body's set rows, chunk by chunk: each is what comes next of the listing, and all together are the
 // whole of it. It ends at a write that fails.
-fn list<W: Write>(
-    writer: &mut W,
-    format: Format,
-    body: &[u32],
-    rows: u32,
-    out: &mut [u8],
-) -> io::Result<()>
-    requires covers { Covers format body.now rows }
-    requires in_bounds { 21 ≤ length out.old }
-    ensures { OnOk result (Appends (W.contents writer.old) (W.contents writer.new)
-        (lines_left format body.now rows 0)) }
+fn list<W: Write>(writer: &mut W, mut listing: Listing<'_>) -> io::Result<()>
+    ensures { OnOk result (Appends (W.contents writer.old) (W.contents writer.new) (lines_left listing.entry)) }
 {
-    let mut state = text::listing::open(format, body);
-    while state.row < rows {
-        let f = text::listing::fill(format, body, rows, state, out);
-        let n = f.bytes;
-        writer.write_all(&out[..n])?;
-        state = f.state;
+    let mut chunk = ArrayString::<CHUNK_BYTES>::new();
+    while listing.row < listing.rows {
+        listing.fill(&mut chunk);
+        writer.write_all(chunk.as_str().as_bytes())?;
+        chunk.clear();
     }
     Ok(())
 }
@@ -56,13 +51,17 @@ fn run<R: Read, W: Write>(reader: &mut R, writer: &mut W) -> io::Result<()>
     let mut input = room();
     let Got { bytes, ended } = streams::read_full(reader, &mut input);
     let mut answer = start::word_room();
-    let mut out = streams::chunk_room();
-    let first = start::begin(&input[..bytes], &mut answer, &mut out);
-    let n = first.bytes;
-    writer.write_all(&out[..n])?;
-    let k = first.words;
-    let format = first.format;
-    list(writer, format, &answer[..k], first.rows, &mut out)?;
+    match start::begin(&input[..bytes], &mut answer) {
+        Err(refusal) => write!(writer, "{}", RefusalLine(refusal))?,
+        Ok(begun) => {
+            let head = begun.head;
+            write!(writer, "{head}")?;
+            list(
+                writer,
+                Listing::new(begun.format, &answer[..begun.words], head.rows),
+            )?;
+        }
+    }
     ended
 }
 

@@ -1,18 +1,9 @@
-// All bytes of a reader, and room for a chunk of the output.
+// All bytes of a reader.
 ghost use Rattle.std.specs.Prelude.{◌≡◌, ◌≤◌, ◌<◌, length, take, OnOk};
 ghost use Rattle.std.specs.Io.KnownBytes.{Consumes, IsAtEnd};
 
 use std::io;
 use std::io::Read;
-
-// The bytes of a chunk.
-const CHUNK_BYTES: usize = 65536;
-
-pub fn chunk_room() -> [u8; CHUNK_BYTES]
-    ensures { 65536 ≡ length result }
-{
-    [0; CHUNK_BYTES]
-}
 
 // How many bytes were read, and the read that failed, if one did.
 #[derive(Drop)]
@@ -29,6 +20,7 @@ pub fn read_full<R: Read>(reader: &mut R, buf: &mut [u8]) -> Got
     ensures end { OnOk result.ended (result.bytes < length buf.new → IsAtEnd (R.remaining reader.new)) }
 {
     let mut done = 0;
+    // Kept: each read says by how much it goes on; `read_exact` and `read_to_end` say little of what they read before an `Err`.
     while done < buf.len() {
         match reader.read(&mut buf[done..]) {
             Ok(0) => {

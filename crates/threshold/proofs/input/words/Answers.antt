@@ -1,21 +1,20 @@
 -- `threshold::input::words` meets its contract. The invariant: each of the first i words is that of its four bytes.
 -- Assumes nothing.
-use mathlib.Core.Path.{refl}
-use lib.ListN.{length-set}
-use Rattle.threshold.proofs.Bytes.{words_more, words_are}
+use Prim.Native.Nat.{◌/◌}
+use mathlib.Core.Path.{◌≡◌}
+use lib.ListN.{length}
 use native.Mathlib.Omega.{arith}
+use Rattle.threshold.proofs.Bytes.{words_more, words_are}
 use Rattle.threshold.proofs.input.words.Goals as goal
-
-pub loop-i-init : goal.loop-i-init
-loop-i-init c = (omega arith, refl, λ k l. absurd (omega arith))
 
 pub loop-i-preserved : goal.loop-i-preserved
 loop-i-preserved c =
     let h = c.loop-i in
-    let b = c.args.bytes.now in
-    (omega arith, simp length-set (omega arith), words_more h.out b h.i c.word.result (omega arith) c.word.ensures h.invariant.2)
+    words_more _ h.out h.i _ (omega (arith, h.auto.out, c.as_chunks.ensures.front_len, c.requires, c.loop-i-test.true)) c.from_le_bytes.ensures h.invariant
 
 pub returns : goal.returns
 returns c =
     let h = c.loop-i in
-    words_are h.out c.args.bytes.now (omega arith) (λ k l. h.invariant.2 k (omega arith))
+    let n : length c.args.bytes.now / 4 ≡ length c.args.out.now = omega (arith, c.requires) in
+    words_are _ h.out c.args.bytes.now _ (omega (arith, c.requires, n)) (omega (arith, h.auto.out, n)) c.as_chunks.ensures.front
+    (λ k l. h.invariant k (omega (arith, c.as_chunks.ensures.front_len, c.loop-i-test.false, l)))

@@ -4,7 +4,6 @@ use Prim.Native.Nat.{ℕ, ◌/◌}
 use mathlib.Core.Path.{sym, ap, subst, ◌∙◌}
 use mathlib.Core.List.{List}
 use lib.ListN.{length, get_or, drop, length-take, length-append}
-use lib.Seq.{length-take-le}
 use Rattle.threshold.specs.Output.{asked}
 use Rattle.threshold.specs.Begins.{Begins}
 use Rattle.threshold.proofs.Starting.{output-long, output-ragged, output-asked, whole_words, read-words}
@@ -12,19 +11,11 @@ use native.Mathlib.Omega.{arith}
 use Rattle.threshold.proofs.start.begin.Goals as goal
 
 pub returns-then-n-gt-MOST_BYTES : goal.returns-then-n-gt-MOST_BYTES
-returns-then-n-gt-MOST_BYTES c =
-    let a = c.args in
-    subst (λ (t : List ℕ). Begins t a.answer.now a.out.now c.refused.new.out c.refused.result) (sym (output-long a.input.now c.if-n-gt-MOST_BYTES.true)) (c.refused.ensures a.answer.now)
+returns-then-n-gt-MOST_BYTES c = rw c.refusal.ensures (output-long c.args.input.now c.if-n-gt-MOST_BYTES.true)
 
 pub returns-then-ragged : goal.returns-then-ragged
 returns-then-ragged c =
-    let a = c.args in
-    subst (λ (t : List ℕ). Begins t a.answer.now a.out.now c.refused-then-ragged.new.out c.refused-then-ragged.result) (sym (output-ragged a.input.now c.if-n-gt-MOST_BYTES.false (sym c.ragged.ensures ∙ c.if-ragged.true))) (c.refused-then-ragged.ensures a.answer.now)
-
-pub slice_bounds-words-end-2 : goal.slice_bounds-words-end-2
-slice_bounds-words-end-2 c =
-    let n = length c.args.input.now in
-    sym (length-take-le (n / 4) c.word_room-words.result (omega (arith, c.word_room-words.ensures, c.if-n-gt-MOST_BYTES.false)))
+    rw c.refusal-then-ragged.ensures (output-ragged c.args.input.now c.if-n-gt-MOST_BYTES.false (sym c.ragged.ensures ∙ c.if-ragged.true))
 
 pub words-requires : goal.words-requires
 words-requires c =
@@ -53,9 +44,8 @@ question-requires c =
     let rest = drop (n / 4) c.word_room-words.result in
     let whole = sym c.ragged.ensures ∙ c.if-ragged.false in
     let read = read-words c.args.input.now c.words.new.out rest whole c.words.ensures in record {
-      in_bounds = omega (arith, ap length (read.1 ∙ sym c.words.ensures), read.0, (whole_words n whole).0);
-      answer_len = c.requires.answer_len;
-      in_bounds_2 = c.requires.in_bounds;
+      some = omega (arith, ap length (read.1 ∙ sym c.words.ensures), read.0, (whole_words n whole).0);
+      room = c.requires;
     }
 
 pub returns : goal.returns
@@ -65,5 +55,5 @@ returns c =
     let rest = drop (length a.input.now / 4) c.word_room-words.result in
     let whole = sym c.ragged.ensures ∙ c.if-ragged.false in
     let read = read-words a.input.now c.words.new.out rest whole c.words.ensures in
-    subst (λ (t : List ℕ). Begins t q.new.answer a.out.now q.new.out q.result) (sym (output-asked a.input.now c.if-n-gt-MOST_BYTES.false whole))
-    (subst (λ (x : List ℕ). Begins (asked (get_or x 0 0) (drop 1 x)) q.new.answer a.out.now q.new.out q.result) read.1 q.ensures)
+    subst (λ (t : List ℕ). Begins t q.new.answer q.result) (sym (output-asked a.input.now c.if-n-gt-MOST_BYTES.false whole))
+    (subst (λ (x : List ℕ). Begins (asked (get_or x 0 0) (drop 1 x)) q.new.answer q.result) read.1 q.ensures)

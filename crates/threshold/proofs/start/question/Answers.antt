@@ -14,5 +14,5 @@ pub returns : goal.returns
 returns c =
     let a = c.args in
     let w = a.words.now in
-    subst (λ (x : List ℕ). Begins (asked (get_or w 0 0) x) c.ask.new.answer a.out.now c.ask.new.out c.ask.result)
+    subst (λ (x : List ℕ). Begins (asked (get_or w 0 0) x) c.ask.new.answer c.ask.result)
     (take_all (length w - 1) (drop 1 w) (omega (arith, length-drop 1 w))) c.ask.ensures
