@@ -20,7 +20,6 @@ use Rattle.laws.proofs.Formats.{canonical-body}
 use Rattle.laws.proofs.Outcomes.{refuse-no, refuse-yes}
 use Rattle.answers.specs.declared.refusal.Refusal.{Refusal}
 use Rattle.std.specs.Prelude.{Result, Ok, Err}
-use Rattle.std.specs.Result.{IsErrAnd}
 use Rattle.answers.specs.Told.{refused_by, written_of, words_of, Wrote}
 use Rattle.answers.proofs.Checks.{refused-not-sound}
 use Rattle.batches.specs.declared.AppendState.{AppendState}
@@ -75,7 +74,7 @@ module _ (R : ℕ) (p : ℕ → Bool) (b : Batch) (room : ℕ) where
       → behind R p b room ≡ (plain_fault b.rows b.plain then write Ewah (R + b.rows) (followed R p (has_row 32 b.plain)) room)
   within h = refuse-no (ltb most_rows (R + b.rows)) 3 0 1 _ (le-ltb most_rows (R + b.rows) h)
 
--- ---- the state afterwards, where the answer is k, and r where that is handed on; the buffer is `out'`
+-- ---- the state afterwards, where the answer is k and the buffer `out'`
 
 module _ (s : AppendState) (b : Batch) {out : List ℕ} (k : Result ℕ Refusal) {out' : List ℕ} (w : Wrote (append s out b) k out out') where
   module _ (z : Result ℕ Refusal) (e : k ≡ z) where
@@ -90,17 +89,10 @@ module _ (s : AppendState) (b : Batch) {out : List ℕ} (k : Result ℕ Refusal)
   unfolding written_of
   few-rows n e = (taken-batch s out b (take n out') (sym (told_is (Ok n) e).told)).few
 
-  -- a refusal is handed on, and leaves the state
-  pub handed-on : (x : Refusal) (r : Result ℕ Refusal) → k ≡ Err x → IsErrAnd r (λ y. y ≡ x) → Wrote (append s out b) r out out'
-  handed-on x (Ok n) e g = elim g [ ]
-  handed-on x (Err y) e g = told_is (Err y) (e ∙ sym (ap Err g))
-
+  -- a refusal leaves the state
   pub state-stays : (x : Refusal) → k ≡ Err x → s ≡ state_after (append s out b) s b.rows
   unfolding state_after written_of
   state-stays x e = state-is (Err x) e
-
-  pub told-words : (n : ℕ) → k ≡ Ok n → Wrote (append s out b) (Ok n) out out'
-  told-words n e = told_is (Ok n) e
 
   -- the state with the batch's rows, and with the words of the longer body
   pub state-moves : (n : ℕ) → k ≡ Ok n → record { room = s.room; rows = s.rows + b.rows; words = n } ≡ state_after (append s out b) s b.rows

@@ -21,16 +21,6 @@ use Rattle.appending.proofs.answer_batch.Goals as goal
 found-is : (s : AppendState) (out : List ℕ) (f z : Option Place) → FoundIs s out f → f ≡ z → FoundIs s out z
 found-is s out f z h e = subst (λ (r : Option Place). FoundIs s out r) e h
 
-pub overflow_cast-rows : goal.overflow_cast-rows
-overflow_cast-rows c =
-    let placed = found-is c.args.state c.args.out.now _ _ c.find.ensures c.in-Some.is in record { fits = omega (arith, placed.0.few) }
-
-pub append_at-requires : goal.append_at-requires
-append_at-requires c =
-    let a = c.args in
-    let placed = found-is a.state a.out.now _ _ c.find.ensures c.in-Some.is in
-    record { rows_le_most_rows = placed.0.few; by_index = (rows_of Ewah (in_use a.state a.out.now), placed.1) }
-
 pub returns-in-None : goal.returns-in-None
 returns-in-None c =
     let a = c.args in

@@ -13,8 +13,8 @@ use Rattle.answers.specs.Told.{refused_by}
 use Rattle.answers.proofs.Checks.{sound-is}
 use Rattle.answers.proofs.Tells.{wrote-refused, wrote_then, wrote-stopped}
 use Rattle.plain.proofs.PlainWords.{plain_rows}
-use Rattle.appending.specs.Stepping.{batch_of}
-use Rattle.appending.proofs.Batched.{over, within}
+use Rattle.appending.specs.Batched.{batch_of}
+use Rattle.appending.proofs.Answered.{over, within}
 use Rattle.appending.proofs.append_at.Goals as goal
 
 pub returns-then-rows-more : goal.returns-then-rows-more
