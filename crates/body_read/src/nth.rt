@@ -6,11 +6,10 @@ ghost use Rattle.laws.specs.Laws.{SoundFacts};
 ghost use Rattle.meaning.specs.Answer.{ask_nth};
 ghost use Rattle.answers.specs.Told.{found_of};
 
-use answers::answer::Found;
 use meaning::Format;
 
 // The nth set row of a body, from 0.
-pub fn nth(format: Format, body: &[u32], rows: u32, n: u32) -> Found
+pub fn nth(format: Format, body: &[u32], rows: u32, n: u32) -> Option<u32>
     requires { (rows ≤ most_rows) × SoundFacts format rows body.now }
     ensures { found_of result ≡ ask_nth rows (rows_of format body.now) n }
 {

@@ -4,11 +4,13 @@ use Prim.Native.Nat.{ℕ, suc, ◌+◌, ◌-◌, ◌*◌, ◌^◌, ◌≤◌, �
 use mathlib.Core.Bool.{Bool}
 use mathlib.Core.Path.{◌≡◌, refl, sym, ap, ap₂, ◌∙◌, subst}
 use mathlib.Core.List.{List, [], ◌∷◌}
+use Rattle.std.specs.Prelude.{Option}
 use native.Mathlib.Omega.{arith}
 use borrow.Author.Tests.{lt-ltb}
 use lib.Dec.{ltb}
 use lib.IntN.{ℤ, pos, negsuc, neg_ℤ, ◌+ℤ◌, ◌-ℤ◌, ◌*ℤ◌, +ℤ_idl}
-use lib.ListN.{length, get_or, drop, length-drop, drop_of_length-le}
+use lib.ListN.{length, get_or, take, drop, length-drop, drop_of_length-le}
+use lib.Seq.{get_or-take, get_or-drop, length-take-le}
 use lib.Pow.{pow_mono}
 use lib.Signed.{mag}
 use mir.Syntax.{w64}
@@ -30,13 +32,12 @@ use Rattle.laws.proofs.Counted.{count_none, nth-below, nth-eq}
 use Rattle.laws.proofs.NamedBitmaps.{named-length}
 use Rattle.laws.proofs.SignedValues.{signed_range}
 use Rattle.ewah.proofs.Pieces.{cons-at}
-use Rattle.column.specs.declared.outside.Found.{Found}
 use Rattle.column.specs.Outside.{outside, NoneBelow, Lowest, FoundIn}
 
 -- ---- bodies as they were handed on
 
 -- what was found in them
-pub found_at : (F G : Format) (x x' y y' : List ℕ) (n n' : ℕ) (r : Found) → F ≡ G → x ≡ x' → y ≡ y' → n ≡ n'
+pub found_at : (F G : Format) (x x' y y' : List ℕ) (n n' : ℕ) (r : Option ℕ) → F ≡ G → x ≡ x' → y ≡ y' → n ≡ n'
     → FoundIn n (outside F x y) r → FoundIn n' (outside G x' y') r
 found_at F G x x' y y' n n' r e f g h t = rw (e, f, g, h) at t
 
@@ -44,6 +45,16 @@ found_at F G x x' y y' n n' r e f g h t = rw (e, f, g, h) at t
 pub facts_at : (F G : Format) (n n' : ℕ) (b b' : List ℕ) → F ≡ G → n ≡ n' → b ≡ b' → SoundFacts G n' b'
     → SoundFacts F n b
 facts_at F G n n' b b' e f g t = rw (e, f, g) t
+
+-- the slices of a list, in their order
+pub slice_at : (list : List ℕ) (i : ℕ) → i < length list - 1
+    → get_or (take (length list - 1) (drop 1 list)) i 0 ≡ get_or list (i + 1) 0
+slice_at list i h =
+    let e : 1 + i ≡ i + 1 = omega arith in
+    get_or-take (length list - 1) (drop 1 list) i 0 h ∙ get_or-drop 1 list i 0 ∙ ap (λ (k : ℕ). get_or list k 0) e
+
+pub slices-length : (list : List ℕ) → length (take (length list - 1) (drop 1 list)) ≡ length list - 1
+slices-length list = length-take-le (length list - 1) (drop 1 list) (omega (arith, length-drop 1 list))
 
 -- ---- a slice k, and the others behind it
 

@@ -2,11 +2,14 @@
 -- Assumes nothing.
 use Prim.Native.Nat.{ℕ, ◌+◌, ◌-◌, ◌*◌, ◌/◌, ◌%◌, ◌^◌, ◌≤◌, ◌<◌}
 use mathlib.Core.Bool.{Bool, true, false, not, ◌&&◌}
-use mathlib.Core.Path.{◌≡◌, refl, ap, ap₂, ◌∙◌, subst}
+use mathlib.Core.Path.{◌≡◌, refl, sym, ap, ap₂, ◌∙◌, subst, subst₂}
 use mathlib.Core.List.{List}
 use native.Mathlib.Nat.{add-mul, zero-mul, one-mul, div-add-mod', mod-lt, div-lt_iff_lt-mul}
 use native.Mathlib.Omega.{arith}
-use lib.ListN.{length, get_or}
+use lib.ListN.{length, take, drop, get_or}
+use lib.Seq.{get_or-take, get_or-drop}
+use borrow.Rule.Slice.PartMut.{mid_len}
+use Rattle.std.specs.Prelude.{Option}
 use Rattle.meaning.specs.Limits.{word_bits}
 use Rattle.meaning.specs.Rows.{nth_below}
 use Rattle.meaning.specs.Segment.{is_set, bit_at, fill, all_set}
@@ -24,8 +27,7 @@ use Rattle.ewah.specs.declared.cursor.Piece.TheVariants.{Clean, Dirty}
 use Rattle.ewah.specs.Cursors.{InOrder, left_of, pieces_from}
 use Rattle.bodies.specs.Walks.{word_of, span_by, span_of, behind}
 use Rattle.bodies.proofs.Spans.{word_held, run-word, piece-word, dirty-segment}
-use Rattle.column.specs.declared.outside.Seen.{Seen}
-use Rattle.column.specs.Outside.{outside, over_bit, OverBits, Spells, NoneBelow, Lowest, SeenIn}
+use Rattle.column.specs.Outside.{outside, over_bit, OverBits, Spells, NoneBelow, Lowest, FoundIn}
 use Rattle.column.proofs.Lowering.{none_more, lowest-here}
 
 -- ---- words that have no such bit
@@ -77,10 +79,30 @@ words_are F b o n c a k x e h l i g =
     let there : c.next + (n - 1) ≤ length b = omega (arith, ap (λ (q : code.Piece). behind q n) e) in
     dirty-segment F b o c a x e k i (omega arith) (omega arith)
 
--- what was found in segments of v rows, where v is w
-pub found_as : (v w n : ℕ) (x e : ℕ → ℕ) (r : Seen) → v ≡ w → ((p : ℕ → Bool) → Spells v p x e n → SeenIn v n p r)
-    → (p : ℕ → Bool) → Spells w p x e n → SeenIn w n p r
-found_as v w n x e r is f = subst (λ (k : ℕ). (p : ℕ → Bool) → Spells k p x e n → SeenIn k n p r) is f
+-- a part of a body: its n words from word i on
+module _ (b : List ℕ) (i n : ℕ) where
+  abbrev pub part : List ℕ
+  part = take (i + n - i) (drop i b)
+
+  pub part-length : i + n ≤ length b → length part ≡ n
+  part-length h = mid_len i (i + n) b h ∙ omega arith
+
+  part-at : (k : ℕ) → k < n → get_or b (i + k) 0 ≡ get_or part k 0
+  part-at k h = sym (get_or-take (i + n - i) (drop i b) k 0 (omega arith) ∙ get_or-drop i b k 0)
+
+-- what words spell, of parts
+pub spells-parts : (w : ℕ) (p : ℕ → Bool) (b e : List ℕ) (i j n : ℕ)
+    → Spells w p (λ k. get_or b (i + k) 0) (λ k. get_or e (j + k) 0) n
+    → Spells w p (λ k. get_or (part b i n) k 0) (λ k. get_or (part e j n) k 0) n
+spells-parts w p b e i j n s = record {
+  low = λ k h. subst (λ (x : ℕ). x < 2 ^ w) (part-at b i n k h) (s.low k h);
+  bits = λ k l h g. s.bits k l h g ∙ ap₂ (λ (x y : ℕ). over_bit x y l) (part-at b i n k h) (part-at e j n k h);
+}
+
+-- what was found in m segments of v rows, where v is w and m is n
+pub found_as : (v w m n : ℕ) (x e : ℕ → ℕ) (r : Option ℕ) → v ≡ w → m ≡ n → ((p : ℕ → Bool) → Spells v p x e m → FoundIn (m * v) p r)
+    → (p : ℕ → Bool) → Spells w p x e n → FoundIn (n * w) p r
+found_as v w m n x e r is all f = subst₂ (λ (k l : ℕ). (p : ℕ → Bool) → Spells k p x e l → FoundIn (l * k) p r) is all f
 
 -- the cursors of a slice and of existence stand at segment o, with n segments up to the next marker or fill of either
 pub record Facing (F : Format) (slice exists : List ℕ) (n : ℕ) (c e : Cursor) (o : ℕ) : Type 0 where
@@ -90,6 +112,10 @@ pub record Facing (F : Format) (slice exists : List ℕ) (n : ℕ) (c e : Cursor
   pub few' : n ≤ span_of e
   pub ahead : Ahead F slice o (pieces_from F slice c)
   pub ahead' : Ahead F exists o (pieces_from F exists e)
+
+pub facing : (F : Format) (slice exists : List ℕ) (n : ℕ) (c e : Cursor) (o : ℕ) → Words slice → 1 ≤ n → n ≤ span_of c → n ≤ span_of e
+    → Ahead F slice o (pieces_from F slice c) → Ahead F exists o (pieces_from F exists e) → Facing F slice exists n c e o
+facing F slice exists n c e o w s f g l k = record { words = w; some = s; few = f; few' = g; ahead = l; ahead' = k }
 
 module _ {F : Format} {slice exists : List ℕ} {n : ℕ} {c e : Cursor} {o : ℕ} (at : Facing F slice exists n c e o) where
   -- the rows from segment o on

@@ -1,12 +1,10 @@
 -- What a search for the rows that one body has and another has not finds, in segments of w rows.
 -- Assumes nothing.
-use Rattle.std.specs.Prelude.{ℕ, ◌+◌, ◌*◌, ◌^◌, ◌≤◌, ◌<◌, Bool, true, false, not, ◌&&◌, ◌≡◌, List}
+use Rattle.std.specs.Prelude.{ℕ, ◌+◌, ◌*◌, ◌^◌, ◌≤◌, ◌<◌, Bool, true, false, not, ◌&&◌, ◌≡◌, List, Option, Some, None}
 use Rattle.meaning.specs.Segment.{is_set}
 use Rattle.meaning.specs.Format.{rows_of}
 use Rattle.meaning.specs.declared.Format.{Format}
 use Rattle.meaning.specs.Question.{difference}
-use Rattle.column.specs.declared.outside.Found.{Found}
-use Rattle.column.specs.declared.outside.Found.TheVariants as found
 use Rattle.column.specs.declared.outside.Seen.{Seen}
 use Rattle.column.specs.declared.outside.Seen.TheVariants as seen
 
@@ -43,9 +41,9 @@ pub record Lowest (n : ℕ) (p : ℕ → Bool) (r : ℕ) : Type 0 where
   pub before : NoneBelow r p
 
 -- what is told of n rows
-abbrev pub FoundIn : (n : ℕ) (p : ℕ → Bool) → Found → Type 0
-FoundIn n p (found.Row r) = Lowest n p r
-FoundIn n p found.Nothing = NoneBelow n p
+abbrev pub FoundIn : (n : ℕ) (p : ℕ → Bool) → Option ℕ → Type 0
+FoundIn n p (Some r) = Lowest n p r
+FoundIn n p None = NoneBelow n p
 
 -- what is told of the next n segments: if there is no row in the first of them, of how many that holds
 abbrev pub SeenIn : (w n : ℕ) (p : ℕ → Bool) → Seen → Type 0

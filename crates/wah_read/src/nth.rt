@@ -9,7 +9,6 @@ ghost use Rattle.laws.specs.Demands.{IsNth};
 ghost use Rattle.answers.specs.Told.{found_of};
 
 use crate::count;
-use answers::answer::Found;
 use wah::word;
 use words::bits;
 
@@ -18,34 +17,25 @@ fn nth_in_word(x: u32, k: u32) -> u32
     requires { k < ones 31 (wah_segments (x ∷ [])) }
     ensures { IsNth (length (wah_segments (x ∷ [])) * 31) (has_row 31 (wah_segments (x ∷ []))) k result }
 {
-    if word::is_fill(x) {
-        return k;
-    }
-    bits::nth(x, k)
+    if word::is_fill(x) { k } else { bits::nth(x, k) }
 }
 
 // The nth set row, from 0. Where the bit that is found lies past the last row it is a pad bit, and not so many rows are
 // set.
-pub fn nth(body: &[u32], rows: u32, n: u32) -> Found
+pub fn nth(body: &[u32], rows: u32, n: u32) -> Option<u32>
     requires { (rows ≤ most_rows) × WahFacts rows body.now }
     ensures { found_of result ≡ ask_nth rows (wah_rows body.now) n }
 {
-    let mut at = 0;
     let mut behind = 0;
     let mut ahead = n;
-    while at < body.len() {
-        let x = body[at];
+    for &x in body {
         let here = count::count_word(x);
         if ahead < here {
             let row = behind * 31 + nth_in_word(x, ahead);
-            if row < rows {
-                return Found::Row(row);
-            }
-            return Found::Past;
+            return if row < rows { Some(row) } else { None };
         }
         ahead -= here;
         behind += word::size(x);
-        at += 1;
     }
-    Found::Past
+    None
 }

@@ -8,6 +8,3 @@ use Rattle.column.proofs.value.Given as goal
 
 abbrev pub invariant-loop-i : goal.invariant-loop-i
 invariant-loop-i l = (1 ≤ l.i) × (l.i ≤ length l.list) × (l.v < 2 ^ (length l.list - l.i)) × (l.v ≡ value_from l.index l.list l.row l.i)
-
-abbrev pub decreases-loop-i : goal.decreases-loop-i
-decreases-loop-i l = l.i

@@ -184,15 +184,15 @@ overflow_add-o c =
 pub returns-in-Row : goal.returns-in-Row
 returns-in-Row c = c.row_below.ensures _ _ (row-found c.before.before)
 
-pub pass-d-requires : goal.pass-d-requires
-pass-d-requires c =
+pub pass-c-requires : goal.pass-c-requires
+pass-c-requires c =
     let m = clear-size c.before in record {
       in_order = c.loop-o.invariant.slice_at.in_order;
       le_n = (m.0, omega (arith, m.1, c.common-n.ensures.1), slice-room c.before.before.before _ m.0 m.1);
     }
 
-pub pass-f-requires : goal.pass-f-requires
-pass-f-requires c =
+pub pass-e-requires : goal.pass-e-requires
+pass-e-requires c =
     let m = clear-size c.before.before in record {
       in_order = c.loop-o.invariant.exists-at.in_order;
       le_n = (m.0, omega (arith, m.1, c.common-n.ensures.2), exists-room c.before.before.before.before _ m.0 m.1);
@@ -210,7 +210,7 @@ pub loop-o-preserved : goal.loop-o-preserved
 loop-o-preserved c =
     let g = c.loop-o.invariant in
     going_on g _ (within c.before.before.before.before.before) c.look-seen.result (seen c.before.before.before.before) _ c.in-Clear.is _ _
-    c.pass-d.ensures c.pass-f.ensures
+    c.pass-c.ensures c.pass-e.ensures
 
 pub returns : goal.returns
 returns c =

@@ -1,9 +1,8 @@
 -- `ewah::cursor::load` meets its contract. The loop's invariant: the pieces from the marker at word `at` on are those that
 -- were asked for.
 -- Assumes nothing.
-use Prim.Native.Nat.{◌-◌, ◌≤◌}
 use mathlib.Core.Path.{◌≡◌}
-use lib.ListN.{length, drop}
+use lib.ListN.{drop}
 use Rattle.meaning.specs.Ewah.{pieces}
 use Rattle.ewah.proofs.cursor.load.Given as goal
 

@@ -6,5 +6,5 @@ use Rattle.wah.proofs.word.size.Goals as goal
 pub returns-then-is_fill : goal.returns-then-is_fill
 returns-then-is_fill c = c.read.ensures.count-is ∙ sym (fill-size c.args.x (sym c.is_fill.ensures ∙ c.if-is_fill.true))
 
-pub returns : goal.returns
-returns c = sym (literal-size c.args.x (sym c.is_fill.ensures ∙ c.if-is_fill.false))
+pub returns-else-is_fill : goal.returns-else-is_fill
+returns-else-is_fill c = sym (literal-size c.args.x (sym c.is_fill.ensures ∙ c.if-is_fill.false))

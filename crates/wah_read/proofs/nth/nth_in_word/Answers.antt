@@ -23,8 +23,8 @@ pub nth-requires : goal.nth-requires
 nth-requires c =
     omega (arith, c.requires, literal-ones c.args.x (sym c.is_fill.ensures ∙ c.if-is_fill.false))
 
-pub returns : goal.returns
-returns c =
+pub returns-else-is_fill : goal.returns-else-is_fill
+returns-else-is_fill c =
     let x = c.args.x in
     let k = c.args.k in
     let is = sym c.is_fill.ensures ∙ c.if-is_fill.false in
