@@ -3,12 +3,12 @@
 use Prim.Native.Nat.{ℕ, ◌+◌, ◌-◌, ◌^◌, ◌≤◌, ◌<◌}
 use mathlib.Core.Bool.{Bool}
 use mathlib.Core.Path.{◌≡◌, refl, sym, ap, ◌∙◌}
-use mathlib.Core.List.{List, []}
+use mathlib.Core.List.{List, [], ◌++◌}
 use borrow.Author.Rules.{rules}
 use borrow.Rule.Slice.PartMut.{put_mid}
 use lib.ListN.{length, get_or, take, drop, set, replicate, length-set, length-drop}
-use lib.Seq.{get_or-set_same, get_or-set_other, length-take-le}
-use Rattle.std.proofs.lemmas.List.{places, get_or-replicate}
+use lib.Seq.{get_or-take, get_or-set_same, get_or-set_other, length-take-le}
+use Rattle.std.proofs.lemmas.List.{places, get_or-replicate, get_or_append_left}
 use Rattle.std.proofs.lemmas.Slice.{between_is, between-put_mid, take-put_mid_below, drop-put_mid}
 use native.Mathlib.Decide.{dec_le}
 use native.Mathlib.Omega.{arith}
@@ -130,4 +130,21 @@ module _ (F : Format) (mask : ℕ) (starts old : List ℕ) (wsₒ : List Writer)
       others = λ i l. g.ahead i (omega arith);
       front = g.front;
       back = g.back;
+    }
+
+-- what the first c writers got, they got among all
+pub emitted-part : {F : Format} {real : ℕ} {starts out out' : List ℕ} {ws ys : List Writer} {c : ℕ} {ss : ℕ → List Segment} {store : Bool}
+    → c ≤ length ws → EmittedAll F real starts out out' (take c ws) ys (length (take c ws)) ss store
+    → EmittedAll F real starts out out' ws (ys ++ drop c ws) c ss store
+emitted-part {ws = ws} {ys = ys} {c = c} h g =
+    let long : length (take c ws) ≡ c = length-take-le c ws h in
+    let here : length ys ≡ c = g.writers-long ∙ long in
+    record {
+      long = g.long;
+      writers-long = search (rules, places);
+      each = λ i l.
+          rw (← get_or-take c ws i no_writer l, get_or_append_left ys (drop c ws) no_writer i (omega arith)) (g.each i (omega arith));
+      others = λ i l. search (rules, places);
+      front = g.front;
+      back = rw long at g.back;
     }

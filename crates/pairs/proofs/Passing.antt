@@ -12,10 +12,11 @@ use Rattle.meaning.specs.declared.Format.{Format}
 use Rattle.meaning.specs.Index.{format_of, row_count}
 use Rattle.column_meaning.specs.Column.{pair_value}
 use Rattle.meaning.specs.declared.Pairing.{Pairing}
-use Rattle.meaning.specs.Limits.{block_segments, most_segments, most_value_column, writers_numbers}
+use Rattle.meaning.specs.Limits.{block_segments, most_segments, most_value_column}
 use Rattle.laws.proofs.Formats.{segments-most}
 use Rattle.adder.specs.Digits.{Paired}
 use Rattle.ewah.specs.Cursors.{left_of}
+use Rattle.ewah_write.specs.declared.writer.Writer.{Writer}
 use Rattle.body_write.specs.Bodies.{Stands, Growing, RoomFor, UpTo}
 use Rattle.body_write.proofs.UpTo.{up_none, up-growing, up_room, up_more, up-used, up-all}
 use Rattle.walk.specs.Queries.{cursor_of}
@@ -24,7 +25,7 @@ use Rattle.blocks.specs.Blocks.{Chosen, BlockOf, Walking}
 use Rattle.blocks.proofs.Segmented.{segs, segs-length}
 use Rattle.blocks.proofs.Walks.{S, all_alike, run-low}
 use Rattle.new_index.specs.Writers.{row_of, writer_of, region, Laid, EmittedAll}
-use Rattle.new_index.proofs.Regions.{region-length}
+use Rattle.new_index.proofs.Regions.{region-length, emitted-part}
 use Rattle.pairs.specs.Passes.{Columns, body_of, PassedTo}
 use Rattle.pairs.specs.Spellings.{Spelled}
 use Rattle.pairs.proofs.Blocks.{sets}
@@ -42,11 +43,11 @@ body_is op index first second n i = unfold canonical in refl
 
 module _ (op : Pairing) (index first second : List ℕ) (n : ℕ) (starts old : List ℕ) (store : Bool) where
   -- both lists' cursors stand at segment o, and of each body the first o segments are put, in its part of the buffer
-  pub record Passing (out ns1 ns2 ws : List ℕ) (o : ℕ) : Type 0 where
+  pub record Passing (out ns1 ns2 : List ℕ) (ws : List Writer) (o : ℕ) : Type 0 where
     pub here : o ≤ S index
     pub first-walking : Walking index first ns1 o
     pub second-walking : Walking index second ns2 o
-    pub numbers-long : length ws ≡ writers_numbers
+    pub writers-long : length ws ≡ most_value_column
     pub bodies : (i : ℕ) → i ≤ n
         → UpTo (format_of index) (row_count index) (own_segments op index first second n i) store
         (region starts old i) (region starts out i) (writer_of ws i) o
@@ -54,14 +55,14 @@ module _ (op : Pairing) (index first second : List ℕ) (n : ℕ) (starts old : 
     pub front : take (get_or starts 0 0) out ≡ take (get_or starts 0 0) old
     pub back : drop (get_or starts (n + 1) 0) out ≡ drop (get_or starts (n + 1) 0) old
 
-  pub passing-none : (ns1 ns2 ws : List ℕ) → Columns index first second n → Walking index first ns1 0
-      → Walking index second ns2 0 → length ws ≡ writers_numbers → {f : Format} → f ≡ format_of index
+  pub passing-none : (ns1 ns2 : List ℕ) (ws : List Writer) → Columns index first second n → Walking index first ns1 0
+      → Walking index second ns2 0 → length ws ≡ most_value_column → {f : Format} → f ≡ format_of index
       → ((i : ℕ) → i < most_value_column → Stands f (writer_of ws i) []) → Passing old ns1 ns2 ws 0
   passing-none ns1 ns2 ws cs a b h e g = record {
     here = omega arith;
     first-walking = a;
     second-walking = b;
-    numbers-long = h;
+    writers-long = h;
     bodies = λ i l.
         up_none (row_count index) (own_segments op index first second n i) store (region starts old i)
         (subst (λ (F : Format). Stands F (writer_of ws i) []) e (g i (omega (arith, cs.few))));
@@ -71,7 +72,7 @@ module _ (op : Pairing) (index first second : List ℕ) (n : ℕ) (starts old : 
   }
 
 -- what a writer of the format f may be given: m segments of each body
-abbrev MayEmit : (starts out ws z : List ℕ) (n m : ℕ) (even store : Bool) → Format → Type 0
+abbrev pub MayEmit : (starts out : List ℕ) (ws : List Writer) (z : List ℕ) (n m : ℕ) (even store : Bool) → Format → Type 0
 MayEmit starts out ws z n m even store f =
     (m ≤ most_run f)
     × ((i : ℕ) → i < n + 1 → Growing f (writer_of ws i) m)
@@ -80,7 +81,7 @@ MayEmit starts out ws z n m even store f =
     → RoomFor f (row_of f z m even i) (writer_of ws i) (length (region starts out i)))
 
 module _ {op : Pairing} {index first second : List ℕ} {n : ℕ} {starts old : List ℕ} {store : Bool}
-    {out ns1 ns2 ws : List ℕ} {o : ℕ} (cs : Columns index first second n) (g : Passing op index first second n starts old store out ns1 ns2 ws o) where
+    {out ns1 ns2 : List ℕ} {ws : List Writer} {o : ℕ} (cs : Columns index first second n) (g : Passing op index first second n starts old store out ns1 ns2 ws o) where
   abbrev F : Format
   F = format_of index
 
@@ -149,17 +150,17 @@ module _ {op : Pairing} {index first second : List ℕ} {n : ℕ} {starts old : 
 
       pub passing-more : {f : Format} → f ≡ format_of index → {mask : ℕ}
           → mask ≡ all_set (rows_in (width (format_of index)) (row_count index) (o + m - 1))
-          → {out' ws' ns1' ns2' : List ℕ}
+          → {out' ns1' ns2' : List ℕ} {ys : List Writer}
           → ((real : ℕ) → mask ≡ 2 ^ real - 1
-          → EmittedAll f real starts out out' ws ws' (n + 1) (row_of f z' m even) store)
+          → EmittedAll f real starts out out' (take (n + 1) ws) ys (length (take (n + 1) ws)) (row_of f z' m even) store)
           → Walking index first ns1' (o + m) → Walking index second ns2' (o + m)
-          → Passing op index first second n starts old store out' ns1' ns2' ws' (o + m)
+          → Passing op index first second n starts old store out' ns1' ns2' (ys ++ drop (n + 1) ws) (o + m)
       unfolding all_set
-      passing-more {f} is {mask} rows {out'} {ws'} put w1 w2 = record {
+      passing-more {f} is {mask} rows {out'} {ns1'} {ns2'} {ys} put w1 w2 = record {
         here = ch.within;
         first-walking = w1;
         second-walking = w2;
-        numbers-long = em.numbers-long ∙ g.numbers-long;
+        writers-long = em.writers-long ∙ g.writers-long;
         bodies = λ i h.
             up_more (g.bodies i h) m few _ (row_is i h) ch.some ch.within (em.each i (omega arith));
         long = em.long ∙ g.long;
@@ -170,10 +171,10 @@ module _ {op : Pairing} {index first second : List ℕ} {n : ℕ} {starts old : 
           real : ℕ
           real = rows_in (width F) R (o + m - 1)
 
-          em : EmittedAll F real starts out out' ws ws' (n + 1) (row_of F z' m even) store
+          em : EmittedAll F real starts out out' ws (ys ++ drop (n + 1) ws) (n + 1) (row_of F z' m even) store
           em =
-              subst (λ (G : Format). EmittedAll G real starts out out' ws ws' (n + 1) (row_of G z' m even) store) is
-              (put real rows)
+              subst (λ (G : Format). EmittedAll G real starts out out' ws (ys ++ drop (n + 1) ws) (n + 1) (row_of G z' m even) store) is
+              (emitted-part (omega (arith, g.writers-long, cs.few)) (put real rows))
 
   -- ---- the end
   module _ (l : S index ≤ o) where
@@ -183,7 +184,7 @@ module _ {op : Pairing} {index first second : List ℕ} {n : ℕ} {starts old : 
     pub passing-all : PassedTo op index first second n starts old out ws store
     passing-all = record {
       long = g.long;
-      numbers-long = g.numbers-long;
+      writers-long = g.writers-long;
       used = λ i h. up-used (g.bodies i h) (long i) end ∙ ap length (body_is op index first second n i);
       stored = λ e i h.
           subst (λ (b : List ℕ). region starts out i ≡ b ++ drop (length b) (region starts old i))

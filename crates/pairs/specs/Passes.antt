@@ -1,7 +1,7 @@
 -- What one pass over two columns gives: the bodies of what an operation makes of them, measured or written.
 -- Assumes nothing.
 use Rattle.std.specs.Prelude.{ℕ, ◌+◌, ◌≤◌, ◌<◌, Bool, true, ◌≡◌, List, ◌++◌, length, get_or, take, drop}
-use Rattle.meaning.specs.Limits.{least_column, most_value_column, block_segments, writers_numbers}
+use Rattle.meaning.specs.Limits.{least_column, most_value_column, block_segments}
 use Rattle.meaning.specs.Format.{canonical}
 use Rattle.meaning.specs.Index.{format_of, row_count}
 use Rattle.laws.specs.Laws.{IndexFacts}
@@ -10,6 +10,7 @@ use Rattle.meaning.specs.Rows.{none}
 use Rattle.meaning.specs.declared.Pairing.{Pairing}
 use Rattle.ewah.specs.Cursors.{left_of}
 use Rattle.walk.specs.Queries.{cursor_of, Listed}
+use Rattle.ewah_write.specs.declared.writer.Writer.{Writer}
 use Rattle.new_index.specs.Writers.{writer_of, region}
 
 -- two columns of a sound index, neither of more than n slices
@@ -35,9 +36,9 @@ body_of op index first second n i =
 
 -- the words of each body are counted, and stand in their part of the buffer where they are stored; what lies before the first part
 -- and behind the last is as it was
-pub record PassedTo (op : Pairing) (index first second : List ℕ) (n : ℕ) (starts old out ws : List ℕ) (store : Bool) : Type 0 where
+pub record PassedTo (op : Pairing) (index first second : List ℕ) (n : ℕ) (starts old out : List ℕ) (ws : List Writer) (store : Bool) : Type 0 where
   pub long : length out ≡ length old
-  pub numbers-long : length ws ≡ writers_numbers
+  pub writers-long : length ws ≡ most_value_column
   pub used : (i : ℕ) → i ≤ n → (writer_of ws i).used ≡ length (body_of op index first second n i)
   pub stored : store ≡ true → (i : ℕ) → i ≤ n
       → region starts out i ≡ body_of op index first second n i ++ drop (length (body_of op index first second n i)) (region starts old i)

@@ -5,7 +5,6 @@ ghost use Rattle.walk.specs.Queries.{PlacesIn};
 ghost use Rattle.pairs.specs.Passes.{Near};
 
 use meaning::BLOCK_SEGMENTS;
-use walk::survey;
 
 // Among m places of one query and n of another. Where one of the first ends within a block the others are not looked
 // at: a block it is.
@@ -15,8 +14,8 @@ pub fn nearest(p: &[u32], m: usize, q: &[u32], n: usize) -> u32
     ensures { Near p.now m q.now n result }
 {
     let near = gather::nearest(p, m);
-    if contents::wide(near) < BLOCK_SEGMENTS {
+    if (near as usize) < BLOCK_SEGMENTS {
         return near;
     }
-    survey::smaller(near, gather::nearest(q, n))
+    near.min(gather::nearest(q, n))
 }

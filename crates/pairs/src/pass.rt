@@ -5,11 +5,11 @@ ghost use Rattle.pairs.specs.Passes.{Columns, body_of, PassedTo};
 
 use crate::{nearest, spell};
 use blocks::choose;
-use meaning::{BLOCK_WORDS, Pairing, SHORT_NUMBERS};
+use ewah_write::writer::Writer;
+use meaning::{BLOCK_WORDS, MOST_VALUE_COLUMN, Pairing, SHORT_NUMBERS};
 use new_index::writers;
-use new_index::writers::Writers;
 use walk::survey;
-use words::rows;
+use words::frame::Frame;
 
 // The rows that exist and the answer's n slices, each to its own part of `out` where `store` says so, and else only measured.
 pub fn pass(
@@ -21,19 +21,16 @@ pub fn pass(
     out: &mut [u32],
     starts: &[usize],
     store: bool,
-) -> Writers
+) -> [Writer; MOST_VALUE_COLUMN]
     requires columns { Columns index.now first.now second.now n }
     requires laid { Laid starts.now (n + 1) (length out.old) }
     requires i_in_bounds { store ≡ true → (i : ℕ) → i ≤ n
         → length (body_of op index.now first.now second.now n i) ≤ length (region starts.now out.old i) }
     ensures { PassedTo op index.now first.now second.now n
-        starts.now out.old out.new result.numbers store }
+        starts.now out.old out.new result store }
 {
-    let format = contents::format(index);
-    let rows = contents::rows(index);
-    let segments = rows::segments(format, rows);
-    let full = rows::full(format);
-    let last = rows::last_mask(format, rows);
+    let f = Frame::of(contents::format(index), contents::rows(index));
+    let format = f.format;
     let mut p: [u32; SHORT_NUMBERS] = [0; SHORT_NUMBERS];
     let mut q: [u32; SHORT_NUMBERS] = [0; SHORT_NUMBERS];
     survey::open(format, index, first, &mut p);
@@ -44,30 +41,19 @@ pub fn pass(
     let mut z: [u32; BLOCK_WORDS] = [0; BLOCK_WORDS];
     let mut run = false;
     let mut o: u32 = 0;
-    while o < segments {
+    // Kept: a turn goes on by a block or a run, however long that is; a `for` has no such step.
+    while o < f.segments {
         let near = nearest::nearest(&p, first.len(), &q, second.len());
-        let s = choose::choose(near, o, segments, run);
-        let m = s.n;
-        let even = s.even;
-        let mask = rows::mask_before(full, last, segments, o + m);
-        gather::gather(format, index, first, &mut p, m, even, &mut x);
-        gather::gather(format, index, second, &mut q, m, even, &mut y);
+        let s = choose::choose(near, o, f.segments, run);
+        let mask = f.mask(o + s.n);
+        gather::gather(format, index, first, &mut p, s.n, s.even, &mut x);
+        gather::gather(format, index, second, &mut q, s.n, s.even, &mut y);
         adder::pair(op, &x, &y, &mut z, n);
-        spell::spell(&mut z, n + 1, m, even, mask, full);
-        writers::emit_all(
-            format,
-            out,
-            starts,
-            &mut ws.numbers,
-            &z,
-            n + 1,
-            m,
-            even,
-            mask,
-            store,
-        );
-        run = even;
-        o += m;
+        spell::spell(&mut z, n + 1, s, mask, f.full);
+        let own = &mut ws[..n + 1];
+        writers::emit_all(format, out, starts, own, &z, s.n, s.even, mask, store);
+        run = s.even;
+        o += s.n;
     }
     ws
 }

@@ -6,6 +6,7 @@ ghost use Rattle.meaning.specs.Format.{width};
 ghost use Rattle.meaning.specs.declared.Format.{Format};
 ghost use Rattle.pairs.specs.Spellings.{WordsSpelled, Spelled};
 
+use blocks::choose::Step;
 use meaning::{BLOCK_SEGMENTS, BLOCK_WORDS};
 use words::rows;
 
@@ -16,28 +17,23 @@ fn spell_each(z: &mut [u32; BLOCK_WORDS], count: usize, w: usize, mask: u32, ful
     ensures { (F : Format) → full ≡ all_set (width F)
         → WordsSpelled F z.old count w mask z.new }
 {
-    let mut i: usize = 0;
-    while i < count {
+    for i in 0..count {
         let at = i * BLOCK_SEGMENTS + w;
         z[at] = rows::spelled(z[at], mask, full);
-        i += 1;
     }
 }
 
-// The next n segments, a row for each of `count` bodies, of whose last one the mask has the rows. The words of a run
+// The segments of a step, a row for each of `count` bodies, of whose last one the mask has the rows. The words of a run
 // are all zeros or all ones, over pad bits too, and stay.
-pub fn spell(z: &mut [u32; BLOCK_WORDS], count: usize, n: u32, even: bool, mask: u32, full: u32)
-    requires { (1 ≤ n) × (length z.old ≡ block_words) × (count ≤ most_value_column)
-        × (even ≡ false → n ≤ block_segments) }
-    ensures { (F : Format) (R o : ℕ) → full ≡ all_set (width F) → o + n ≤ segment_count (width F) R
-        → mask ≡ all_set (rows_in (width F) R (o + n - 1))
-        → Spelled F R o n even z.old count z.new }
+pub fn spell(z: &mut [u32; BLOCK_WORDS], count: usize, s: Step, mask: u32, full: u32)
+    requires { (1 ≤ s.n) × (length z.old ≡ block_words) × (count ≤ most_value_column)
+        × (s.even ≡ false → s.n ≤ block_segments) }
+    ensures { (F : Format) (R o : ℕ) → full ≡ all_set (width F) → o + s.n ≤ segment_count (width F) R
+        → mask ≡ all_set (rows_in (width F) R (o + s.n - 1))
+        → Spelled F R o s.n s.even z.old count z.new }
 {
-    if even {
+    if s.even || mask == full {
         return;
     }
-    if mask == full {
-        return;
-    }
-    spell_each(z, count, contents::wide(n) - 1, mask, full);
+    spell_each(z, count, s.n as usize - 1, mask, full);
 }

@@ -139,15 +139,9 @@ module _ (index : List ℕ) where
 
 -- the part of r that is lent as a list of numbers
 abbrev top_part : (list r : List ℕ) (from : ℕ) → List ℕ
-top_part list r from = take (length list - from + 1 - 0) r
+top_part list r from = take (length list - from + 1) r
 
 module _ (list r : List ℕ) (from : ℕ) (t : Top list from r) where
-  -- those are its numbers
-  top_part_lem : top_part list r from ≡ top_of list from
-  top_part_lem =
-      let n : length list - from + 1 - 0 ≡ length list - from + 1 = omega arith in
-      ap (λ (k : ℕ). take k r) n ∙ t
-
   -- it is a column, and a value of as many digits fits it
   pub top-fits : {index : List ℕ} (m : ℕ) → Column index list → 1 ≤ from → from < length list
       → m < 2 ^ (length list - from)
@@ -155,14 +149,14 @@ module _ (list r : List ℕ) (from : ℕ) (t : Top list from r) where
   unfolding slice_count
   top-fits {index} m g l h v =
       let slices : length (top_of list from) - 1 ≡ length list - from = omega (arith, top-length list from l) in
-      rw (top_part_lem, slices) (top-column list from l g h, v)
+      rw (t, slices) (top-column list from l g h, v)
 
   -- what is counted in it
   pub top-counted : (index : List ℕ) (c m : ℕ) → 1 ≤ from → from < length list
       → c ≡ count_below (row_count index)
       (level (existing index (top_part list r from)) (value_at index (top_part list r from)) m)
       → c ≡ level_from (row_count index) (existing index list) (value_at index list) (from - 1) m
-  top-counted index c m l h e = rw top_part_lem at e ∙ top_count index list from m l h
+  top-counted index c m l h e = rw t at e ∙ top_count index list from m l h
 
 -- ---- one digit more
 

@@ -10,8 +10,8 @@ use Rattle.pairs.proofs.pass.pass.Given as goal
 
 abbrev pub invariant-loop-o : goal.invariant-loop-o
 invariant-loop-o l =
-    Passing l.op l.index l.first l.second l.n l.starts l.initial.out l.store l.out l.p l.q l.ws.numbers l.o
+    Passing l.op l.index l.first l.second l.n l.starts l.initial.out l.store l.out l.p l.q l.ws l.o
     × (length l.z ≡ block_words) × Cleared l.first l.x × Cleared l.second l.y
 
 abbrev pub decreases-loop-o : goal.decreases-loop-o
-decreases-loop-o l = l.segments - l.o
+decreases-loop-o l = l.f.segments - l.o
