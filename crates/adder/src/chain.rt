@@ -12,7 +12,7 @@ use words::{bits, vectors};
 // The sum of each word of the rows of x and y: which rows exist in both, and the n digits of their sums. Where FLIP says so their
 // difference in two's complement: y's digits are flipped, and one more is carried into the lowest. Of a difference the last carry,
 // which is returned, is set where nothing had to be borrowed: where x is no less than y.
-fn add_rows<const FLIP: bool>(
+pub fn add_rows<const FLIP: bool>(
     x: &[u32; BLOCK_WORDS],
     y: &[u32; BLOCK_WORDS],
     z: &mut [u32; BLOCK_WORDS],
@@ -37,28 +37,4 @@ fn add_rows<const FLIP: bool>(
         carry = carries;
     }
     carry
-}
-
-// The sum.
-pub fn sum(x: &[u32; BLOCK_WORDS], y: &[u32; BLOCK_WORDS], z: &mut [u32; BLOCK_WORDS], n: usize)
-    requires { (n < most_value_column) × (length x.now ≡ block_words)
-        × (length y.now ≡ block_words) × (length z.old ≡ block_words) }
-    ensures { Paired (pair_value Sum) x.now y.now n z.new }
-{
-    add_rows::<false>(x, y, z, n);
-}
-
-// The difference, and where x is no less than y.
-pub fn difference(
-    x: &[u32; BLOCK_WORDS],
-    y: &[u32; BLOCK_WORDS],
-    z: &mut [u32; BLOCK_WORDS],
-    n: usize,
-) -> [u32; BLOCK_SEGMENTS]
-    requires { (n < most_value_column) × (length x.now ≡ block_words)
-        × (length y.now ≡ block_words) × (length z.old ≡ block_words) }
-    ensures { Paired (pair_value Difference) x.now y.now n z.new
-        × NotLess x.now y.now n result }
-{
-    add_rows::<true>(x, y, z, n)
 }

@@ -31,7 +31,7 @@ pub fn smaller(x: &[u32; BLOCK_WORDS], y: &[u32; BLOCK_WORDS], z: &mut [u32; BLO
         × (length y.now ≡ block_words) × (length z.old ≡ block_words) }
     ensures { Paired (pair_value Smaller) x.now y.now n z.new }
 {
-    let not_less = chain::difference(x, y, z, n);
+    let not_less = chain::add_rows::<true>(x, y, z, n);
     let exist = vectors::part(z, 0);
     for i in 0..n {
         let at = (i + 1) * BLOCK_SEGMENTS;
@@ -51,7 +51,7 @@ pub fn difference_or_zero(
         × (length y.now ≡ block_words) × (length z.old ≡ block_words) }
     ensures { Paired (pair_value DifferenceOrZero) x.now y.now n z.new }
 {
-    let not_less = chain::difference(x, y, z, n);
+    let not_less = chain::add_rows::<true>(x, y, z, n);
     for i in 0..n {
         let at = (i + 1) * BLOCK_SEGMENTS;
         let digits = vectors::part::<BLOCK_SEGMENTS>(z, at);

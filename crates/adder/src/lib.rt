@@ -28,10 +28,10 @@ pub fn pair(
 {
     match op {
         Pairing::Sum => {
-            chain::sum(x, y, z, n);
+            chain::add_rows::<false>(x, y, z, n);
         }
         Pairing::Difference => {
-            chain::difference(x, y, z, n);
+            chain::add_rows::<true>(x, y, z, n);
         }
         Pairing::Smaller => {
             choose::smaller(x, y, z, n);

@@ -3,8 +3,8 @@
 -- however they were counted.
 -- Assumes nothing.
 use Prim.Native.Nat.{ℕ, zero, suc, ◌+◌, ◌-◌, ◌*◌, ◌≤◌, ◌<◌}
-use mathlib.Core.Path.{◌≡◌, refl, sym, ap, ap₂, ◌∙◌, subst}
-use mathlib.Core.List.{List, []}
+use mathlib.Core.Path.{◌≡◌, refl, sym, ap, ap₂, ◌∙◌}
+use mathlib.Core.List.{List, [], ◌∷◌}
 use lib.ListN.{length, take, drop, get_or, replicate, length-drop}
 use lib.Pow.{pow_pos}
 use lib.Seq.{take-length, drop-drop, get_or-drop}
@@ -28,21 +28,15 @@ use Rattle.laws.proofs.RowWords.{segments-few}
 use Rattle.ewah.specs.Markers.{FieldsOf}
 use Rattle.ewah.specs.declared.marker.Marker.{Marker}
 use Rattle.ewah.proofs.MarkerStep.{read_step}
-use Rattle.meaning.specs.Ewah.{due_after}
-use Rattle.std.specs.Prelude.{Option, None, Some, IsSome}
-use Rattle.std.specs.Borrow.{Bor}
-use Rattle.ewah.specs.declared.marker.Markers.{Markers}
-use Rattle.ewah.specs.Taken.{MarkerFirst, TakesMarker}
-use Rattle.ewah.proofs.Taking.{Left, left-fields, left_words, left-behind}
 use Rattle.ewah_count.specs.Pads.{pads_set}
-use Rattle.ewah_count.specs.Walked.{Walked}
 use Rattle.laws.proofs.Pads.{pads-none, pads-all}
 use Rattle.ewah_count.proofs.LastSegment.{behind-words, last_word, behind-run, pads-clean, pads-dirty}
 
--- where there are no dirty words, none of their bits are set
-pub none-set : (b : List ℕ) (from to : ℕ) → to ≡ from → ones 32 (take (to - from) (drop from b)) ≡ 0
+-- of no words none are set
+pub none-set : (ws : List ℕ) → length ws ≡ 0 → ones 32 ws ≡ 0
 unfolding ones
-none-set b from to e = let z : to - from ≡ 0 = omega (arith, e) in rw z refl
+none-set [] e = refl
+none-set (x ∷ ws) e = absurd (omega arith)
 
 -- ---- where the count stands
 
@@ -121,6 +115,10 @@ module _ {R : ℕ} {b : List ℕ} {i left n last : ℕ} {m : Marker} (g : Read R
   pub dirty-few : m.dirty ≤ most_segments
   dirty-few = omega (arith, segments-fit, g.passed.all, g.passed.few)
 
+  -- as code lends them too
+  pub part-few : length (take (i + 1 + m.dirty - (i + 1)) (drop (i + 1) b)) ≤ most_segments
+  part-few = omega (arith, mid_len (i + 1) (i + 1 + m.dirty) b g.over.fits, dirty-few)
+
   -- ---- a dirty word that is last sets no pad bit
 
   abbrev rest : List ℕ
@@ -191,7 +189,7 @@ module _ {R : ℕ} {b : List ℕ} {i left n last : ℕ} {m : Marker} (g : Read R
 
   module _ (r w : ℕ)
       (run : r ≡ ones 32 (replicate m.clean (fill 32 m.value)))
-      (dirty : w ≡ ones 32 (take m.dirty (drop (i + 1) b))) where
+      (dirty : w ≡ ones 32 (take (i + 1 + m.dirty - (i + 1)) (drop (i + 1) b))) where
     up-to-next : n + (r + w) ≡ ones 32 (take (g.passed.behind + m.clean + m.dirty) (segments b))
     up-to-next =
         omega (
@@ -199,6 +197,7 @@ module _ {R : ℕ} {b : List ℕ} {i left n last : ℕ} {m : Marker} (g : Read R
           g.passed.counted,
           run,
           dirty,
+          ap (ones 32) (part-is b (i + 1) m.dirty),
           ones-append 32 (replicate m.clean (fill 32 m.value)) (take m.dirty (drop (i + 1) b)),
           ones_step b i g.passed.behind m.value m.clean m.dirty g.over,
         )
@@ -224,66 +223,3 @@ module _ {R : ℕ} {b : List ℕ} {i left n last : ℕ} {m : Marker} (g : Read R
       clear = next-clear;
       padded = λ z. its-pads (omega (arith, segments-fit));
     }
-
--- ---- a walk that takes marker by marker off the front
-
--- what is left of the body; the marker read last is `last`
-pub record Walking (R : ℕ) (b rest : List ℕ) (left n : ℕ) (last : Marker) : Type 0 where
-  pub at : ℕ
-  pub is : rest ≡ drop at b
-  pub word : ℕ
-  pub fields : FieldsOf word last
-  pub passed : Passed R b at left n word
-
-pub walking-start : {R : ℕ} {b rest : List ℕ} {left : ℕ} {last : Marker} → R ≤ most_rows → EwahFacts R b → left ≡ segment_count 32 R
-    → rest ≡ b → FieldsOf 0 last → Walking R b rest left 0 last
-walking-start {R} {b} {rest} {left} {last} h s e r f =
-    record { at = 0; is = r; word = 0; fields = f; passed = none_passed R b left h s e }
-
-pub walking-end : {R : ℕ} {b rest : List ℕ} {left n : ℕ} {last : Marker} → Walking R b rest left n last → left ≡ 0 → Walked R b n last
-walking-end g z = record { word = g.word; fields = g.fields; counted = all-passed g.passed z }
-
-module _ {R : ℕ} {b rest : List ℕ} {left n : ℕ} {last : Marker} (g : Walking R b rest left n last) where
-  pub walking-due : due_after 0 rest ≡ 0
-  walking-due = rw g.is g.passed.stands.ended
-
-  -- where a segment is left there is a marker
-  pub walking-some : 0 < left → rest ≡ [] → ⊥
-  walking-some h e =
-      let z : length (drop g.at b) ≡ 0 = ap length (sym g.is ∙ e) in
-      absurd (omega (arith, marker-there g.passed h, length-drop g.at b))
-
-  module _ (h : 0 < left) {m : Marker} {dirty next : List ℕ} (f : MarkerFirst rest m dirty next) where
-    abbrev here : Left b rest g.passed.behind
-    here = record { at = g.at; is = g.is; stands = g.passed.stands }
-
-    pub walking-read : Read R b g.at left n g.word m
-    walking-read = marker-read g.passed h (left-fields here f)
-
-    pub words-few : length dirty ≤ most_segments
-    words-few = omega (arith, f.all, dirty-few walking-read)
-
-    module _ (r w : ℕ) (run : r ≡ ones 32 (replicate m.clean (fill 32 m.value))) (words : w ≡ ones 32 dirty) where
-      own : w ≡ ones 32 (take m.dirty (drop (g.at + 1) b))
-      own = words ∙ ap (ones 32) (sym (left_words here f))
-
-      pub walking-most : n + (r + w) ≤ most_segments * 32
-      walking-most = at_most walking-read r w run own
-
-      pub walking-next : Walking R b next (left - (m.clean + m.dirty)) (n + (r + w)) m
-      walking-next = record {
-        at = g.at + 1 + m.dirty;
-        is = left-behind here f;
-        word = get_or b g.at 0;
-        fields = left-fields here f;
-        passed = let e : left - (m.clean + m.dirty) ≡ left - m.clean - m.dirty = omega arith in rw e (passed-next walking-read r w run own);
-      }
-
--- what the iterator hands out
-pub some-taken : (s : Markers) (o : Option (Marker × Bor (List ℕ))) (t : Markers) → (s.rest.now ≡ [] → ⊥) → TakesMarker s o t → IsSome o
-some-taken s None t h k = absurd (h k.0)
-some-taken s (Some p) t h k = refl
-
-pub was-taken : (s : Markers) (o : Option (Marker × Bor (List ℕ))) (t : Markers) (p : Marker × Bor (List ℕ)) → o ≡ Some p → TakesMarker s o t
-    → MarkerFirst s.rest.now p.0 p.1.now t.rest.now
-was-taken s o t p e k = subst (λ (q : Option (Marker × Bor (List ℕ))). TakesMarker s q t) e k

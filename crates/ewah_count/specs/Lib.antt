@@ -1,2 +1,1 @@
 pub mod Pads
-pub mod Walked

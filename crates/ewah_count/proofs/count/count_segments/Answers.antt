@@ -1,30 +1,27 @@
 -- `ewah_count::count::count_segments` meets its contract, by the laws of `Passing`. Assumes nothing.
-use Prim.Native.Nat.{◌+◌, ◌*◌, ◌≤◌}
 use native.Mathlib.Omega.{arith}
+use Prim.Native.Nat.{◌+◌, ◌*◌, ◌≤◌}
 use Rattle.meaning.specs.Limits.{most_segments}
-use Rattle.ewah.specs.Taken.{MarkerFirst}
-use Rattle.ewah_count.proofs.Passing.{walking-start, walking-end, walking-some, walking-read, walking-most, walking-next, segments-fit, some-taken, was-taken}
+use Rattle.ewah_count.proofs.Passing.{none_passed, marker-there, marker-read, all-passed, dirty-fit, segments-fit, at_most, passed-next}
 use Rattle.ewah_count.proofs.count.count_segments.Given.{Over}
 use Rattle.ewah_count.proofs.count.count_segments.Goals as goal
 
--- the marker that was taken
-taken : (g : Over) (c : goal.After-count_words g)
-    → MarkerFirst c.loop-left.markers.rest.now c.unwrap.result.0 c.unwrap.result.1.now c.next.new.self.rest.now
-taken g c = was-taken c.loop-left.markers c.next.result c.next.new.self c.unwrap.result c.unwrap.ensures c.next.ensures.steps
-
--- the bits counted, with its own
+-- the bits counted, with those of the marker that was read
 counted : (g : Over) (c : goal.After-count_words g)
     → c.loop-left.set + (c.count_run.result + c.count_words.result) ≤ most_segments * 32
 counted g c =
-    walking-most c.loop-left.invariant c.loop-left-test.true (taken g c) _ _ c.count_run.ensures c.count_words.ensures
+    at_most (marker-read c.loop-left.invariant c.loop-left-test.true c.read-m.ensures) _ _ c.count_run.ensures c.count_words.ensures
 
 pub loop-left-init : goal.loop-left-init
 loop-left-init g c =
-    walking-start c.requires.0 c.requires.1 c.segment_count-left.ensures c.of-markers.ensures c.read-last.ensures
+    none_passed c.args.rows c.args.body.now _ c.requires.0 c.requires.1 c.segment_count-left.ensures
 
-pub unwrap-requires : goal.unwrap-requires
-unwrap-requires g c =
-    some-taken c.loop-left.markers c.next.result c.next.new.self (walking-some c.loop-left.invariant c.loop-left-test.true) c.next.ensures.steps
+pub bounds-body-at : goal.bounds-body-at
+bounds-body-at g c = marker-there c.loop-left.invariant c.loop-left-test.true
+
+pub slice_bounds-count_words-end : goal.slice_bounds-count_words-end
+slice_bounds-count_words-end g c =
+    omega (arith, dirty-fit (marker-read c.loop-left.invariant c.loop-left-test.true c.read-m.ensures))
 
 pub overflow_add-set : goal.overflow_add-set
 overflow_add-set g c = omega (arith, counted g c)
@@ -33,11 +30,19 @@ pub overflow_add-set-in-loop-left : goal.overflow_add-set-in-loop-left
 overflow_add-set-in-loop-left g c = omega (arith, counted g c)
 
 pub overflow_sub-left : goal.overflow_sub-left
-overflow_sub-left g c = segments-fit (walking-read c.loop-left.invariant c.loop-left-test.true (was-taken c.loop-left.markers c.next.result c.next.new.self c.unwrap.result c.unwrap.ensures c.next.ensures.steps))
+overflow_sub-left g c =
+    omega (arith, segments-fit (marker-read c.loop-left.invariant c.loop-left-test.true c.read-m.ensures))
+
+pub overflow_sub-left-in-loop-left : goal.overflow_sub-left-in-loop-left
+overflow_sub-left-in-loop-left g c =
+    omega (arith, segments-fit (marker-read c.loop-left.invariant c.loop-left-test.true c.read-m.ensures))
+
+pub loop-left-smaller : goal.loop-left-smaller
+loop-left-smaller g c = omega (arith, marker-there c.loop-left.invariant c.loop-left-test.true)
 
 pub loop-left-preserved : goal.loop-left-preserved
 loop-left-preserved g c =
-    walking-next c.loop-left.invariant c.loop-left-test.true (was-taken c.loop-left.markers c.next.result c.next.new.self c.unwrap.result c.unwrap.ensures c.next.ensures.steps) _ _ c.count_run.ensures c.count_words.ensures
+    passed-next (marker-read c.loop-left.invariant c.loop-left-test.true c.read-m.ensures) _ _ c.count_run.ensures c.count_words.ensures
 
 pub returns : goal.returns
-returns g c = walking-end c.loop-left.invariant (omega (arith, c.loop-left-test.false))
+returns g c = all-passed c.loop-left.invariant (omega (arith, c.loop-left-test.false))

@@ -9,8 +9,8 @@ use Rattle.meaning.specs.Segment.{segment_count}
 use Rattle.ewah_count.proofs.LastSegment.{pads-clean, pads-dirty}
 use Rattle.ewah_count.proofs.count.pads_set.Goals as goal
 
-pub returns-then-last-gt0 : goal.returns-then-last-gt0
-returns-then-last-gt0 c = λ word f. sym (pads-dirty c.args.rows word (omega (arith, f.dirty-is, c.if-last-gt0.true)))
+pub returns-then-m-gt0 : goal.returns-then-m-gt0
+returns-then-m-gt0 c = sym (pads-dirty c.args.rows c.args.last (omega (arith, c.read-m.ensures.dirty-is)))
 
 pub overflow_mul-result : goal.overflow_mul-result
 unfolding segment_count
@@ -24,12 +24,12 @@ pub overflow_mul-result-2 : goal.overflow_mul-result-2
 unfolding segment_count
 overflow_mul-result-2 c =
     let k = c.segment_count.result * 32 - c.args.rows in
-    let one : c.args.last.value ≤ 1 = omega arith in
-    omega (arith, c.segment_count.ensures, c.requires.0, mul-le-mul_right k one)
+    let one : c.read-m.result.value ≤ 1 = omega (arith, c.read-m.ensures.in-range.value_low) in
+    omega (arith, c.segment_count.ensures, c.requires, mul-le-mul_right k one)
 
 pub returns : goal.returns
 returns c =
-    λ word f.
+    let f = c.read-m.ensures in
     let a = c.args in
     ap₂ (λ (v k : ℕ). v * (k * 32 - a.rows)) f.value-is c.segment_count.ensures
-    ∙ sym (pads-clean a.rows word (omega (arith, f.dirty-is, c.if-last-gt0.false)))
+    ∙ sym (pads-clean a.rows a.last (omega (arith, f.dirty-is)))
