@@ -15,6 +15,7 @@ use Rattle.meaning.specs.declared.Pairing.{Pairing}
 use Rattle.meaning.specs.Limits.{block_segments, most_segments, most_value_column}
 use Rattle.laws.proofs.Formats.{segments-most}
 use Rattle.adder.specs.Digits.{Paired}
+use Rattle.ewah.specs.declared.cursor.Cursor.{Cursor}
 use Rattle.ewah.specs.Cursors.{left_of}
 use Rattle.ewah_write.specs.declared.writer.Writer.{Writer}
 use Rattle.body_write.specs.Bodies.{Stands, Growing, RoomFor, UpTo}
@@ -43,10 +44,10 @@ body_is op index first second n i = unfold canonical in refl
 
 module _ (op : Pairing) (index first second : List ℕ) (n : ℕ) (starts old : List ℕ) (store : Bool) where
   -- both lists' cursors stand at segment o, and of each body the first o segments are put, in its part of the buffer
-  pub record Passing (out ns1 ns2 : List ℕ) (ws : List Writer) (o : ℕ) : Type 0 where
+  pub record Passing (out : List ℕ) (at₁ at₂ : List Cursor) (ws : List Writer) (o : ℕ) : Type 0 where
     pub here : o ≤ S index
-    pub first-walking : Walking index first ns1 o
-    pub second-walking : Walking index second ns2 o
+    pub first-walking : Walking index first at₁ o
+    pub second-walking : Walking index second at₂ o
     pub writers-long : length ws ≡ most_value_column
     pub bodies : (i : ℕ) → i ≤ n
         → UpTo (format_of index) (row_count index) (own_segments op index first second n i) store
@@ -55,10 +56,10 @@ module _ (op : Pairing) (index first second : List ℕ) (n : ℕ) (starts old : 
     pub front : take (get_or starts 0 0) out ≡ take (get_or starts 0 0) old
     pub back : drop (get_or starts (n + 1) 0) out ≡ drop (get_or starts (n + 1) 0) old
 
-  pub passing-none : (ns1 ns2 : List ℕ) (ws : List Writer) → Columns index first second n → Walking index first ns1 0
-      → Walking index second ns2 0 → length ws ≡ most_value_column → {f : Format} → f ≡ format_of index
-      → ((i : ℕ) → i < most_value_column → Stands f (writer_of ws i) []) → Passing old ns1 ns2 ws 0
-  passing-none ns1 ns2 ws cs a b h e g = record {
+  pub passing-none : (at₁ at₂ : List Cursor) (ws : List Writer) → Columns index first second n → Walking index first at₁ 0
+      → Walking index second at₂ 0 → length ws ≡ most_value_column → {f : Format} → f ≡ format_of index
+      → ((i : ℕ) → i < most_value_column → Stands f (writer_of ws i) []) → Passing old at₁ at₂ ws 0
+  passing-none at₁ at₂ ws cs a b h e g = record {
     here = omega arith;
     first-walking = a;
     second-walking = b;
@@ -81,7 +82,7 @@ MayEmit starts out ws z n m even store f =
     → RoomFor f (row_of f z m even i) (writer_of ws i) (length (region starts out i)))
 
 module _ {op : Pairing} {index first second : List ℕ} {n : ℕ} {starts old : List ℕ} {store : Bool}
-    {out ns1 ns2 : List ℕ} {ws : List Writer} {o : ℕ} (cs : Columns index first second n) (g : Passing op index first second n starts old store out ns1 ns2 ws o) where
+    {out : List ℕ} {at₁ at₂ : List Cursor} {ws : List Writer} {o : ℕ} (cs : Columns index first second n) (g : Passing op index first second n starts old store out at₁ at₂ ws o) where
   abbrev F : Format
   F = format_of index
 
@@ -96,8 +97,8 @@ module _ {op : Pairing} {index first second : List ℕ} {n : ℕ} {starts old : 
 
   -- ---- one block more: m segments, where no piece ends before `near`
   module _ {near m : ℕ} {even : Bool} (ch : Chosen near (S index) o m even)
-      (near1 : (k : ℕ) → k < length first → near ≤ left_of (cursor_of ns1 k).piece)
-      (near2 : even ≡ true → (k : ℕ) → k < length second → near ≤ left_of (cursor_of ns2 k).piece) where
+      (near1 : (k : ℕ) → k < length first → near ≤ left_of (cursor_of at₁ k).piece)
+      (near2 : even ≡ true → (k : ℕ) → k < length second → near ≤ left_of (cursor_of at₂ k).piece) where
     m-low : m ≤ most_run F
     m-low = run-low g.first-walking (omega (arith, cs.first_some)) ch near1
 
@@ -150,13 +151,13 @@ module _ {op : Pairing} {index first second : List ℕ} {n : ℕ} {starts old : 
 
       pub passing-more : {f : Format} → f ≡ format_of index → {mask : ℕ}
           → mask ≡ all_set (rows_in (width (format_of index)) (row_count index) (o + m - 1))
-          → {out' ns1' ns2' : List ℕ} {ys : List Writer}
+          → {out' : List ℕ} {at₁' at₂' : List Cursor} {ys : List Writer}
           → ((real : ℕ) → mask ≡ 2 ^ real - 1
           → EmittedAll f real starts out out' (take (n + 1) ws) ys (length (take (n + 1) ws)) (row_of f z' m even) store)
-          → Walking index first ns1' (o + m) → Walking index second ns2' (o + m)
-          → Passing op index first second n starts old store out' ns1' ns2' (ys ++ drop (n + 1) ws) (o + m)
+          → Walking index first at₁' (o + m) → Walking index second at₂' (o + m)
+          → Passing op index first second n starts old store out' at₁' at₂' (ys ++ drop (n + 1) ws) (o + m)
       unfolding all_set
-      passing-more {f} is {mask} rows {out'} {ns1'} {ns2'} {ys} put w1 w2 = record {
+      passing-more {f} is {mask} rows {out'} {at₁'} {at₂'} {ys} put w1 w2 = record {
         here = ch.within;
         first-walking = w1;
         second-walking = w2;

@@ -8,6 +8,7 @@ use Rattle.laws.specs.Laws.{IndexFacts}
 use Rattle.column_meaning.specs.Columns.{pair_column}
 use Rattle.meaning.specs.Rows.{none}
 use Rattle.meaning.specs.declared.Pairing.{Pairing}
+use Rattle.ewah.specs.declared.cursor.Cursor.{Cursor}
 use Rattle.ewah.specs.Cursors.{left_of}
 use Rattle.walk.specs.Queries.{cursor_of, Listed}
 use Rattle.ewah_write.specs.declared.writer.Writer.{Writer}
@@ -24,10 +25,10 @@ pub record Columns (index first second : List ℕ) (n : ℕ) : Type 0 where
   pub second_fits : length second ≤ n + 1
   pub few : n < most_value_column
 
--- no piece of the first m places ends before `near`; nor does one of the other n, if that is a block's segments or more
-pub record Near (p : List ℕ) (m : ℕ) (q : List ℕ) (n near : ℕ) : Type 0 where
-  pub first : (k : ℕ) → k < m → near ≤ left_of (cursor_of p k).piece
-  pub second : block_segments ≤ near → (k : ℕ) → k < n → near ≤ left_of (cursor_of q k).piece
+-- no piece of the first query ends before `near`; nor does one of the second, if that is a block's segments or more
+pub record Near (p q : List Cursor) (near : ℕ) : Type 0 where
+  pub first : (k : ℕ) → k < length p → near ≤ left_of (cursor_of p k).piece
+  pub second : block_segments ≤ near → (k : ℕ) → k < length q → near ≤ left_of (cursor_of q k).piece
 
 -- body i of the answer
 abbrev pub body_of : (op : Pairing) (index first second : List ℕ) (n i : ℕ) → List ℕ

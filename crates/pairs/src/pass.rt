@@ -6,8 +6,9 @@ ghost use Rattle.pairs.specs.Passes.{Columns, body_of, PassedTo};
 use crate::{nearest, spell};
 use blocks::choose;
 use ewah_write::writer::Writer;
-use meaning::{BLOCK_WORDS, MOST_VALUE_COLUMN, Pairing, SHORT_NUMBERS};
+use meaning::{BLOCK_WORDS, MOST_VALUE_COLUMN, Pairing, SHORT_NAMED};
 use new_index::writers;
+use walk::query::ENDED;
 use walk::survey;
 use words::frame::Frame;
 
@@ -31,10 +32,12 @@ pub fn pass(
 {
     let f = Frame::of(contents::format(index), contents::rows(index));
     let format = f.format;
-    let mut p: [u32; SHORT_NUMBERS] = [0; SHORT_NUMBERS];
-    let mut q: [u32; SHORT_NUMBERS] = [0; SHORT_NUMBERS];
-    survey::open(format, index, first, &mut p);
-    survey::open(format, index, second, &mut q);
+    let mut firsts = [ENDED; SHORT_NAMED];
+    let mut seconds = [ENDED; SHORT_NAMED];
+    let p = &mut firsts[..first.len()];
+    let q = &mut seconds[..second.len()];
+    survey::open(format, index, first, p);
+    survey::open(format, index, second, q);
     let mut ws = writers::start(format);
     let mut x: [u32; BLOCK_WORDS] = [0; BLOCK_WORDS];
     let mut y: [u32; BLOCK_WORDS] = [0; BLOCK_WORDS];
@@ -43,11 +46,11 @@ pub fn pass(
     let mut o: u32 = 0;
     // Kept: a turn goes on by a block or a run, however long that is; a `for` has no such step.
     while o < f.segments {
-        let near = nearest::nearest(&p, first.len(), &q, second.len());
+        let near = nearest::nearest(p, q);
         let s = choose::choose(near, o, f.segments, run);
         let mask = f.mask(o + s.n);
-        gather::gather(format, index, first, &mut p, s.n, s.even, &mut x);
-        gather::gather(format, index, second, &mut q, s.n, s.even, &mut y);
+        gather::gather(format, index, first, p, s.n, s.even, &mut x);
+        gather::gather(format, index, second, q, s.n, s.even, &mut y);
         adder::pair(op, &x, &y, &mut z, n);
         spell::spell(&mut z, n + 1, s, mask, f.full);
         let own = &mut ws[..n + 1];

@@ -69,10 +69,10 @@ module _ (s : Spelt) where
   ch = rw total at s.choose-s.ensures
 
   near1 : (k : ℕ) → k < length s.args.first.now → near ≤ left_of (cursor_of s.loop-o.p k).piece
-  near1 = s.nearest-near.ensures.first
+  near1 = rw s.loop-o.invariant.0.first-walking.long at s.nearest-near.ensures.first
 
   near2 : even ≡ true → (k : ℕ) → k < length s.args.second.now → near ≤ left_of (cursor_of s.loop-o.q k).piece
-  near2 e = s.nearest-near.ensures.second (ch.in-runs e)
+  near2 e = rw s.loop-o.invariant.0.second-walking.long at s.nearest-near.ensures.second (ch.in-runs e)
 
   mask_is : s.mask-mask.result ≡ all_set (rows_in (width F) R (o + m - 1))
   mask_is =
