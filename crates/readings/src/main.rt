@@ -1,27 +1,11 @@
-// The readings of paper 01 without a star. Their bodies are too long for the prover to compute, so the compiled calls
-// write them, and what they are is printed. The file `stdout` has what the paper says, and the gate compares.
+// Readings whose bodies are too long for the prover to compute: the compiled calls write them, and what they are is printed.
+// The file `stdout` has what is expected, and the gate compares.
 #![tactic(auto)]
 
 ghost use Rattle.std.specs.Prelude.{◌≤◌, ◌≡◌, length};
 
 use std::io;
-use zvonurel::{Format, Number, Refusal, Written};
-
-// A number after a text.
-fn number(rt: &impl Print, text: &str, n: u64) -> io::Result<()> {
-    print!(rt; "{text}{n}")
-}
-
-fn wide(x: u32) -> u64 {
-    x as u64
-}
-
-// A refusal's three numbers.
-fn refusal(rt: &impl Print, r: Refusal) -> io::Result<()> {
-    number(rt, " refused ", wide(r.number))?;
-    number(rt, " ", wide(r.bitmap))?;
-    number(rt, " ", r.word)
-}
+use zvonurel::{Format, Refusal};
 
 // A body's words from one place to another, or to its end.
 fn words(rt: &impl Print, body: &[u32], from: usize, to: usize) -> io::Result<()> {
@@ -34,8 +18,8 @@ fn words(rt: &impl Print, body: &[u32], from: usize, to: usize) -> io::Result<()
 // How many rows are set in a body.
 fn set(rt: &impl Print, format: Format, body: &[u32], rows: u32) -> io::Result<()> {
     match zvonurel::body_count(format, body, rows) {
-        Number::Is(count) => number(rt, ", set ", wide(count)),
-        Number::Refused(r) => refusal(rt, r),
+        Ok(count) => print!(rt; ", set {count}"),
+        Err(refusal) => print!(rt; " {refusal}"),
     }
 }
 
@@ -45,23 +29,21 @@ fn reading(
     rt: &impl Print,
     format: Format,
     rows: u32,
-    written: Written,
+    written: Result<usize, Refusal>,
     out: &[u32],
     from: usize,
     to: usize,
 ) -> io::Result<()> {
-    number(rt, "rows ", wide(rows))?;
+    print!(rt; "rows {rows}")?;
     match written {
-        Written::Words(n) => {
-            number(rt, ", words ", n as u64)?;
-            number(rt, ", from ", from as u64)?;
-            print!(rt; ":")?;
-            if n <= out.len() {
-                words(rt, &out[0..n], from, to)?;
-                set(rt, format, &out[0..n], rows)?;
+        Ok(n) => {
+            print!(rt; ", words {n}, from {from}:")?;
+            if let Some(body) = out.get(..n) {
+                words(rt, body, from, to)?;
+                set(rt, format, body, rows)?;
             }
         }
-        Written::Refused(r) => refusal(rt, r)?,
+        Err(refusal) => print!(rt; " {refusal}")?,
     }
     println!(rt;)
 }
@@ -96,12 +78,7 @@ fn filled(x: u32) -> [u32; 32770]
 fn most_rows(rt: &impl Print, rows: u32, last: u32) -> io::Result<()> {
     let mut index: [u32; 519] = [0x0001_FFFF; 519];
     let mut out = filled(0);
-    index[0] = 1;
-    index[1] = rows;
-    index[2] = 1;
-    index[3] = 5;
-    index[4] = 514;
-    index[5] = 0x0000_0401;
+    index[..6].copy_from_slice(&[1, rows, 1, 5, 514, 0x0000_0401]);
     index[518] = last;
     let written = zvonurel::xor(&index, 0, 0, &mut out);
     reading(rt, Format::Ewah, rows, written, &out, 510, 513)

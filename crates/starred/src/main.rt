@@ -1,13 +1,12 @@
-// The starred readings of paper 01 ("Readings to test by"), asked of the public calls. What a reading expects is
+// Readings, asked of the public calls. What a reading expects is
 // computed from the definitions; that the call gives it is proved of the call's contract alone; and the run tries it
 // on the compiled code.
 #![tactic(auto)]
 
 use meaning::HISTOGRAM_COUNTS;
-use zvonurel::Format;
+use zvonurel::{Fault, Format};
 
 mod cases;
-mod told;
 
 // Bodies of 0 and 64 rows.
 fn short_bodies() {
@@ -48,7 +47,7 @@ fn forty_rows() {
         2,
         &[0xFFFF_FFFF, 0xFF, 7, 7],
     );
-    cases::faulty(Format::Ewah, &[0x0002_0003, 0x1FF], 40, 7, 1);
+    cases::faulty(Format::Ewah, &[0x0002_0003, 0x1FF], 40, Fault::PadBit, 1);
 }
 
 // Rows 5 and 64 of 96, in canonical form and wastefully.
@@ -61,7 +60,7 @@ fn ninety_six_rows() {
     cases::expands(Format::Ewah, 96, &wasteful, 3, &[0x20, 0, 1, 7]);
 }
 
-// The LOOPED example of source document 003.
+// The example LOOPED.
 fn looped() {
     let index = [
         1,
@@ -87,11 +86,11 @@ fn looped() {
     cases::sound(&index);
     cases::threshold(&index, &list, 2, 2, 1, &[0x0002_0000, 0xA, 7, 7]);
     cases::histogram(&index, &list, &counts);
-    cases::refuses(&index, &list, 4, &mut [7, 7], &[7, 7], 8, 0);
-    cases::refuses(&index, &list, 2, &mut [7], &[7], 9, 2);
+    cases::refuses(&index, &list, 4, &mut [7, 7], &[7, 7], Fault::BadArgument, 0);
+    cases::refuses(&index, &list, 2, &mut [7], &[7], Fault::NoRoom, 2);
 }
 
-// Two bitmaps of 8 rows, of the same document.
+// Two bitmaps of 8 rows.
 fn eight_rows() {
     let index = [1, 8, 2, 7, 2, 9, 2, 0x0002_0000, 0x32, 0x0002_0000, 0xB0];
     cases::and(&index, 0, 1, 2, &[0x0002_0000, 0x30, 7, 7]);
@@ -149,9 +148,9 @@ fn wah_bodies() {
         2,
         &[0xFFFF_FFFF, 0xFF, 7, 7],
     );
-    cases::faulty(Format::Wah, &[0x8000_0002, 0x8000_0000], 62, 10, 1);
-    cases::faulty(Format::Wah, &[0x7FFF_FFFF, 0x7FFF_FFFF], 40, 7, 1);
-    cases::faulty(Format::Wah, &[0x8000_0003], 62, 6, 0);
+    cases::faulty(Format::Wah, &[0x8000_0002, 0x8000_0000], 62, Fault::EmptyFill, 1);
+    cases::faulty(Format::Wah, &[0x7FFF_FFFF, 0x7FFF_FFFF], 40, Fault::PadBit, 1);
+    cases::faulty(Format::Wah, &[0x8000_0003], 62, Fault::WrongSegments, 0);
 }
 
 // Written anew: either way, and to the same format.

@@ -1,10 +1,7 @@
--- `starred::cases::compresses` meets its contract: by `wrote-told` and `wrote-left` both expectations hold of `zvonurel::compress`. Assumes nothing.
-use Rattle.starred.proofs.Expected.{wrote-told, wrote-left}
-use mathlib.Core.Path.{◌∙◌}
+-- `starred::cases::compresses` meets its contract: by `wrote-told`, `zvonurel::compress` tells and leaves what the reading expects. Assumes nothing.
+use Rattle.std.proofs.Common.{rules}
+use Rattle.starred.proofs.Expected.{wrote-told}
 use Rattle.starred.proofs.cases.compresses.Goals as goal
 
-pub expect-requires : goal.expect-requires
-expect-requires c = c.wrote.ensures ∙ wrote-told _ _ _ _ c.requires c.compress-w.result c.compress-w.ensures
-
-pub expect-requires-2 : goal.expect-requires-2
-expect-requires-2 c = c.same.ensures ∙ wrote-left _ _ _ _ c.requires c.compress-w.result c.compress-w.ensures
+pub writes-requires-clause-told : goal.writes-requires-clause-told
+writes-requires-clause-told c told out w = wrote-told _ _ _ c.requires out told (search rules)

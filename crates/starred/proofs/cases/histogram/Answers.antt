@@ -1,10 +1,19 @@
--- `starred::cases::histogram` meets its contract: by `counted-told` and `counted-left` both expectations hold of `zvonurel::histogram`. Assumes nothing.
-use Rattle.starred.proofs.Expected.{counted-told, counted-left}
-use mathlib.Core.Path.{◌∙◌}
+-- `starred::cases::histogram` meets its contract: by `outcome-one` there is one answer that tells this. Assumes nothing.
+use Rattle.std.proofs.Common.{rules, ◌≡◌, ◌∙◌}
+use Rattle.std.specs.Prelude.{Ok}
+use Rattle.answers.specs.Told.{outcome_of}
+use Rattle.answers.proofs.Settled.{outcome-one}
+use Rattle.starred.proofs.Expected.{same_self}
 use Rattle.starred.proofs.cases.histogram.Goals as goal
 
-pub expect-requires : goal.expect-requires
-expect-requires c = c.sound.ensures ∙ counted-told _ _ c.requires c.histogram-h.result c.histogram-h.ensures
+pub unwrap-counts-requires : goal.unwrap-counts-requires
+unfolding outcome_of
+unwrap-counts-requires c = rw (outcome-one c.histogram.result (Ok c.args.entries.now) (c.histogram.ensures ∙ c.requires)) (search rules)
 
-pub expect-requires-2 : goal.expect-requires-2
-expect-requires-2 c = c.same.ensures ∙ counted-left _ _ c.requires c.histogram-h.result c.histogram-h.ensures
+pub expect-requires : goal.expect-requires
+unfolding outcome_of
+expect-requires c =
+    let e : c.histogram.result ≡ Ok c.args.entries.now = outcome-one c.histogram.result (Ok c.args.entries.now) (c.histogram.ensures ∙ c.requires) in
+    let u : c.histogram.result ≡ Ok c.unwrap-counts.result = c.unwrap-counts.ensures in
+    let q : c.unwrap-counts.result ≡ c.args.entries.now = cc in
+    c.eq.ensures ∙ rw (c.as_slice.ensures ∙ q) (same_self c.args.entries.now)
