@@ -1,5 +1,5 @@
 // The nth set row, in one pass: markers, and many dirty words at once, are passed by their counts until some have it.
-ghost use Rattle.std.specs.Prelude.{◌≡◌, ◌++◌, ◌+◌, ◌-◌, ◌*◌, ◌≤◌, ◌<◌, length, take, drop, replicate};
+ghost use Rattle.std.specs.Prelude.{◌≡◌, ◌++◌, ◌*◌, ◌≤◌, ◌<◌, length, replicate};
 ghost use Rattle.meaning.specs.Limits.{most_rows, most_segments, most_clean, most_dirty};
 ghost use Rattle.meaning.specs.Segment.{has_row, ones, fill};
 ghost use Rattle.meaning.specs.Ewah.{ewah_rows};
@@ -9,9 +9,8 @@ ghost use Rattle.laws.specs.Demands.{IsNth};
 ghost use Rattle.answers.specs.Told.{found_of};
 ghost use Rattle.ewah_nth.specs.Seeking.{SoughtIn};
 
-use answers::answer::Found;
-use ewah::marker;
-use ewah_count::count;
+use ewah::marker::Markers;
+use ewah_count::count::{self, CountsWords, InBlocks};
 use popcount::BLOCK;
 use words::bits;
 
@@ -25,14 +24,12 @@ fn find(ws: &[u32], k: u32) -> u32
     ensures { IsNth (length ws.now * 32) (has_row 32 ws.now) k result }
 {
     let mut ahead = k;
-    let mut i = 0;
-    while i < ws.len() {
+    for i in 0..ws.len() {
         let here = bits::count(ws[i]);
         if ahead < here {
             return i as u32 * 32 + bits::nth(ws[i], ahead);
         }
         ahead -= here;
-        i += 1;
     }
     0
 }
@@ -45,18 +42,6 @@ pub enum Sought {
     Ahead(u32),
 }
 
-// Where the words end that begin at `at` and are passed at once.
-fn skip_end(at: usize, len: usize) -> usize
-    requires { (at < len) × (len ≤ most_dirty) }
-    ensures { (at < result) × (result ≤ len) }
-{
-    let end = at + SKIP_WORDS;
-    if end < len {
-        return end;
-    }
-    len
-}
-
 // The set bit of the words that has k set bits before it: SKIP_WORDS at a time are passed by their count, until some
 // have it.
 fn seek_words(ws: &[u32], k: u32) -> Sought
@@ -66,8 +51,8 @@ fn seek_words(ws: &[u32], k: u32) -> Sought
     let mut ahead = k;
     let mut i = 0;
     while i < ws.len() {
-        let end = skip_end(i, ws.len());
-        let inside = popcount::count(ws, i, end);
+        let end = (i + SKIP_WORDS).min(ws.len());
+        let inside = popcount::count(&ws[i..end]);
         if ahead < inside {
             return Sought::Here(i as u32 * 32 + find(&ws[i..end], ahead));
         }
@@ -78,59 +63,49 @@ fn seek_words(ws: &[u32], k: u32) -> Sought
 }
 
 // The row of one marker's segments that has k set rows before it: the clean run is passed first, and then its dirty
-// words, those from `from` to `to`: where they are few, all at once.
-fn seek(value: u32, clean: u32, body: &[u32], from: usize, to: usize, k: u32) -> Sought
-    requires { (value < 2) × (clean ≤ most_clean)
-        × (from ≤ to) × (to ≤ length body.now) × (to ≤ from + most_dirty) }
-    ensures { SoughtIn
-        (replicate clean (fill 32 value) ++ take (to - from) (drop from body.now)) k result }
+// words: where they are few, all at once.
+fn seek(value: u32, clean: u32, dirty: &[u32], k: u32) -> Sought
+    requires { (value < 2) × (clean ≤ most_clean) × (length dirty.now ≤ most_dirty) }
+    ensures { SoughtIn (replicate clean (fill 32 value) ++ dirty.now) k result }
 {
     let run = count::count_run(value, clean);
     if k < run {
         return Sought::Here(k);
     }
     let ahead = k - run;
-    if to == from {
+    if dirty.len() == 0 {
         return Sought::Ahead(ahead);
     }
-    if SKIP_WORDS < to - from {
-        match seek_words(&body[from..to], ahead) {
+    if SKIP_WORDS < dirty.len() {
+        match seek_words(dirty, ahead) {
             Sought::Here(r) => return Sought::Here(clean * 32 + r),
             Sought::Ahead(j) => return Sought::Ahead(j),
         }
     }
-    let here = count::count_words(body, from, to);
+    let here = InBlocks::count_words(dirty);
     if ahead < here {
-        return Sought::Here(clean * 32 + find(&body[from..to], ahead));
+        return Sought::Here(clean * 32 + find(dirty, ahead));
     }
     Sought::Ahead(ahead - here)
 }
 
 // The nth set row, from 0. Where the bit that is found lies past the last row it is a pad bit, and not so many rows are
 // set.
-pub fn nth(body: &[u32], rows: u32, n: u32) -> Found
+pub fn nth(body: &[u32], rows: u32, n: u32) -> Option<u32>
     requires { (rows ≤ most_rows) × EwahFacts rows body.now }
     ensures { found_of result ≡ ask_nth rows (ewah_rows body.now) n }
 {
-    let mut at = 0;
     let mut behind = 0;
     let mut ahead = n;
-    while at < body.len() {
-        let m = marker::read(body[at]);
-        let from = at + 1;
-        let next = from + m.dirty as usize;
-        match seek(m.value, m.clean, body, from, next, ahead) {
+    for (m, dirty) in Markers::of(body) {
+        match seek(m.value, m.clean, dirty, ahead) {
             Sought::Here(r) => {
                 let row = behind * 32 + r;
-                if row < rows {
-                    return Found::Row(row);
-                }
-                return Found::Past;
+                return if row < rows { Some(row) } else { None };
             }
             Sought::Ahead(k) => ahead = k,
         }
-        behind = behind + m.clean + m.dirty;
-        at = next;
+        behind += m.clean + m.dirty;
     }
-    Found::Past
+    None
 }

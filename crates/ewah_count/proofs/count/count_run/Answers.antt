@@ -1,15 +1,10 @@
 -- `ewah_count::count::count_run` meets its contract: by `fill-count` a clean segment has 32 set bits or none, and by `ones-replicate` a run its length times as many.
 -- Assumes nothing.
-use native.Mathlib.Omega.{arith}
-use Prim.Native.Nat.{ℕ, ◌*◌, ◌≤◌}
+use Prim.Native.Nat.{ℕ, ◌*◌}
 use mathlib.Core.Path.{sym, ap, ◌∙◌}
-use native.Mathlib.Nat.{mul-le-mul_left}
 use Rattle.meaning.specs.Segment.{fill}
 use Rattle.laws.proofs.Counting.{fill-count, ones-replicate}
 use Rattle.ewah_count.proofs.count.count_run.Goals as goal
-
-pub overflow_mul-result-2 : goal.overflow_mul-result-2
-overflow_mul-result-2 c = let l : c.args.value * 32 ≤ 32 = omega arith in omega (arith, mul-le-mul_left c.args.clean l)
 
 pub returns : goal.returns
 returns c =

@@ -2,11 +2,9 @@
 -- Assumes nothing.
 use borrow.Author.Rules.{rules}
 use native.Mathlib.Omega.{arith}
-use Prim.Native.Nat.{ℕ, ◌<◌}
-use mathlib.Core.Path.{◌≡◌, ap}
+use Prim.Native.Nat.{◌<◌}
 use lib.Dec.{lit<}
-use lib.ListN.{length, take, get_or}
-use lib.Seq.{take-length}
+use lib.ListN.{get_or}
 use Rattle.meaning.specs.Rows.{count_below}
 use Rattle.meaning.specs.Segment.{ones, is_set}
 use Rattle.laws.specs.Demands.{IsNth}
@@ -25,13 +23,7 @@ returns-then-ahead-here c =
     let x = get_or ws h.i 0 in
     let few : h.ahead < count_below 32 (is_set x) = rw c.count-here.ensures at c.if-ahead-here.true in
     let j : IsNth 32 (is_set x) h.ahead c.nth.result = rw c.nth.ensures.0 (nth-holds 32 (is_set x) h.ahead few).is in
-    rw h.invariant.1 at (nth-word 32 (lit< tt) ws h.i h.ahead c.nth.result (omega arith) j)
+    rw h.invariant at (nth-word 32 (lit< tt) ws h.i h.ahead c.nth.result (omega arith) j)
 
 pub loop-i-preserved : goal.loop-i-preserved
 loop-i-preserved c = omega (arith, ones-next 32 c.args.ws.now c.loop-i.i, c.count-here.ensures)
-
-pub returns : goal.returns
-returns c =
-    let ws = c.args.ws.now in
-    let e : c.loop-i.i ≡ length ws = omega arith in
-    absurd (omega (arith, ap (λ (i : ℕ). ones 32 (take i ws)) e, ap (ones 32) (take-length ws)))

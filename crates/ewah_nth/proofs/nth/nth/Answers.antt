@@ -1,135 +1,101 @@
--- `ewah_nth::nth::nth` meets its contract. The invariant: the walk stands at a marker, and with the set bits of the
--- segments behind passed so many are still ahead. By `nth-pad` a set bit past the last row is none.
+-- `ewah_nth::nth::nth` meets its contract. By `nth-pad` a set bit past the last row is none.
 -- Assumes nothing.
 use native.Mathlib.Omega.{arith}
 use Prim.Native.Nat.{ℕ, ◌+◌, ◌*◌, ◌≤◌}
-use mathlib.Core.Path.{◌≡◌, sym, ap, ◌∙◌}
-use mathlib.Core.List.{◌++◌}
+use mathlib.Core.Path.{◌≡◌, sym, ap, ◌∙◌, subst}
+use mathlib.Core.List.{List, ◌++◌}
 use lib.ListN.{length, take, drop, replicate}
 use lib.Seq.{take-length}
 use Rattle.meaning.specs.Format.{rows_of}
 use Rattle.meaning.specs.declared.Format.TheVariants.{Ewah}
-use Rattle.meaning.specs.Limits.{most_segments}
+use Rattle.meaning.specs.Limits.{most_rows, most_segments}
 use Rattle.meaning.specs.Segment.{ones, fill, has_row}
+use Rattle.laws.specs.Laws.{EwahFacts}
 use Rattle.laws.specs.Demands.{IsNth}
 use Rattle.meaning.specs.Ewah.{segments, ewah_rows}
-use Rattle.laws.proofs.Walk.{Step, at-start, at-end}
 use Rattle.laws.proofs.Asked.{ones_step, nth-step, nth-found, nth-pad, nth_past}
-use Rattle.ewah_nth.specs.declared.nth.Sought.TheVariants.{Here, Ahead}
-use Rattle.answers.specs.Told.{found_of}
-use Rattle.ewah_nth.specs.Seeking.{SoughtIn}
-use Rattle.laws.proofs.Parts.{part-is}
 use Rattle.laws.proofs.RowWords.{segments-few}
-use Rattle.ewah.proofs.MarkerStep.{read_step}
-use Rattle.ewah_nth.proofs.nth.nth.Lts
-use Rattle.ewah_nth.proofs.nth.nth.Reads
-use Rattle.ewah_nth.proofs.nth.nth.Tie
+use Rattle.answers.specs.Told.{found_of}
+use Rattle.ewah.specs.declared.marker.Marker.{Marker}
+use Rattle.ewah.specs.Taken.{MarkerFirst}
+use Rattle.ewah.proofs.Taking.{Left, left-start, left-none, left-step, left_words, left-next}
 use Rattle.ewah_nth.proofs.nth.nth.Goals as goal
 
--- places in the code that lemmas below speak of
-abbrev At-loop-at : Type 0
-At-loop-at = Lts.At-loop Tie.the-claims Reads.Pre Reads.Post goal.the-invariant-loop-at goal.the-decreases-loop-at
+few : (R : ℕ) (b : List ℕ) → R ≤ most_rows → EwahFacts R b → length (segments b) ≤ most_segments
+few R b h s = omega (arith, segments-few R h, s.count)
 
-abbrev After-read-m : Type 0
-After-read-m = Lts.After-read Tie.the-claims Reads.Pre Reads.Post goal.the-invariant-loop-at goal.the-decreases-loop-at
+-- what a marker that was taken spells
+abbrev own : Marker → List ℕ → List ℕ
+own m dirty = replicate m.clean (fill 32 m.value) ++ dirty
 
-abbrev After-seek : Type 0
-After-seek = Lts.After-seek Tie.the-claims Reads.Pre Reads.Post goal.the-invariant-loop-at goal.the-decreases-loop-at
+-- a marker was taken
+module _ {b rest : List ℕ} {o : ℕ} (l : Left b rest o) {m : Marker} {dirty next : List ℕ} (f : MarkerFirst rest m dirty next) where
+  as_read : replicate m.clean (fill 32 m.value) ++ take m.dirty (drop (l.at + 1) b) ≡ own m dirty
+  as_read = ap (λ (ws : List ℕ). replicate m.clean (fill 32 m.value) ++ ws) (left_words l f)
 
-abbrev In-Here : Type 0
-In-Here = Lts.Past-After-known_told Tie.the-claims Reads.Pre Reads.Post goal.the-invariant-loop-at goal.the-decreases-loop-at
+  within : o + m.clean + m.dirty ≤ length (segments b)
+  within = (left-step l f).counts
 
-few : (t : At-loop-at) → length (segments t.args.body.now) ≤ most_segments
-few t = omega (arith, segments-few t.args.rows t.requires.0, t.requires.1.count)
+  behind : Left b next (o + (m.clean + m.dirty))
+  behind = let j : o + (m.clean + m.dirty) ≡ o + m.clean + m.dirty = omega arith in rw j (left-next l f)
 
--- the step over the marker that was read
-over : (c : After-read-m)
-    →
-    let m = c.read-m.result in
-    Step c.args.body.now c.loop-at.at c.loop-at.behind m.value m.clean m.dirty
-over c =
-    read_step c.args.body.now c.loop-at.at c.loop-at.behind c.read-m.result c.loop-at.invariant.0
-    c.loop-at-test.true c.read-m.ensures
+  -- before which so many of n set rows are passed
+  module _ {ahead n : ℕ} (passed : ones 32 (take o (segments b)) + ahead ≡ n) where
+    -- the row that its segments have, as one of the body's
+    here : (r : ℕ) → IsNth (length (own m dirty) * 32) (has_row 32 (own m dirty)) ahead r
+        → IsNth (length (segments b) * 32) (has_row 32 (segments b)) n (o * 32 + r)
+    here r h =
+        subst (λ (k : ℕ). IsNth (length (segments b) * 32) (has_row 32 (segments b)) k (o * 32 + r)) passed
+        (nth-step b l.at o m.value m.clean m.dirty (left-step l f) ahead r
+        (subst (λ (xs : List ℕ). IsNth (length xs * 32) (has_row 32 xs) ahead r) (sym as_read) h))
 
--- what the marker's segments say
-told : (c : After-seek)
-    →
-    let m = c.read-m.result in
-    let words = take m.dirty (drop (c.loop-at.at + 1) c.args.body.now) in
-    SoughtIn (replicate m.clean (fill 32 m.value) ++ words) c.loop-at.ahead c.seek.result
-told c = rw part-is at c.seek.ensures
+    -- or none of them
+    on : (k : ℕ) → ones 32 (own m dirty) + k ≡ ahead → ones 32 (take (o + (m.clean + m.dirty)) (segments b)) + k ≡ n
+    on k e =
+        let j : o + (m.clean + m.dirty) ≡ o + m.clean + m.dirty = omega arith in
+        rw j (omega (arith, passed, e, ap (ones 32) as_read, ones_step b l.at o m.value m.clean m.dirty (left-step l f)))
 
--- the row that they have, as one of the body's
-here : (c : In-Here)
-    →
-    let b = c.args.body.now in
-    let row = c.loop-at.behind * 32 + c.in-Here.r in
-    IsNth (length (segments b) * 32) (has_row 32 (segments b)) c.args.n row
-here c =
-    let b = c.args.body.now in
-    let m = c.read-m.result in
-    let e : c.seek.result ≡ Here c.in-Here.r = c.in-Here.is in
-    rw c.loop-at.invariant.1
-    at (nth-step b c.loop-at.at c.loop-at.behind m.value m.clean m.dirty (over c.before.before.before) c.loop-at.ahead
-    c.in-Here.r (rw e at (told c.before)))
-
-pub loop-at-init : goal.loop-at-init
+pub loop-m-init : goal.loop-m-init
 unfolding ones
-loop-at-init c = (at-start c.args.body.now c.requires.1.ended, omega arith)
-
-pub overflow_add-next : goal.overflow_add-next
-overflow_add-next c = omega (arith, (over c.before.before).fits)
-
-pub seek-requires : goal.seek-requires
-seek-requires c =
-    let o = over c.before.before in
-    (omega arith, omega arith, omega arith, o.fits, omega arith)
+loop-m-init c = (left-start c.args.body.now _ (search c.of-m-items.ensures) c.requires.1.ended, omega arith)
 
 pub overflow_mul-row : goal.overflow_mul-row
 overflow_mul-row c =
-    omega (arith, (over c.before.before.before.before).counts, few c.before.before.before.before.before.before.before)
+    let i = c.loop-m.invariant in
+    omega (arith, within i.0 c.in-Some.ensures.steps, few c.args.rows c.args.body.now c.requires.0 c.requires.1)
 
 pub overflow_add-row : goal.overflow_add-row
-overflow_add-row c = omega (arith, (here c.before).below, few c.before.before.before.before.before.before.before)
+overflow_add-row c =
+    let i = c.loop-m.invariant in
+    omega (arith, (here i.0 c.in-Some.ensures.steps i.1 c.in-Here.r c.in-Here.ensures).below, few c.args.rows c.args.body.now c.requires.0 c.requires.1)
 
 pub returns-then-row-rows : goal.returns-then-row-rows
 unfolding found_of rows_of ewah_rows
 returns-then-row-rows c =
-    sym (nth-found Ewah c.args.rows c.args.body.now c.requires.1.count c.args.n _ (here c.before.before) c.if-row-rows.true)
+    let i = c.loop-m.invariant in
+    sym (nth-found Ewah c.args.rows c.args.body.now c.requires.1.count c.args.n _ (here i.0 c.in-Some.ensures.steps i.1 c.in-Here.r c.in-Here.ensures) c.if-row-rows.true)
 
-pub returns-in-Here : goal.returns-in-Here
+pub returns-else-row-rows : goal.returns-else-row-rows
 unfolding found_of rows_of ewah_rows
-returns-in-Here c =
-    sym (nth-pad Ewah c.args.rows c.args.body.now c.requires.1.count c.args.n _ (here c.before.before) c.if-row-rows.false)
+returns-else-row-rows c =
+    let i = c.loop-m.invariant in
+    sym (nth-pad Ewah c.args.rows c.args.body.now c.requires.1.count c.args.n _ (here i.0 c.in-Some.ensures.steps i.1 c.in-Here.r c.in-Here.ensures) c.if-row-rows.false)
 
-pub overflow_add-behind : goal.overflow_add-behind
-overflow_add-behind c =
-    omega (arith, (over c.before.before.before.before.before).counts, few c.before.before.before.before.before.before.before.before)
+pub overflow_add-behind-in-loop-m : goal.overflow_add-behind-in-loop-m
+overflow_add-behind-in-loop-m c =
+    let i = c.loop-m.invariant in
+    omega (arith, within i.0 c.in-Some.ensures.steps, few c.args.rows c.args.body.now c.requires.0 c.requires.1)
 
-pub overflow_add-behind-in-loop-at : goal.overflow_add-behind-in-loop-at
-overflow_add-behind-in-loop-at c =
-    omega (arith, (over c.before.before.before.before.before.before).counts, few c.before.before.before.before.before.before.before.before.before)
-
-pub loop-at-smaller : goal.loop-at-smaller
-loop-at-smaller c = omega arith
-
-pub loop-at-preserved : goal.loop-at-preserved
-loop-at-preserved c =
-    let b = c.args.body.now in
-    let m = c.read-m.result in
-    let e : c.seek.result ≡ Ahead c.in-Ahead.k = c.in-Ahead.is in
-    let words = take m.dirty (drop (c.loop-at.at + 1) b) in
-    let left_over : ones 32 (replicate m.clean (fill 32 m.value) ++ words) + c.in-Ahead.k ≡ c.loop-at.ahead =
-    rw e at (told c.before.before.before.before) in
-    let more = ones_step b c.loop-at.at c.loop-at.behind m.value m.clean m.dirty (over c.before.before.before.before.before.before) in
-    ((over c.before.before.before.before.before.before).next, omega (arith, c.loop-at.invariant.1, more))
+pub loop-m-preserved : goal.loop-m-preserved
+loop-m-preserved c =
+    let i = c.loop-m.invariant in
+    (behind i.0 c.in-Some.ensures.steps, on i.0 c.in-Some.ensures.steps i.1 c.in-Ahead.k c.in-Ahead.ensures)
 
 pub returns : goal.returns
 unfolding found_of rows_of ewah_rows
 returns c =
     let b = c.args.body.now in
-    let h = c.loop-at in
-    let e : ones 32 (take h.behind (segments b)) ≡ ones 32 (segments b) =
-    ap (λ (o : ℕ). ones 32 (take o (segments b))) (at-end b h.at h.behind h.invariant.0 c.loop-at-test.false)
-    ∙ ap (ones 32) (take-length (segments b)) in
-    sym (nth_past Ewah c.args.rows b c.requires.1.count c.args.n (omega (arith, h.invariant.1)))
+    let i = c.loop-m.invariant in
+    let e : ones 32 (take c.loop-m.behind (segments b)) ≡ ones 32 (segments b) =
+    ap (λ (o : ℕ). ones 32 (take o (segments b))) (left-none i.0 c.in-None.ensures.steps.0) ∙ ap (ones 32) (take-length (segments b)) in
+    sym (nth_past Ewah c.args.rows b c.requires.1.count c.args.n (omega (arith, i.1, e)))

@@ -3,12 +3,9 @@
 -- Assumes nothing.
 use borrow.Author.Rules.{rules}
 use native.Mathlib.Omega.{arith}
-use Prim.Native.Nat.{ℕ, ◌+◌, ◌-◌, ◌*◌}
-use mathlib.Core.Path.{◌≡◌, ap}
+use Prim.Native.Nat.{◌+◌, ◌-◌, ◌*◌}
 use lib.Dec.{lit<}
-use lib.ListN.{length, take, drop}
-use lib.Seq.{take-length}
-use borrow.Rule.Slice.PartMut.{mid_len}
+use lib.ListN.{length}
 use Rattle.meaning.specs.Segment.{ones, has_row}
 use Rattle.laws.specs.Demands.{IsNth}
 use Rattle.laws.proofs.Counting.{ones-part, nth-part}
@@ -18,27 +15,12 @@ use Rattle.ewah_nth.proofs.nth.seek_words.Tie
 use Rattle.ewah_nth.proofs.nth.seek_words.Goals as goal
 
 -- places in the code that lemmas below speak of
-abbrev After-skip_end-end : Type 0
-After-skip_end-end = Lts.After-skip_end Tie.the-claims Reads.Pre Reads.Post goal.the-invariant-loop-i goal.the-decreases-loop-i
-
 abbrev After-find : Type 0
 After-find = Lts.After-find Tie.the-claims Reads.Pre Reads.Post goal.the-invariant-loop-i goal.the-decreases-loop-i
 
 pub loop-i-init : goal.loop-i-init
 unfolding ones
 loop-i-init c = search rules
-
--- the part has as many words as its ends say
-part_length : (c : After-skip_end-end)
-    →
-    let n = c.skip_end-end.result - c.loop-i.i in
-    length (take n (drop c.loop-i.i c.args.ws.now)) ≡ n
-part_length c =
-    mid_len c.loop-i.i c.skip_end-end.result c.args.ws.now c.skip_end-end.ensures.1
-
-pub find-requires : goal.find-requires
-find-requires c =
-    (omega (arith, part_length c.before.before.before.before), rw c.count-inside.ensures at c.if-ahead-inside.true)
 
 -- the bit that the part has, as one of the words
 found : (c : After-find)
@@ -48,12 +30,9 @@ found : (c : After-find)
 found c =
     let ws = c.args.ws.now in
     let i = c.loop-i.i in
-    let n = c.skip_end-end.result - i in
+    let n = c.min-end.result - i in
     rw c.loop-i.invariant.1
     at (nth-part 32 (lit< tt) ws i n c.loop-i.ahead c.find.result c.loop-i.invariant.0 c.find.ensures)
-
-pub overflow_add-result : goal.overflow_add-result
-overflow_add-result c = omega (arith, (found c.before).below)
 
 pub returns-then-ahead-inside : goal.returns-then-ahead-inside
 returns-then-ahead-inside c = found c.before
@@ -61,12 +40,5 @@ returns-then-ahead-inside c = found c.before
 pub loop-i-preserved : goal.loop-i-preserved
 loop-i-preserved c =
     let ws = c.args.ws.now in
-    let more = ones-part 32 ws c.loop-i.i c.skip_end-end.result (omega arith) in
-    (c.skip_end-end.ensures.1, omega (arith, c.loop-i.invariant.1, c.count-inside.ensures, more))
-
-pub returns : goal.returns
-returns c =
-    let h = c.loop-i in
-    let ws = c.args.ws.now in
-    let e : h.i ≡ length ws = omega arith in
-    omega (arith, h.invariant.1, ap (λ (i : ℕ). ones 32 (take i ws)) e, ap (ones 32) (take-length ws))
+    let more = ones-part 32 ws c.loop-i.i c.min-end.result (omega arith) in
+    ((omega (arith, c.min-end.ensures)), omega (arith, c.loop-i.invariant.1, c.count-inside.ensures, more))
