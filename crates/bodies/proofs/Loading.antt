@@ -8,13 +8,10 @@ use native.Mathlib.Omega.{arith}
 use lib.ListN.{length, drop, get_or}
 use Rattle.meaning.specs.Limits.{most_dirty}
 use Rattle.meaning.specs.Piece.{Piece, clean_run, run_then, piece_size, NoneEmpty}
-use Rattle.meaning.specs.Ewah.{pieces}
 use Rattle.meaning.specs.Wah.{is_fill, piece_of, wah_pieces}
-use Rattle.meaning.specs.Format.{pieces_of}
 use Rattle.meaning.specs.declared.Format.{Format}
 use Rattle.meaning.specs.declared.Format.TheVariants.{Ewah, Wah}
 use Rattle.laws.specs.Ahead.{rest_of}
-use Rattle.ewah.specs.declared.cursor.Cursor.{Cursor}
 use Rattle.ewah.specs.declared.cursor.Piece as code
 use Rattle.ewah.specs.declared.cursor.Piece.TheVariants.{Clean, Dirty}
 use Rattle.ewah.specs.Cursors.{Stands, HeldIn, most_due, left_of, piece_then, pieces_from}
@@ -96,29 +93,3 @@ pub later-some : (F : Format) (b : List ℕ) (next d k : ℕ) → d ≤ most_due
     → NoneEmpty (rest_of F (d - k) (drop (next + k) b))
 later-some Ewah b next d k l h s = pieces-some (d - k) (drop (next + k) b)
 later-some Wah b next d k l h s = let e : next + k ≡ next = omega arith in rw e s
-
--- a whole body is what is left at its first word
-pub whole : (F : Format) (b : List ℕ) → rest_of F 0 (drop 0 b) ≡ pieces_of F b
-whole Ewah b = refl
-whole Wah b = refl
-
--- ---- the switch
-
-module _ (F : Format) (b : List ℕ) (at due : ℕ) (c : Cursor) where
-  pub load-dirty : (due ≡ 0 → ⊥) → due ≤ most_due F → Stands Ewah b c (pieces due (drop at b))
-      → Stands F b c (rest_of F due (drop at b))
-  load-dirty k l s = go F l
-    where
-      go : (G : Format) → due ≤ most_due G → Stands G b c (rest_of G due (drop at b))
-      go Ewah l = s
-      go Wah l = absurd (k (omega arith))
-
-  pub load-ewah : F ≡ Ewah → due ≡ 0 → Stands Ewah b c (pieces 0 (drop at b)) → Stands F b c (rest_of F due (drop at b))
-  load-ewah e z s = rw (e, z) s
-
-  pub load-wah : F ≡ Wah → Stands Wah b c (wah_pieces (drop at b)) → Stands F b c (rest_of F due (drop at b))
-  load-wah e s = rw e s
-
-pub some-wah : (F : Format) (b : List ℕ) (at due : ℕ) → F ≡ Wah → NoneEmpty (rest_of F due (drop at b))
-    → NoneEmpty (wah_pieces (drop at b))
-some-wah F b at due e s = rw e at s

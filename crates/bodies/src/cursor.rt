@@ -1,4 +1,5 @@
 // A cursor over the pieces of a body, one after the other; a clean run may be taken in parts.
+// Kept: functions of a cursor, and no methods: its type stands in `ewah`, where no format is known, so a method would part `span` from `advance` and `pass`.
 ghost use Rattle.std.specs.Prelude.{◌≡◌, ◌+◌, ◌≤◌, ◌<◌, length, drop};
 ghost use Rattle.meaning.specs.Limits.{most_dirty};
 ghost use Rattle.meaning.specs.Segment.{fill};
@@ -72,8 +73,7 @@ pub fn open(format: Format, body: &[u32]) -> Cursor
 pub fn left(c: Cursor) -> u32
     ensures { result ≡ left_of c.piece }
 {
-    let piece = c.piece;
-    match piece {
+    match c.piece {
         Piece::Clean(_, n) => n,
         Piece::Dirty(_) => 1,
     }
@@ -108,22 +108,18 @@ pub fn advance(format: Format, body: &[u32], c: Cursor, n: u32) -> Cursor
     requires n_bound { n ≤ left_of c.piece }
     ensures { Stands format body.now result (advanced n (pieces_from format body.now c)) }
 {
-    let piece = c.piece;
-    let next = c.next;
-    let dirty = c.dirty;
-    match piece {
+    match c.piece {
         Piece::Clean(value, k) => {
             if n < k {
                 return Cursor {
                     piece: Piece::Clean(value, k - n),
-                    next,
-                    dirty,
+                    ..c
                 };
             }
         }
         Piece::Dirty(_) => {}
     }
-    load(format, body, next, dirty)
+    load(format, body, c.next, c.dirty)
 }
 
 // How many segments there are up to the next marker or fill: what is left of a run, or the dirty words from the
@@ -132,11 +128,9 @@ pub fn span(c: Cursor) -> u32
     requires { c.dirty ≤ most_dirty }
     ensures { result ≡ span_of c }
 {
-    let piece = c.piece;
-    let dirty = c.dirty;
-    match piece {
+    match c.piece {
         Piece::Clean(_, n) => n,
-        Piece::Dirty(_) => dirty + 1,
+        Piece::Dirty(_) => c.dirty + 1,
     }
 }
 
@@ -146,11 +140,8 @@ pub fn pass(format: Format, body: &[u32], c: Cursor, n: u32) -> Cursor
     requires le_n { (1 ≤ n) × (n ≤ span_of c) × (c.next + behind c.piece n ≤ length body.now) }
     ensures { Passes format body.now c n result }
 {
-    let piece = c.piece;
-    let next = c.next;
-    let dirty = c.dirty;
-    match piece {
+    match c.piece {
         Piece::Clean(_, _) => advance(format, body, c, n),
-        Piece::Dirty(_) => load(format, body, next + (n - 1) as usize, dirty - (n - 1)),
+        Piece::Dirty(_) => load(format, body, c.next + (n - 1) as usize, c.dirty - (n - 1)),
     }
 }

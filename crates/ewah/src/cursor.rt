@@ -48,18 +48,15 @@ pub fn load(body: &[u32], next: usize) -> Cursor
 {
     for at in next..body.len() {
         let m = marker::read(body[at]);
-        let value = m.value;
-        let clean = m.clean;
-        let dirty = m.dirty;
-        if clean != 0 {
+        if m.clean != 0 {
             return Cursor {
-                piece: Piece::Clean(value, clean),
+                piece: Piece::Clean(m.value, m.clean),
                 next: at + 1,
-                dirty,
+                dirty: m.dirty,
             };
         }
-        if dirty != 0 {
-            return load_dirty(body, at + 1, dirty);
+        if m.dirty != 0 {
+            return load_dirty(body, at + 1, m.dirty);
         }
     }
     Cursor {

@@ -25,10 +25,7 @@ pub fn word(m: Marker) -> u32
     requires { InRange m }
     ensures { result ≡ marker m.value m.clean m.dirty }
 {
-    let value = m.value;
-    let clean = m.clean;
-    let dirty = m.dirty;
-    value | (clean << 1) | (dirty << 17)
+    m.value | (m.clean << 1) | (m.dirty << 17)
 }
 
 // The word of a clean segment.

@@ -10,18 +10,11 @@ returns-then-n-k c =
     run-shorter c.args.format c.args.body.now c.args.c c.args.n c.requires.le_n c.requires.n_bound c.requires.in_order
     _ _ c.in-Clean.is c.if-n-k.true
 
-pub load-requires : goal.load-requires
-load-requires c =
-    record {
-      next_in_bounds = (c.requires.in_order.inside, c.requires.in_order.dirty-low);
-      none_empty = c.requires.in_order.rest_some;
-    }
-
 pub returns : goal.returns
 returns c =
     let F = c.args.format in
     let b = c.args.body.now in
-    elim c.match-piece.branch [
+    elim c.match-c.branch [
       | in-Clean+else-n-k w ↦
           run-over F b c.args.c c.args.n c.requires.le_n c.requires.n_bound _ _ c.load.result w.in-Clean.is w.if-n-k.false c.load.ensures
       | in-Dirty w ↦

@@ -3,20 +3,9 @@
 use Prim.Native.Nat.{ℕ}
 use mathlib.Core.Bool.{Bool}
 use mathlib.Core.Path.{ap, ◌∙◌}
-use Rattle.meaning.specs.declared.Format.TheVariants.{Ewah, Wah}
 use Rattle.meaning.specs.Answer.{ask_nth}
-use Rattle.body_read.proofs.Either.{facts-as, rows-ewah, rows-wah}
+use Rattle.body_read.proofs.Either.{rows-ewah, rows-wah}
 use Rattle.body_read.proofs.nth.nth.Goals as goal
-
-pub nth-requires : goal.nth-requires
-nth-requires c =
-    let a = c.args in
-    (c.requires.0, facts-as a.format a.rows a.body.now Ewah c.in-Ewah.is c.requires.1)
-
-pub nth-requires-in-Wah : goal.nth-requires-in-Wah
-nth-requires-in-Wah c =
-    let a = c.args in
-    (c.requires.0, facts-as a.format a.rows a.body.now Wah c.in-Wah.is c.requires.1)
 
 pub returns-in-Ewah : goal.returns-in-Ewah
 returns-in-Ewah c =

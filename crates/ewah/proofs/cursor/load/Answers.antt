@@ -1,30 +1,21 @@
 -- `ewah::cursor::load` meets its contract. The loop's invariant: the pieces from the marker at word `at` on are those that
 -- were asked for.
 -- Assumes nothing.
-use mathlib.Core.Path.{◌≡◌, refl}
+use mathlib.Core.Path.{◌≡◌}
 use lib.ListN.{length}
 use Rattle.meaning.specs.declared.Format.TheVariants.{Ewah}
 use Rattle.ewah.proofs.Pieces.{at-end, on-run, on_none, on-idle}
 use native.Mathlib.Omega.{arith}
 use Rattle.ewah.proofs.cursor.load.Goals as goal
 
-pub loop-at-init : goal.loop-at-init
-loop-at-init c = refl
+pub returns-then-m-ne0 : goal.returns-then-m-ne0
+returns-then-m-ne0 c = search on-run
 
-pub returns-then-clean-ne0 : goal.returns-then-clean-ne0
-returns-then-clean-ne0 c = search on-run
-
-pub load_dirty-requires : goal.load_dirty-requires
-load_dirty-requires c =
-    let m = c.read-m.ensures in
-    (omega arith, omega arith, m.in-range.dirty-low)
-
-pub returns-then-dirty-ne0 : goal.returns-then-dirty-ne0
-returns-then-dirty-ne0 c =
+pub returns-then-m-ne0-2 : goal.returns-then-m-ne0-2
+returns-then-m-ne0-2 c =
     let m = c.read-m in
     let l = c.loop-at in
-    let t = c.loop-at-test.true in
-    let next = on_none c.args.body.now l.at t _ l.invariant m.result m.ensures c.if-clean-ne0.false in
+    let next = on_none c.args.body.now l.at c.loop-at-test.true _ l.invariant m.result m.ensures c.if-m-ne0.false in
     rw next at c.load_dirty.ensures
 
 pub loop-at-preserved : goal.loop-at-preserved

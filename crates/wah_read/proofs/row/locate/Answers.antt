@@ -8,12 +8,9 @@ use Rattle.meaning.specs.Segment.{fill}
 use Rattle.meaning.specs.Wah.{wah_segments, wah_pieces}
 use Rattle.extent.specs.Place.{PlaceOf}
 use Rattle.wah.proofs.Spelled.{fill-size, literal-size, spelled-fill, spelled-literal}
-use Rattle.wah_read.proofs.Locating.{Seeks, seeks-start, seeks-end, found, seeks-next}
+use Rattle.wah_read.proofs.Locating.{Seeks, seeks-end, found, seeks-next}
 use Rattle.wah_read.proofs.row.locate.Goals as goal
 use Rattle.wah_read.proofs.row.locate.Goals.{then-is_fill+else-ahead-fill, else-is_fill+else-ahead-eq0}
-
-pub loop-x-init : goal.loop-x-init
-loop-x-init c = seeks-start c.args.body.now c.args.s c.requires
 
 pub returns-then-ahead-fill : goal.returns-then-ahead-fill
 returns-then-ahead-fill c =
