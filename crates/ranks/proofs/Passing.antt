@@ -1,13 +1,13 @@
 -- The pass that makes the body: the words of a block as they are written are the body's segments.
 -- Assumes nothing.
-use Prim.Native.Nat.{ℕ, suc, ◌+◌, ◌-◌, ◌*◌, ◌/◌, ◌^◌, ◌≤◌, ◌<◌}
+use Prim.Native.Nat.{ℕ, suc, ◌+◌, ◌-◌, ◌*◌, ◌^◌, ◌≤◌, ◌<◌}
 use mathlib.Core.Bool.{Bool, true, false, ◌&&◌, ◌||◌}
 use mathlib.Core.Path.{◌≡◌, refl, sym, ap, ap₂, ◌∙◌, subst}
 use mathlib.Core.List.{List}
 use lib.Dec.{eqb, ltb}
 use lib.ListN.{length, get_or, take, drop, length-map, length-replicate, get_or-replicate, get_or-map}
 use lib.Seq.{get_or-take, length-take-le}
-use native.Mathlib.Nat.{mod-eq_of_lt, suc-mul, mul-le-mul_right, le-div_iff_mul-le}
+use native.Mathlib.Nat.{mod-eq_of_lt, suc-mul, mul-le-mul_right}
 use native.Mathlib.Decide.{dec_le, ℕ_discrete}
 use native.Mathlib.Omega.{arith}
 use borrow.Author.Tests.{lt-ltb, le-ltb}
@@ -40,15 +40,6 @@ use Rattle.ranks.proofs.Comparing.{Tested, has-rows, clear, like, tested-ahead, 
 -- the segments of the body
 abbrev pub own_segments : (op : Ranking) (index list : List ℕ) (value cut : ℕ) → List Segment
 own_segments op index list value cut = segs (format_of index) (row_count index) (cut_rows op index list value cut)
-
--- a cut that is no further than n segments is in one of them, or right behind the last
-pub at_most : {v w cut n : ℕ} → v ≡ w → 0 < v → cut ≤ n * w → cut / v ≤ n
-at_most {v} {w} {cut} {n} e pos h = elim (dec_le (cut / v) n) [
-  | yes g ↦ g
-  | no g ↦
-      let more : suc n ≤ cut / v = omega arith in
-      absurd (omega (arith, (le-div_iff_mul-le pos).0 more, suc-mul n v, ap (λ (k : ℕ). n * k) e))
-]
 
 pub body_is : (op : Ranking) (index list : List ℕ) (value cut : ℕ)
     → words_of (format_of index) (row_count index) (own_segments op index list value cut) ≡ cut_body op index list value cut
