@@ -71,12 +71,7 @@ block_segments = 16
 abbrev pub block_words : ℕ
 block_words = most_value_column * block_segments
 
--- the numbers that are kept for each body being written, and for all of them; and where each starts, and the last one's end
-abbrev pub writer_numbers : ℕ
-writer_numbers = 5
-
-abbrev pub writers_numbers : ℕ
-writers_numbers = most_value_column * writer_numbers
+-- where each body being written starts, and the last one's end
 
 abbrev pub most_starts : ℕ
 most_starts = most_value_column + 1
