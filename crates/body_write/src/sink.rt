@@ -25,7 +25,7 @@ pub trait Sink {
         requires room_for { stores ≡ true → RoomFor format (replicate n (clean value)) w (length (words self.old)) }
         ensures emitted { (real : ℕ) → mask ≡ 2 ^ real - 1
             → Emitted format real (words self.old) (words self.new) w (replicate n (clean value)) stores result }
-        ensures same { name self.new ≡ name self.old };
+        ensures same { (name self.new ≡ name self.old) × (length (words self.new) ≡ length (words self.old)) };
 
     // One segment, of the kind that its word has; the mask has its rows.
     fn segment(&mut self, format: Format, w: Writer, x: u32, mask: u32) -> Writer
@@ -33,7 +33,7 @@ pub trait Sink {
         requires room_for { stores ≡ true → RoomFor format (kind (width format) x ∷ []) w (length (words self.old)) }
         ensures emitted { (real : ℕ) → mask ≡ 2 ^ real - 1
             → Emitted format real (words self.old) (words self.new) w (kind (width format) x ∷ []) stores result }
-        ensures same { name self.new ≡ name self.old };
+        ensures same { (name self.new ≡ name self.old) × (length (words self.new) ≡ length (words self.old)) };
 }
 
 pub struct Measured {}
