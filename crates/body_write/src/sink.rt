@@ -36,6 +36,7 @@ pub trait Sink {
         ensures same { (name self.new ≡ name self.old) × (length (words self.new) ≡ length (words self.old)) };
 }
 
+#[derive(Clone, Copy)]
 pub struct Measured {}
 
 impl Sink for Measured {
@@ -54,6 +55,7 @@ impl Sink for Measured {
     }
 }
 
+#[derive(Drop)]
 pub struct Stored<'a> {
     pub out: &'a mut [u32],
 }
