@@ -4,7 +4,7 @@
 // Calls here have a `requires`; the public ones of `zvonurel` test their input first.
 #![tactic(auto)]
 
-ghost use Rattle.std.specs.Prelude.{Bool, List, ℕ, ◌+◌, ◌≤◌, ◌<◌, length};
+ghost use Rattle.std.specs.Prelude.{◌≡◌, Bool, true, List, ℕ, ◌+◌, ◌≤◌, ◌<◌, length};
 ghost use Rattle.meaning.specs.Limits.{most_rows};
 ghost use Rattle.meaning.specs.declared.Format.TheVariants.{Ewah};
 ghost use Rattle.laws.specs.Demands.{PlainRows};
@@ -46,6 +46,17 @@ fn feed<S: Sink>(out: &mut S, o: Output, plain: &[u32], rows: u32) -> usize
     output::finish(Format::Ewah, out, v)
 }
 
+// The same, to the front of a buffer with room for it.
+fn store(out: &mut [u32], o: Output, plain: &[u32], rows: u32) -> usize
+    requires have_bound { (o.packer.have < 32) × PlainRows rows plain.now }
+    requires by_index { (R : ℕ) × (q : ℕ → Bool) × (old : List ℕ) × BatchNext R q old true out.old o plain.now rows }
+    ensures { (R : ℕ) (q : ℕ → Bool) (old : List ℕ)
+        → BatchNext R q old true out.old o plain.now rows
+        → Rewritten Ewah (R + rows) q old true out.new result }
+{
+    feed(&mut Stored { out }, o, plain, rows)
+}
+
 // The place as an output: the rows behind the whole segments are in the packer.
 fn reopen(p: Place, before: u32) -> Output
     ensures { Reopened before p result }
@@ -82,7 +93,7 @@ fn write(out: &mut [u32], p: Place, before: u32, plain: &[u32], rows: u32) -> us
         → WroteLonger before q rows plain.now (Ok result) out.old out.new }
 {
     restore(out, p.writer);
-    feed(&mut Stored { out }, reopen(p, before), plain, rows)
+    store(out, reopen(p, before), plain, rows)
 }
 
 // The body of the rows so far and the batch's, unless it does not fit.

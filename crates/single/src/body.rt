@@ -10,6 +10,7 @@ use answers::answer;
 use answers::refusal::Refusal;
 use body_read::{nth, row};
 use body_write::bound;
+use body_write::sink::{Measured, Stored};
 use meaning::{Format, Row};
 
 // The answer on row r; 8 where there is none.
@@ -44,7 +45,7 @@ pub fn rewrite(from: Format, to: Format, body: &[u32], rows: u32, out: &mut [u32
     if bound::most_words(to, rows) <= out.len() {
         return write_fitting(from, to, body, rows, out);
     }
-    let need = rewrite::body::rewrite(from, to, body, rows, out, false);
+    let need = rewrite::body::rewrite(from, to, body, rows, &mut Measured {});
     if out.len() < need {
         return Err(answer::no_room(need as u64));
     }
@@ -59,5 +60,5 @@ fn write_fitting(from: Format, to: Format, body: &[u32], rows: u32, out: &mut [u
     ensures { Wrote (meaning.write to rows (rows_of from body.now) (length out.old))
         result out.old out.new }
 {
-    Ok(rewrite::body::rewrite(from, to, body, rows, out, true))
+    Ok(rewrite::body::rewrite(from, to, body, rows, &mut Stored { out }))
 }
