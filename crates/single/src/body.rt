@@ -1,10 +1,11 @@
 // Questions on a body that has no fault: what is left to be refused, and the answer.
-ghost use Rattle.std.specs.Prelude.{◌≡◌, ◌≤◌, length};
+ghost use Rattle.std.specs.Prelude.{◌≡◌, true, ◌≤◌, length};
 ghost use Rattle.meaning.specs.Limits.{most_rows};
 ghost use Rattle.meaning.specs.Format.{rows_of, canonical};
 ghost use Rattle.laws.specs.Laws.{SoundFacts};
 ghost use Rattle.meaning.specs.Answer as meaning;
 ghost use Rattle.answers.specs.Told.{outcome_of, Wrote};
+ghost use Rattle.row_write.specs.Packing.{Rewritten};
 
 use answers::answer;
 use answers::refusal::Refusal;
@@ -60,5 +61,14 @@ fn write_fitting(from: Format, to: Format, body: &[u32], rows: u32, out: &mut [u
     ensures { Wrote (meaning.write to rows (rows_of from body.now) (length out.old))
         result out.old out.new }
 {
-    Ok(rewrite::body::rewrite(from, to, body, rows, &mut Stored { out }))
+    Ok(store(from, to, body, rows, out))
+}
+
+// Its words, to the front of a buffer with room for them.
+fn store(from: Format, to: Format, body: &[u32], rows: u32, out: &mut [u32]) -> usize
+    requires rows_le_most_rows { (rows ≤ most_rows) × SoundFacts from rows body.now }
+    requires body_in_bounds { length (canonical to rows (rows_of from body.now)) ≤ length out.old }
+    ensures { Rewritten to rows (rows_of from body.now) out.old true out.new result }
+{
+    rewrite::body::rewrite(from, to, body, rows, &mut Stored { out })
 }
