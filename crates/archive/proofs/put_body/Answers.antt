@@ -10,7 +10,7 @@ pub rewrite-requires-clause-body_in_bounds : goal.rewrite-requires-clause-body_i
 rewrite-requires-clause-body_in_bounds g c =
     let a = c.args in
     let its-rows = read-rows a.index.now c.requires.index_facts a.k c.requires.k_bound _ _ _
-        c.format.ensures c.rows.ensures c.body.ensures.result_value a.to in
+    c.format.ensures c.rows.ensures c.body.ensures.result_value a.to in
     λ h. omega (arith, ap length its-rows, c.requires.k_in_bounds h)
 
 pub returns-clause-rewritten : goal.returns-clause-rewritten

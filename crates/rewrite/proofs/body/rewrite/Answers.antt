@@ -51,11 +51,11 @@ put-o-requires g c =
     let at = h.invariant.0 in
     let more = c.loop-left-test.true in
     let k-is : c.rows_in-k.result ≡ min (left_of h.c.piece * width a.from) h.left =
-        c.rows_in-k.ensures ∙ ap (λ (w : ℕ). min (left_of h.c.piece * w) h.left) c.width-width.ensures in
+    c.rows_in-k.ensures ∙ ap (λ (w : ℕ). min (left_of h.c.piece * w) h.left) c.width-width.ensures in
     let behind-is = behind a.from a.rows b facts.0 facts.1 at more in
     let rows = piece-rows a.from a.rows b facts.0 facts.1 at more in
     let coming : Coming a.to a.rows (rows_of a.from b) (g.S.Sink.words a.out.now) g.S.Sink.stores (g.S.Sink.words h.out)
-        (a.rows - h.left) h.o (row_in h.c.piece) c.rows_in-k.result = record {
+    (a.rows - h.left) h.o (row_in h.c.piece) c.rows_in-k.result = record {
       packed = h.invariant.5;
       within = omega (arith, k-is, h.invariant.1);
       next = λ j l. ap (rows_of a.from b) (omega (arith, behind-is)) ∙ rows j (omega (arith, k-is));
@@ -84,7 +84,7 @@ loop-left-smaller g c =
     let at = h.invariant.0 in
     let more = c.loop-left-test.true in
     let k-is : c.rows_in-k.result ≡ min (left_of h.c.piece * width a.from) h.left =
-        c.rows_in-k.ensures ∙ ap (λ (w : ℕ). min (left_of h.c.piece * w) h.left) c.width-width.ensures in
+    c.rows_in-k.ensures ∙ ap (λ (w : ℕ). min (left_of h.c.piece * w) h.left) c.width-width.ensures in
     omega (arith, k-is, rows-some a.from a.rows b facts.0 facts.1 at more)
 
 pub loop-left-preserved : goal.loop-left-preserved
@@ -96,11 +96,11 @@ loop-left-preserved g c =
     let at = h.invariant.0 in
     let more = c.loop-left-test.true in
     let k-is : c.rows_in-k.result ≡ min (left_of h.c.piece * width a.from) h.left =
-        c.rows_in-k.ensures ∙ ap (λ (w : ℕ). min (left_of h.c.piece * w) h.left) c.width-width.ensures in
+    c.rows_in-k.ensures ∙ ap (λ (w : ℕ). min (left_of h.c.piece * w) h.left) c.width-width.ensures in
     let behind-is = behind a.from a.rows b facts.0 facts.1 at more in
     let rows = piece-rows a.from a.rows b facts.0 facts.1 at more in
     let coming : Coming a.to a.rows (rows_of a.from b) (g.S.Sink.words a.out.now) g.S.Sink.stores (g.S.Sink.words h.out)
-        (a.rows - h.left) h.o (row_in h.c.piece) c.rows_in-k.result = record {
+    (a.rows - h.left) h.o (row_in h.c.piece) c.rows_in-k.result = record {
       packed = h.invariant.5;
       within = omega (arith, k-is, h.invariant.1);
       next = λ j l. ap (rows_of a.from b) (omega (arith, behind-is)) ∙ rows j (omega (arith, k-is));
@@ -108,7 +108,7 @@ loop-left-preserved g c =
     let put = c.put-o in
     let k = c.rows_in-k.result in
     let stands = subst (λ (n : ℕ). Stands a.from b c.advance-c.result (advanced n (pieces_from a.from b h.c)))
-        c.left.ensures c.advance-c.ensures in
+    c.left.ensures c.advance-c.ensures in
     let next = at_next a.from a.rows b facts.0 facts.1 at more c.advance-c.result stands in
     let d : a.rows - h.left + k ≡ a.rows - (h.left - k) = omega (arith, k-is, h.invariant.1) in (
       rw (← k-is) at next,
@@ -129,7 +129,9 @@ finish-requires g c =
     record {
       have_bound = h.invariant.2;
       by_index = (
-        a.rows, q, g.S.Sink.words a.out.now,
+        a.rows,
+        q,
+        g.S.Sink.words a.out.now,
         subst (λ (n : ℕ). Packed a.to a.rows q (g.S.Sink.words a.out.now) g.S.Sink.stores (g.S.Sink.words h.out) n h.o) all h.invariant.5,
       );
     }

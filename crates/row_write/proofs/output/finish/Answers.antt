@@ -29,7 +29,7 @@ segment-v-requires-clause-room_for g c =
     let most : 2 ^ have ≤ 2 ^ 32 = pow_mono {i = have} {j = 32} (omega (arith, few, width-le F)) in
     let x = c.lowest.ensures ∙ mod-eq_of_lt (omega (arith, p.low, most)) in
     let is = (c.spelled-x.ensures (width F) have (omega (arith, c.if-held-eq0.false)) (omega (arith, few)) c.full.ensures c.low_ones-mask.ensures).0
-        ∙ ap (λ (z : ℕ). kind have (z % 2 ^ have)) x ∙ ap (kind have) (mod-eq_of_lt p.low) in
+    ∙ ap (λ (z : ℕ). kind have (z % 2 ^ have)) x ∙ ap (kind have) (mod-eq_of_lt p.low) in
     λ e. sent-room p.sent _ (last-next F t.0 t.1 t.2 g.S.Sink.stores p c.spelled-x.result c.if-held-eq0.false few is) e
 
 pub returns-clause-rewritten : goal.returns-clause-rewritten
@@ -43,5 +43,5 @@ returns-clause-rewritten g c =
     let most : 2 ^ have ≤ 2 ^ 32 = pow_mono {i = have} {j = 32} (omega (arith, few, width-le F)) in
     let x = c.lowest.ensures ∙ mod-eq_of_lt (omega (arith, p.low, most)) in
     let is = (c.spelled-x.ensures (width F) have (omega (arith, c.if-held-eq0.false)) (omega (arith, few)) c.full.ensures c.low_ones-mask.ensures).0
-        ∙ ap (λ (z : ℕ). kind have (z % 2 ^ have)) x ∙ ap (kind have) (mod-eq_of_lt p.low) in
+    ∙ ap (λ (z : ℕ). kind have (z % 2 ^ have)) x ∙ ap (kind have) (mod-eq_of_lt p.low) in
     finished-part F R q old g.S.Sink.stores p c.spelled-x.result c.if-held-eq0.false few is _ _ emit.ensures.same.1 (emit.ensures.emitted have c.low_ones-mask.ensures)

@@ -16,7 +16,7 @@ put_whole-b-requires-clause-takes g c =
     let w = c.width-w.result in
     let n = left / w in
     let parts : c.args.n ≡ k + n * width F + left % w =
-        omega (arith, c.if-n-k.false, div-add-mod' left w, ap (λ (m : ℕ). n * m) c.width-w.ensures) in
+    omega (arith, c.if-n-k.false, div-add-mod' left w, ap (λ (m : ℕ). n * m) c.width-w.ensures) in
     takes-after {a = k} (λ j h. refl) refl c.put_part-a.ensures.put_on
     (takes_first (k + n * width F) c.args.n (omega (arith, parts)) c.requires.takes)
 
@@ -29,7 +29,7 @@ put_part-requires-2-clause-takes g c =
     let w = c.width-w.result in
     let n = left / w in
     let parts : c.args.n ≡ k + n * width F + left % w =
-        omega (arith, c.if-n-k.false, div-add-mod' left w, ap (λ (m : ℕ). n * m) c.width-w.ensures) in
+    omega (arith, c.if-n-k.false, div-add-mod' left w, ap (λ (m : ℕ). n * m) c.width-w.ensures) in
     let joined = put-join {a = k} (λ j h. refl) refl c.put_part-a.ensures.put_on c.put_whole-b.ensures.put_on in
     takes-after {a = k + n * width F} (λ j h. refl) parts joined c.requires.takes
 
@@ -41,6 +41,6 @@ returns-clause-put_on g c =
     let w = c.width-w.result in
     let n = left / w in
     let parts : c.args.n ≡ k + n * width F + left % w =
-        omega (arith, c.if-n-k.false, div-add-mod' left w, ap (λ (m : ℕ). n * m) c.width-w.ensures) in
+    omega (arith, c.if-n-k.false, div-add-mod' left w, ap (λ (m : ℕ). n * m) c.width-w.ensures) in
     let joined = put-join {a = k} (λ j h. refl) refl c.put_part-a.ensures.put_on c.put_whole-b.ensures.put_on in
     put-join {a = k + n * width F} (λ j h. refl) parts joined c.put_part-2.ensures.put_on
