@@ -14,17 +14,18 @@ ghost use Rattle.archive.specs.Anew.{anew, BodyAdded};
 
 use answers::answer;
 use answers::refusal::Refusal;
+use body_write::sink::{Measured, Sink, Stored};
 use meaning::Format;
 
-// The body of bitmap k in canonical form of the format `to`: written to the front of `out` where `store` says so, else
-// only measured. How many words it has.
-fn put_body(index: &[u32], k: u32, to: Format, out: &mut [u32], store: bool) -> usize
+// The body of bitmap k in canonical form of the format `to`. How many words it has.
+fn put_body<S: Sink>(index: &[u32], k: u32, to: Format, out: &mut S) -> usize
     requires index_facts { IndexFacts index.now }
     requires k_bound { k < bitmap_count index.now }
-    requires k_in_bounds { store ≡ true
-        → length (canonical to (row_count index.now) (rows_at index.now k)) ≤ length out.old }
-    ensures { Rewritten to (row_count index.now) (rows_at index.now k)
-        out.old store out.new result }
+    requires k_in_bounds { S.stores ≡ true
+        → length (canonical to (row_count index.now) (rows_at index.now k)) ≤ length (S.words out.old) }
+    ensures rewritten { Rewritten to (row_count index.now) (rows_at index.now k)
+        (S.words out.old) S.stores (S.words out.new) result }
+    ensures same { (S.name out.new ≡ S.name out.old) × (length (S.words out.new) ≡ length (S.words out.old)) }
 {
     rewrite::body::rewrite(
         contents::format(index),
@@ -32,19 +33,28 @@ fn put_body(index: &[u32], k: u32, to: Format, out: &mut [u32], store: bool) -> 
         contents::body(index, k),
         contents::rows(index),
         out,
-        store,
     )
 }
 
+// The same, to the front of a buffer with room for it.
+fn store_body(index: &[u32], k: u32, to: Format, out: &mut [u32]) -> usize
+    requires index_facts { IndexFacts index.now }
+    requires k_bound { k < bitmap_count index.now }
+    requires k_in_bounds { length (canonical to (row_count index.now) (rows_at index.now k)) ≤ length out.old }
+    ensures { Rewritten to (row_count index.now) (rows_at index.now k) out.old true out.new result }
+{
+    put_body(index, k, to, &mut Stored { out })
+}
+
 // How many words the new index has: its head, its contents, and each body.
-fn measure(index: &[u32], to: Format, out: &mut [u32]) -> usize
+fn measure(index: &[u32], to: Format) -> usize
     requires { IndexFacts index.now }
-    ensures { (result ≡ length (anew index.now to)) × (out.new ≡ out.old) }
+    ensures { result ≡ length (anew index.now to) }
 {
     let n = contents::bitmaps(index);
     let mut need = contents::entry_place(index, n);
     for k in 0..n {
-        need += put_body(index, k, to, out, false);
+        need += put_body(index, k, to, &mut Measured {});
     }
     need
 }
@@ -58,7 +68,7 @@ fn write_body(index: &[u32], k: u32, to: Format, out: &mut [u32], at: usize) -> 
     ensures { (result ≡ body_place (anew index.now to) (k + 1))
         × BodyAdded (anew index.now to) out.old out.new k }
 {
-    let words = put_body(index, k, to, &mut out[at..], true);
+    let words = store_body(index, k, to, &mut out[at..]);
     let entry = contents::entry_place(index, k);
     out[entry] = at as u32;
     out[entry + 1] = words as u32;
@@ -90,7 +100,7 @@ pub fn rewrite(index: &[u32], to: Format, out: &mut [u32]) -> Result<usize, Refu
         (sets_from index.now 0 (bitmap_count index.now)) (length out.old))
         result out.old out.new }
 {
-    let need = measure(index, to, out);
+    let need = measure(index, to);
     if contents::room(out.len()) < need {
         return Err(answer::no_room(need as u64));
     }

@@ -4,4 +4,5 @@
 #![tactic(auto)]
 
 pub mod bound;
+pub mod sink;
 pub mod writer;

@@ -77,11 +77,11 @@ module _ {R : ℕ} {q : ℕ → Bool} {out : List ℕ} {p : Place} (at : PlaceOf
       ∙ ap (λ (n : ℕ). word_of n (λ j. rows (R / 32 * 32 + j))) (sym is.2)
 
   -- so the batch comes next, if the buffer has the words of the whole segments where they are stored
-  next : {store : Bool} {out' : List ℕ} → (store ≡ true → Fits R q k plain out) → length out' ≡ length out
-      → (store ≡ true → Written Ewah (rows_in 32 (R + k) (R / 32 - 1)) out out' o.writer whole)
-      → (store ≡ false → out' ≡ out) → BatchNext R rows out store out' o plain k
+  next : {store : Bool} (old : List ℕ) {out' : List ℕ} → (store ≡ true → Fits R q k plain old) → length out' ≡ length old
+      → (store ≡ true → Written Ewah (rows_in 32 (R + k) (R / 32 - 1)) old out' o.writer whole)
+      → (store ≡ false → out' ≡ old) → BatchNext R rows old store out' o plain k
   unfolding segment_count
-  next room long stored kept = record {
+  next old room long stored kept = record {
     packed = record {
       whole = R / 32;
       rows = omega (arith, is.2);
@@ -99,15 +99,15 @@ module _ {R : ℕ} {q : ℕ → Bool} {out : List ℕ} {p : Place} (at : PlaceOf
     next = λ j h. follow-new R q (has_row 32 plain) (R + j) (omega arith) ∙ ap (has_row 32 plain) (omega arith);
   }
 
-  -- to be measured: the buffer stays
-  pub measured-next : BatchNext R (longer R q plain) out false out o plain k
-  measured-next = next (λ e. absurd (false≢true e)) refl (λ e. absurd (false≢true e)) (λ e. refl)
+  -- to be measured
+  pub measured-next : (old : List ℕ) → BatchNext R (longer R q plain) old false old o plain k
+  measured-next old = next old (λ e. absurd (false≢true e)) refl (λ e. absurd (false≢true e)) (λ e. refl)
 
   -- to be stored, behind the last marker as the writer has it
   pub stored_next : {out' : List ℕ} → Fits R q k plain out → MarkerStored out out' p.writer
       → BatchNext R (longer R q plain) out true out' o plain k
   unfolding ewah_of
-  stored_next {out'} room m = next (λ e. room) m.long (λ e. written) (λ e. absurd (false≢true (sym e)))
+  stored_next {out'} room m = next out (λ e. room) m.long (λ e. written) (λ e. absurd (false≢true (sym e)))
     where
       written : Written Ewah (rows_in 32 (R + k) (R / 32 - 1)) out out' o.writer whole
       written = record {

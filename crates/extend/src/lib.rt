@@ -4,7 +4,7 @@
 // Calls here have a `requires`; the public ones of `zvonurel` test their input first.
 #![tactic(auto)]
 
-ghost use Rattle.std.specs.Prelude.{Bool, List, ℕ, ◌+◌, ◌≤◌, ◌<◌, length};
+ghost use Rattle.std.specs.Prelude.{◌≡◌, Bool, true, List, ℕ, ◌+◌, ◌≤◌, ◌<◌, length};
 ghost use Rattle.meaning.specs.Limits.{most_rows};
 ghost use Rattle.meaning.specs.declared.Format.TheVariants.{Ewah};
 ghost use Rattle.laws.specs.Demands.{PlainRows};
@@ -16,6 +16,7 @@ ghost use Rattle.extend.specs.Longer.{Fits, WroteLonger, Reopened, BatchNext, Ma
 use answers::answer;
 use answers::refusal::Refusal;
 use body_write::bound;
+use body_write::sink::{Measured, Sink, Stored};
 use ewah::cursor::Piece;
 use ewah::marker;
 use ewah_write::writer::Writer;
@@ -25,23 +26,35 @@ use resume::Place;
 use row_write::output;
 use row_write::output::Output;
 
-// The rows of a batch, behind those that the output has, and then the last segment, stored where `store` says so. How
-// many words the body has.
-fn feed(out: &mut [u32], o: Output, plain: &[u32], rows: u32, store: bool) -> usize
+// The rows of a batch, behind those that the output has, and then the last segment. How many words the body has.
+fn feed<S: Sink>(out: &mut S, o: Output, plain: &[u32], rows: u32) -> usize
     requires have_bound { (o.packer.have < 32) × PlainRows rows plain.now }
-    requires by_index { (R : ℕ) × (q : ℕ → Bool) × (old : List ℕ) × BatchNext R q old store out.old o plain.now rows }
-    ensures { (R : ℕ) (q : ℕ → Bool) (old : List ℕ)
-        → BatchNext R q old store out.old o plain.now rows
-        → Rewritten Ewah (R + rows) q old store out.new result }
+    requires by_index { (R : ℕ) × (q : ℕ → Bool) × (old : List ℕ)
+        × BatchNext R q old S.stores (S.words out.old) o plain.now rows }
+    ensures rewritten { (R : ℕ) (q : ℕ → Bool) (old : List ℕ)
+        → BatchNext R q old S.stores (S.words out.old) o plain.now rows
+        → Rewritten Ewah (R + rows) q old S.stores (S.words out.new) result }
+    ensures same { (S.name out.new ≡ S.name out.old) × (length (S.words out.new) ≡ length (S.words out.old)) }
 {
     let mut v = o;
     let mut left = rows;
     for x in plain {
         let k = left.min(32);
-        v = output::put(Format::Ewah, out, v, Piece::Dirty(*x), k, store);
+        v = output::put(Format::Ewah, out, v, Piece::Dirty(*x), k);
         left -= k;
     }
-    output::finish(Format::Ewah, out, v, store)
+    output::finish(Format::Ewah, out, v)
+}
+
+// The same, to the front of a buffer with room for it.
+fn store(out: &mut [u32], o: Output, plain: &[u32], rows: u32) -> usize
+    requires have_bound { (o.packer.have < 32) × PlainRows rows plain.now }
+    requires by_index { (R : ℕ) × (q : ℕ → Bool) × (old : List ℕ) × BatchNext R q old true out.old o plain.now rows }
+    ensures { (R : ℕ) (q : ℕ → Bool) (old : List ℕ)
+        → BatchNext R q old true out.old o plain.now rows
+        → Rewritten Ewah (R + rows) q old true out.new result }
+{
+    feed(&mut Stored { out }, o, plain, rows)
 }
 
 // The place as an output: the rows behind the whole segments are in the packer.
@@ -80,7 +93,7 @@ fn write(out: &mut [u32], p: Place, before: u32, plain: &[u32], rows: u32) -> us
         → WroteLonger before q rows plain.now (Ok result) out.old out.new }
 {
     restore(out, p.writer);
-    feed(out, reopen(p, before), plain, rows, true)
+    store(out, reopen(p, before), plain, rows)
 }
 
 // The body of the rows so far and the batch's, unless it does not fit.
@@ -99,7 +112,7 @@ pub fn extend(
     if bound::most_words(Format::Ewah, before + rows) <= out.len() {
         return Ok(write(out, p, before, plain, rows));
     }
-    let need = feed(out, reopen(p, before), plain, rows, false);
+    let need = feed(&mut Measured {}, reopen(p, before), plain, rows);
     if out.len() < need {
         return Err(answer::no_room(need as u64));
     }

@@ -7,23 +7,18 @@ ghost use Rattle.laws.specs.Laws.{SoundFacts};
 ghost use Rattle.row_write.specs.Packing.{Rewritten};
 
 use bodies::cursor;
+use body_write::sink::Sink;
 use meaning::Format;
 use row_write::{output, piece};
 use words::rows;
 
-// The canonical body of the rows of a sound one, written to the front of `out` where `store` says so, and else only
-// measured. How many words it has.
-pub fn rewrite(
-    from: Format,
-    to: Format,
-    body: &[u32],
-    rows: u32,
-    out: &mut [u32],
-    store: bool,
-) -> usize
+// The canonical body of the rows of a sound one goes to `out`. How many words it has.
+pub fn rewrite<S: Sink>(from: Format, to: Format, body: &[u32], rows: u32, out: &mut S) -> usize
     requires rows_le_most_rows { (rows ≤ most_rows) × SoundFacts from rows body.now }
-    requires body_in_bounds { store ≡ true → length (canonical to rows (rows_of from body.now)) ≤ length out.old }
-    ensures { Rewritten to rows (rows_of from body.now) out.old store out.new result }
+    requires body_in_bounds { S.stores ≡ true
+        → length (canonical to rows (rows_of from body.now)) ≤ length (S.words out.old) }
+    ensures rewritten { Rewritten to rows (rows_of from body.now) (S.words out.old) S.stores (S.words out.new) result }
+    ensures same { (S.name out.new ≡ S.name out.old) × (length (S.words out.new) ≡ length (S.words out.old)) }
 {
     let width = rows::width(from);
     let mut c = cursor::open(from, body);
@@ -32,9 +27,9 @@ pub fn rewrite(
     // Kept: a loop by hand, (d): a turn takes a piece, with as many rows as that has, so no range has its turns.
     while left != 0 {
         let k = piece::rows_in(c, width, left);
-        o = output::put(to, out, o, c.piece, k, store);
+        o = output::put(to, out, o, c.piece, k);
         c = cursor::advance(from, body, c, cursor::left(c));
         left -= k;
     }
-    output::finish(to, out, o, store)
+    output::finish(to, out, o)
 }

@@ -5,7 +5,7 @@ ghost use Rattle.meaning.specs.Segment.{clean};
 ghost use Rattle.meaning.specs.Format.{width, most_run};
 ghost use Rattle.body_write.specs.Bodies.{Growing, RoomFor, Emitted};
 
-use body_write::writer;
+use body_write::sink::Sink;
 use ewah_write::writer::Writer;
 use meaning::{Format, MOST_CLEAN};
 use words::rows;
@@ -22,12 +22,13 @@ fn at_once(format: Format, n: u32) -> u32
 }
 
 // n whole clean segments: in one step, but for a run to EWAH that no marker can take.
-pub fn run(format: Format, out: &mut [u32], w: Writer, value: u32, n: u32, store: bool) -> Writer
+pub fn run<S: Sink>(format: Format, out: &mut S, w: Writer, value: u32, n: u32) -> Writer
     requires growing { Growing format w n }
     requires value_bound { value < 2 }
-    requires room_for { store ≡ true → RoomFor format (replicate n (clean value)) w (length out.old) }
-    ensures { Emitted format (width format) out.old out.new w (replicate n (clean value))
-        store result }
+    requires room_for { S.stores ≡ true → RoomFor format (replicate n (clean value)) w (length (S.words out.old)) }
+    ensures emitted { Emitted format (width format) (S.words out.old) (S.words out.new) w (replicate n (clean value))
+        S.stores result }
+    ensures same { (S.name out.new ≡ S.name out.old) × (length (S.words out.new) ≡ length (S.words out.old)) }
 {
     let full = rows::full(format);
     let mut v = w;
@@ -35,7 +36,7 @@ pub fn run(format: Format, out: &mut [u32], w: Writer, value: u32, n: u32, store
     // Kept: a loop by hand, (d): a step takes as many segments as a marker can, so no range has its turns.
     while left != 0 {
         let k = at_once(format, left);
-        v = writer::emit_run(format, out, v, value, k, full, store);
+        v = out.run(format, v, value, k, full);
         left -= k;
     }
     v

@@ -1,15 +1,17 @@
 // Questions on a body that has no fault: what is left to be refused, and the answer.
-ghost use Rattle.std.specs.Prelude.{◌≡◌, ◌≤◌, length};
+ghost use Rattle.std.specs.Prelude.{◌≡◌, true, ◌≤◌, length};
 ghost use Rattle.meaning.specs.Limits.{most_rows};
 ghost use Rattle.meaning.specs.Format.{rows_of, canonical};
 ghost use Rattle.laws.specs.Laws.{SoundFacts};
 ghost use Rattle.meaning.specs.Answer as meaning;
 ghost use Rattle.answers.specs.Told.{outcome_of, Wrote};
+ghost use Rattle.row_write.specs.Packing.{Rewritten};
 
 use answers::answer;
 use answers::refusal::Refusal;
 use body_read::{nth, row};
 use body_write::bound;
+use body_write::sink::{Measured, Stored};
 use meaning::{Format, Row};
 
 // The answer on row r; 8 where there is none.
@@ -44,7 +46,7 @@ pub fn rewrite(from: Format, to: Format, body: &[u32], rows: u32, out: &mut [u32
     if bound::most_words(to, rows) <= out.len() {
         return write_fitting(from, to, body, rows, out);
     }
-    let need = rewrite::body::rewrite(from, to, body, rows, out, false);
+    let need = rewrite::body::rewrite(from, to, body, rows, &mut Measured {});
     if out.len() < need {
         return Err(answer::no_room(need as u64));
     }
@@ -59,5 +61,14 @@ fn write_fitting(from: Format, to: Format, body: &[u32], rows: u32, out: &mut [u
     ensures { Wrote (meaning.write to rows (rows_of from body.now) (length out.old))
         result out.old out.new }
 {
-    Ok(rewrite::body::rewrite(from, to, body, rows, out, true))
+    Ok(store(from, to, body, rows, out))
+}
+
+// Its words, to the front of a buffer with room for them.
+fn store(from: Format, to: Format, body: &[u32], rows: u32, out: &mut [u32]) -> usize
+    requires rows_le_most_rows { (rows ≤ most_rows) × SoundFacts from rows body.now }
+    requires body_in_bounds { length (canonical to rows (rows_of from body.now)) ≤ length out.old }
+    ensures { Rewritten to rows (rows_of from body.now) out.old true out.new result }
+{
+    rewrite::body::rewrite(from, to, body, rows, &mut Stored { out })
 }

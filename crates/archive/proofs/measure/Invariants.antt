@@ -6,4 +6,4 @@ use Rattle.archive.specs.Anew.{anew}
 use Rattle.archive.proofs.measure.Given as goal
 
 abbrev pub invariant-loop-k : goal.invariant-loop-k
-invariant-loop-k l = (l.need ≡ body_place (anew l.index l.to) l.k) × (l.out ≡ l.initial.out)
+invariant-loop-k l = (l.need ≡ body_place (anew l.index l.to) l.k)

@@ -75,33 +75,33 @@ module _ (s : Start) where
 pub offset_bounds-out-at : goal.offset_bounds-out-at
 offset_bounds-out-at c = record { fits = omega (arith, few c.before.before.before) }
 
-pub slice_bounds-put_body-count : goal.slice_bounds-put_body-count
-slice_bounds-put_body-count c = omega (arith, fits c.before.before.before)
+pub slice_bounds-store_body-count : goal.slice_bounds-store_body-count
+slice_bounds-store_body-count c = omega (arith, fits c.before.before.before)
 
-pub slice_bounds-put_body-start : goal.slice_bounds-put_body-start
-slice_bounds-put_body-start c = omega (arith, fits c.before.before.before)
+pub slice_bounds-store_body-start : goal.slice_bounds-store_body-start
+slice_bounds-store_body-start c = omega (arith, fits c.before.before.before)
 
-pub put_body-words-requires-clause-k_in_bounds : goal.put_body-words-requires-clause-k_in_bounds
-put_body-words-requires-clause-k_in_bounds c =
-    λ e. omega (arith, ap length (is_body c.before.before.before.before), part_room (out c.before.before.before.before) (b c.before.before.before.before) (at c.before.before.before.before) (fits c.before.before.before.before))
+pub store_body-words-requires-clause-k_in_bounds : goal.store_body-words-requires-clause-k_in_bounds
+store_body-words-requires-clause-k_in_bounds c =
+    omega (arith, ap length (is_body c.before.before.before.before), part_room (out c.before.before.before.before) (b c.before.before.before.before) (at c.before.before.before.before) (fits c.before.before.before.before))
 
 -- behind both calls: what came back for the body, the buffer's length, and the entry in it
 module _ (c : After-entry_place-entry) where
   abbrev back : List ℕ
-  back = c.put_body-words.new.out
+  back = c.store_body-words.new.out
 
   came : back ≡ b c.before.before.before.before.before.before.before ++ drop (length (b c.before.before.before.before.before.before.before)) (take (length (out c.before.before.before.before.before.before.before) - at c.before.before.before.before.before.before.before) (drop (at c.before.before.before.before.before.before.before) (out c.before.before.before.before.before.before.before)))
   came =
-      c.put_body-words.ensures.stored refl
+      c.store_body-words.ensures.stored refl
       ∙ ap (λ (l : List ℕ). l ++ drop (length l) (take (length (out c.before.before.before.before.before.before.before) - at c.before.before.before.before.before.before.before) (drop (at c.before.before.before.before.before.before.before) (out c.before.before.before.before.before.before.before)))) (is_body c.before.before.before.before.before.before.before)
 
   long : length (take (at c.before.before.before.before.before.before.before) (out c.before.before.before.before.before.before.before) ++ (back ++ drop (length (out c.before.before.before.before.before.before.before) - at c.before.before.before.before.before.before.before) (drop (at c.before.before.before.before.before.before.before) (out c.before.before.before.before.before.before.before)))) ≡ length (out c.before.before.before.before.before.before.before)
   long = lent-long (out c.before.before.before.before.before.before.before) (b c.before.before.before.before.before.before.before) (at c.before.before.before.before.before.before.before) (fits c.before.before.before.before.before.before.before) back came
 
-  words : c.put_body-words.result ≡ length (b c.before.before.before.before.before.before.before)
-  words = c.put_body-words.ensures.words_are ∙ ap length (is_body c.before.before.before.before.before.before.before)
+  words : c.store_body-words.result ≡ length (b c.before.before.before.before.before.before.before)
+  words = c.store_body-words.ensures.words_are ∙ ap length (is_body c.before.before.before.before.before.before.before)
 
-  few_words : at c.before.before.before.before.before.before.before + c.put_body-words.result ≤ most_index_words
+  few_words : at c.before.before.before.before.before.before.before + c.store_body-words.result ≤ most_index_words
   few_words = omega (arith, few c.before.before.before.before.before.before.before, words)
 
   entry-low : c.entry_place-entry.result + 1 < length (out c.before.before.before.before.before.before.before)
@@ -125,5 +125,5 @@ returns c =
     let e = c.entry_place-entry in (
       omega (arith, end c.before.before.before.before.before.before.before.before, words c.before),
       λ old g. begun_more (t c.before.before.before.before.before.before.before.before) (facts c.before.before.before.before.before.before.before.before) old (out c.before.before.before.before.before.before.before.before) (k c.before.before.before.before.before.before.before.before) (inside c.before.before.before.before.before.before.before.before) (room c.before.before.before.before.before.before.before.before).0 g
-          (back c.before) (at c.before.before.before.before.before.before.before.before) c.put_body-words.result e.result (came c.before) c.requires.at_value.0 (words c.before) e.ensures.0,
+          (back c.before) (at c.before.before.before.before.before.before.before.before) c.store_body-words.result e.result (came c.before) c.requires.at_value.0 (words c.before) e.ensures.0,
     )

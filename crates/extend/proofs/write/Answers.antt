@@ -28,15 +28,15 @@ module _ (c : After-reopen) where
       stored_next at a.plain.now a.rows c.requires.plain_rows.1 c.reopen.result c.reopen.ensures fits
       c.restore.ensures
 
-pub feed-requires-clause-by_index : goal.feed-requires-clause-by_index
-feed-requires-clause-by_index c =
+pub store-requires-clause-by_index : goal.store-requires-clause-by_index
+store-requires-clause-by_index c =
     let a = c.args in
     let q = c.requires.by_index.0 in
     (a.before, longer a.before q a.plain.now, a.out.now, coming c.before q c.requires.by_index.1 c.requires.by_index.2)
 
 pub returns : goal.returns
 returns c q at fits =
-    let x = c.feed in
+    let x = c.store in
     let a = c.args in
     let rows = longer a.before q a.plain.now in
     let done = x.ensures a.before rows a.out.now (coming c.before.before.before.before q at fits) in

@@ -10,9 +10,9 @@ use Rattle.body_write.specs.Bodies.{Growing, RoomFor, Emitted}
 use Rattle.row_write.proofs.emit.run.Given as goal
 
 abbrev pub invariant-loop-left : goal.invariant-loop-left
-invariant-loop-left l =
-    (l.left ≤ l.n) × Growing l.format l.v l.left × (l.store ≡ true → RoomFor l.format (replicate l.left (clean l.value)) l.v (length l.out))
-    × (length l.out ≡ length l.initial.out) × Emitted l.format (width l.format) l.initial.out l.out l.initial.v (replicate (l.n - l.left) (clean l.value)) l.store l.v
+invariant-loop-left g l =
+    (l.left ≤ l.n) × Growing l.format l.v l.left × (g.S.Sink.stores ≡ true → RoomFor l.format (replicate l.left (clean l.value)) l.v (length (g.S.Sink.words l.out)))
+    × (length (g.S.Sink.words l.out) ≡ length (g.S.Sink.words l.initial.out)) × (g.S.Sink.name l.out ≡ g.S.Sink.name l.initial.out) × Emitted l.format (width l.format) (g.S.Sink.words l.initial.out) (g.S.Sink.words l.out) l.initial.v (replicate (l.n - l.left) (clean l.value)) g.S.Sink.stores l.v
 
 abbrev pub decreases-loop-left : goal.decreases-loop-left
-decreases-loop-left l = l.left
+decreases-loop-left g l = l.left

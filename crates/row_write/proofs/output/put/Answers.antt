@@ -7,14 +7,14 @@ use Rattle.row_write.proofs.Packing.{takes_same, put_same}
 use Rattle.row_write.proofs.output.put.Goals as goal
 
 pub put_word-requires-clause-takes : goal.put_word-requires-clause-takes
-put_word-requires-clause-takes c =
+put_word-requires-clause-takes g c =
     let e = c.in-Dirty.is in
     let k = c.args.k in
     let few : k ≤ 32 = rw e at c.requires.have_bound.1 in
     takes_same k (λ j h. sym (rows-kept _ _ k j c.lowest.ensures h)) (rw e at c.requires.takes)
 
 pub returns-in-Dirty-clause-put_on : goal.returns-in-Dirty-clause-put_on
-returns-in-Dirty-clause-put_on c =
+returns-in-Dirty-clause-put_on g c =
     let e = c.in-Dirty.is in
     let a = c.args in
     let low = c.lowest.ensures in

@@ -1,9 +1,9 @@
--- `single::body::rewrite` meets its contract: what surely fits is written, and else it is measured; 9 by `write_kept`.
+-- `single::body::rewrite` meets its contract: what surely fits is written, and else it is measured; where it does not fit by `write-none`.
 -- Assumes nothing.
-use mathlib.Core.Path.{refl}
+use mathlib.Core.List.{[]}
 use native.Mathlib.Omega.{arith}
 use Rattle.meaning.specs.Format.{rows_of}
-use Rattle.answers.proofs.Tells.{write_kept, write_mid}
+use Rattle.answers.proofs.Tells.{write-none}
 use Rattle.single.proofs.Asks.{not-stored}
 use Rattle.single.proofs.body.rewrite.Goals as goal
 
@@ -19,25 +19,22 @@ pub rewrite-need-requires : goal.rewrite-need-requires
 rewrite-need-requires c =
     let a = c.args in record {
       rows_le_most_rows = (c.requires.rows_le_most_rows, c.requires.sound_facts);
-      body_in_bounds = not-stored a.to a.rows (rows_of a.from a.body.now) a.out.now;
+      body_in_bounds = not-stored a.to a.rows (rows_of a.from a.body.now) [];
     }
 
 pub returns-then-out-need : goal.returns-then-out-need
 returns-then-out-need c =
     let a = c.args in
-    write_kept a.to a.rows (rows_of a.from a.body.now) a.out.now c.rewrite-need.result c.rewrite-need.ensures.words_are
-    c.rewrite-need.new.out c.no_room.result (c.rewrite-need.ensures.kept refl) c.no_room.ensures c.if-out-need.true
+    write-none a.to a.rows (rows_of a.from a.body.now) a.out.now c.rewrite-need.result c.rewrite-need.ensures.rewritten.words_are
+    c.no_room.result c.no_room.ensures c.if-out-need.true
 
 pub write_fitting-requires-2 : goal.write_fitting-requires-2
 write_fitting-requires-2 c =
     record {
       rows_le_most_rows = c.requires.rows_le_most_rows;
       sound_facts = c.requires.sound_facts;
-      body_in_bounds = omega (arith, c.rewrite-need.ensures.words_are, c.if-out-need.false);
+      body_in_bounds = omega (arith, c.rewrite-need.ensures.rewritten.words_are, c.if-out-need.false);
     }
 
 pub returns : goal.returns
-returns c =
-    let a = c.args in
-    write_mid a.to a.rows (rows_of a.from a.body.now) a.out.now c.rewrite-need.new.out
-    c.write_fitting-2.result c.write_fitting-2.new.out (c.rewrite-need.ensures.kept refl) c.write_fitting-2.ensures
+returns c = c.write_fitting-2.ensures

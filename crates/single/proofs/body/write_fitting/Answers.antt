@@ -8,6 +8,6 @@ use Rattle.single.proofs.body.write_fitting.Goals as goal
 pub returns : goal.returns
 returns c =
     let a = c.args in
-    let x = c.rewrite in
+    let x = c.store in
     write-words a.to a.rows (rows_of a.from a.body.now) a.out.now x.result x.ensures.words_are
     x.new.out (omega (arith, x.ensures.words_are, c.requires.body_in_bounds)) (x.ensures.stored refl)
