@@ -91,12 +91,10 @@ pub fn by_table(planes: [u32; PLANES], base: u32, most: u32, table: &[u32]) -> u
 {
     let mut r: u32 = 0;
     let from = base as usize;
-    let mut k = from;
-    while k < table.len() {
+    for k in from..table.len() {
         if table[k] == 1 {
-            r = r | equals(planes, most, (k - from) as u32);
+            r |= equals(planes, most, (k - from) as u32);
         }
-        k += 1;
     }
     r
 }
@@ -119,10 +117,8 @@ pub fn add_to_histogram(
 {
     let from = base as usize;
     let end = from + most as usize + 1;
-    let mut c = from;
-    while c < end {
+    for c in from..end {
         let rows = mask & equals(planes, most, (c - from) as u32);
-        counts[c] = counts[c] + bits::count(rows);
-        c += 1;
+        counts[c] += bits::count(rows);
     }
 }

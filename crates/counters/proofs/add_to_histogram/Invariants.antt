@@ -23,6 +23,3 @@ grown counts planes base mask c = get_or counts c 0 + rows_at planes base mask c
 
 abbrev pub invariant-loop-c : goal.invariant-loop-c
 invariant-loop-c l = (l.base ≤ l.c) × (l.c ≤ l.base + l.most + 1) × (length l.counts ≡ histogram_counts) × Filled (grown l.initial.counts l.planes l.base l.mask) l.initial.counts l.counts l.c
-
-abbrev pub decreases-loop-c : goal.decreases-loop-c
-decreases-loop-c l = l.base + l.most + 1 - l.c

@@ -10,6 +10,3 @@ use Rattle.counters.proofs.by_table.Given as goal
 
 abbrev pub invariant-loop-k : goal.invariant-loop-k
 invariant-loop-k l = (l.base ≤ l.k) × ((j : ℕ) → j < 32 → is_set l.r j ≡ told l.table l.k (l.base + count_at l.planes j))
-
-abbrev pub decreases-loop-k : goal.decreases-loop-k
-decreases-loop-k l = length l.table - l.k

@@ -30,4 +30,4 @@ pub returns : goal.returns
 returns c =
     let ws = c.args.ws.now in
     let e : c.loop-x.x-index ≡ length ws = omega arith in
-    c.loop-x.x-indexnvariant.1 ∙ ap (λ (i : ℕ). ones 32 (take i ws)) e ∙ ap (ones 32) (take-length ws)
+    c.loop-x.invariant ∙ ap (λ (i : ℕ). ones 32 (take i ws)) e ∙ ap (ones 32) (take-length ws)
