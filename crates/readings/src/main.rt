@@ -5,11 +5,12 @@
 ghost use Rattle.std.specs.Prelude.{◌≤◌, ◌≡◌, length};
 
 use std::io;
+use std::ops::Range;
 use zvonurel::{Format, Refusal};
 
-// A body's words from one place to another, or to its end.
-fn words(rt: &impl Print, body: &[u32], from: usize, to: usize) -> io::Result<()> {
-    for word in body.iter().take(to).skip(from) {
+// A body's words in that range, or to its end.
+fn words(rt: &impl Print, body: &[u32], shown: Range<usize>) -> io::Result<()> {
+    for word in body.iter().take(shown.end).skip(shown.start) {
         print!(rt; " {word:08x}")?;
     }
     Ok(())
@@ -23,7 +24,7 @@ fn set(rt: &impl Print, format: Format, body: &[u32], rows: u32) -> io::Result<(
     }
 }
 
-// What a call wrote: the number of words, the words from one place to another, and how many rows are set when they are
+// What a call wrote: the number of words, the words in a range, and how many rows are set when they are
 // read again.
 fn reading(
     rt: &impl Print,
@@ -31,15 +32,15 @@ fn reading(
     rows: u32,
     written: Result<usize, Refusal>,
     out: &[u32],
-    from: usize,
-    to: usize,
+    shown: Range<usize>,
 ) -> io::Result<()> {
     print!(rt; "rows {rows}")?;
     match written {
         Ok(n) => {
+            let from = shown.start;
             print!(rt; ", words {n}, from {from}:")?;
             if let Some(body) = out.get(..n) {
-                words(rt, body, from, to)?;
+                words(rt, body, shown)?;
                 set(rt, format, body, rows)?;
             }
         }
@@ -53,7 +54,7 @@ fn reading(
 fn none_set(rt: &impl Print, format: Format, rows: u32, index: &[u32]) -> io::Result<()> {
     let mut out: [u32; 16] = [0; 16];
     let written = zvonurel::xor(index, 0, 0, &mut out);
-    reading(rt, format, rows, written, &out, 0, 16)
+    reading(rt, format, rows, written, &out, 0..16)
 }
 
 // An index whose bitmap is a run of 8 segments, and eight runs of 65,535.
@@ -81,18 +82,18 @@ fn most_rows(rt: &impl Print, rows: u32, last: u32) -> io::Result<()> {
     index[..6].copy_from_slice(&[1, rows, 1, 5, 514, 0x0000_0401]);
     index[518] = last;
     let written = zvonurel::xor(&index, 0, 0, &mut out);
-    reading(rt, Format::Ewah, rows, written, &out, 510, 513)
+    reading(rt, Format::Ewah, rows, written, &out, 510..513)
 }
 
 // Rows 0, 32, 64 and so on: n mixed segments. (A range up to a large literal, in place of n, costs the prover by its
 // length.)
-fn every_32nd(rt: &impl Print, rows: u32, n: usize, from: usize, to: usize) -> io::Result<()>
+fn every_32nd(rt: &impl Print, rows: u32, n: usize, shown: Range<usize>) -> io::Result<()>
     requires { n ≤ 32770 }
 {
     let plain = filled(1);
     let mut out = filled(0);
     let written = zvonurel::compress(Format::Ewah, rows, &plain[0..n], &mut out);
-    reading(rt, Format::Ewah, rows, written, &out, from, to)
+    reading(rt, Format::Ewah, rows, written, &out, shown)
 }
 
 fn main(rt: HostRuntime) -> io::Result<()> {
@@ -127,8 +128,8 @@ fn main(rt: HostRuntime) -> io::Result<()> {
         1073741825,
         &[2, 1073741825, 1, 5, 1, 0xC210_8422],
     )?;
-    every_32nd(rt, 1048544, 32767, 0, 2)?;
-    every_32nd(rt, 1048576, 32768, 32768, 32770)?;
+    every_32nd(rt, 1048544, 32767, 0..2)?;
+    every_32nd(rt, 1048576, 32768, 32768..32770)?;
     // Plain words are refused for too many rows before their own number is.
-    every_32nd(rt, 1073741825, 32770, 0, 0)
+    every_32nd(rt, 1073741825, 32770, 0..0)
 }
