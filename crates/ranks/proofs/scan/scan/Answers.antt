@@ -56,7 +56,7 @@ module _ (k : After-count-c) where
   fr : Framed index k.of-f.result
   fr = framed k.of-f.result k.of-f.ensures k.format.ensures k.rows.ensures
 
-  nb : NextBlock index list o k.of-f.result.segments m k.next-s.result.even k.next-s.new.numbers k.next-s.new.x
+  nb : NextBlock index list o k.of-f.result.segments m k.next-s.result.even k.next-s.new.cursors k.next-s.new.x
   nb = k.next-s.ensures
 
   low : (w : ℕ) → get_or k.split-told.result.same w 0 < 2 ^ 32
