@@ -60,10 +60,8 @@ fn store(out: &mut [u32], from: usize, to: usize, x: u32)
     requires { (from ≤ to) × (to ≤ length out.old) }
     ensures { Stored x from out.old out.new to }
 {
-    let mut i = from;
-    while i < to {
+    for i in from..to {
         out[i] = x;
-        i += 1;
     }
 }
 
