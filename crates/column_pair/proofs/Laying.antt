@@ -20,6 +20,7 @@ use Rattle.meaning.specs.declared.Pairing.{Pairing}
 use Rattle.meaning.specs.Rows.{none}
 use Rattle.laws.proofs.NewIndexes.{canonical-words, length-is, total-more, at_map}
 use Rattle.laws.proofs.ColumnValues.{slices-length}
+use Rattle.ewah_write.specs.declared.writer.Writer.{Writer}
 use Rattle.ewah_write.proofs.Pushing.{drop_more}
 use Rattle.new_index.specs.Writers.{writer_of, region, Laid}
 use Rattle.new_index.specs.Layouts.{StartsOf, Headed}
@@ -72,7 +73,7 @@ module _ (op : Pairing) (index first second : List ℕ) (n : ℕ) (cs : Columns 
   pub body-low : (i : ℕ) → length (body_of op index first second n i) ≤ 2 * most_segments
   body-low i = omega (arith, canonical-words F R (get_or ps i none) cs.facts.head.few-rows)
 
-  module _ (ws starts : List ℕ) (used : (i : ℕ) → i ≤ n → (writer_of ws i).used ≡ length (body_of op index first second n i))
+  module _ (ws : List Writer) (starts : List ℕ) (used : (i : ℕ) → i ≤ n → (writer_of ws i).used ≡ length (body_of op index first second n i))
       (st : StartsOf ws (n + 1) (head_words + entry_words * (n + 1)) starts) where
     -- where each body lies
     places : (k : ℕ) → k ≤ length bs → get_or starts k 0 ≡ contents_end (length bs) + total_words (take k bs)
@@ -123,7 +124,7 @@ module _ (op : Pairing) (index first second : List ℕ) (n : ℕ) (cs : Columns 
 
     -- ---- written
 
-    module _ (old mid out ws' : List ℕ) (room : get_or starts (n + 1) 0 ≤ length old) (hd : Headed (format_of index) old (row_count index) starts (n + 1) mid (n + 1))
+    module _ (old mid out : List ℕ) (ws' : List Writer) (room : get_or starts (n + 1) 0 ≤ length old) (hd : Headed (format_of index) old (row_count index) starts (n + 1) mid (n + 1))
         (ps' : PassedTo op index first second n starts mid out ws' true) where
       parts : (k : ℕ) → k < length bs → region starts out k ≡ get_or bs k []
       parts k h =

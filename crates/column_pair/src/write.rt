@@ -23,7 +23,7 @@ pub fn write(
     let count = n + 1;
     let nowhere: [usize; MOST_STARTS] = [0; MOST_STARTS];
     let measured = pass::pass(op, index, first, second, n, out, &nowhere, false);
-    let starts = layout::starts(&measured.numbers, count, HEAD_WORDS + ENTRY_WORDS * count);
+    let starts = layout::starts(&measured[..count], HEAD_WORDS + ENTRY_WORDS * count);
     let need = starts[count];
     if contents::room(out.len()) < need {
         return need;

@@ -21,9 +21,6 @@ use Rattle.pairs.specs.Spellings.{WordsSpelled, Spelled}
 -- ---- row by row
 
 module _ (F : Format) (z : List ℕ) (w mask : ℕ) where
-  pub spelled_none : WordsSpelled F z 0 w mask z
-  spelled_none = record { long = refl; words = λ b real h. absurd (omega arith); others = λ i h. refl }
-
   -- one row more, whose word became x
   module _ (z' : List ℕ) (count x : ℕ) (g : WordsSpelled F z count w mask z') where
     abbrev at : ℕ

@@ -2,14 +2,17 @@
 -- Assumes nothing.
 use Prim.Native.Nat.{ℕ, ◌+◌, ◌-◌, ◌*◌, ◌^◌, ◌≤◌, ◌<◌, min}
 use mathlib.Core.Bool.{Bool}
-use mathlib.Core.Path.{◌≡◌, refl}
+use mathlib.Core.Path.{◌≡◌, refl, ap, ap₂, ◌∙◌}
 use mathlib.Core.List.{List}
 use lib.ListN.{length, replicate}
 use native.Mathlib.Nat.{zero-mul}
 use native.Mathlib.Omega.{arith}
 use Rattle.meaning.specs.Limits.{most_segments, block_words, place_numbers, short_numbers}
 use Rattle.meaning.specs.Rows.{sum_below, count_below}
+use Rattle.meaning.specs.Segment.{segment_count, all_set, rows_in}
 use Rattle.meaning.specs.Format.{width}
+use Rattle.meaning.specs.declared.Format.{Format}
+use Rattle.words.specs.declared.frame.Frame.{Frame}
 use Rattle.meaning.specs.Index.{format_of, row_count}
 use Rattle.column_meaning.specs.Columns.{slice_count}
 use Rattle.laws.proofs.Formats.{width-pos, segments-most}
@@ -20,6 +23,28 @@ use Rattle.blocks.specs.Blocks.{Walking, Cleared, NextBlock}
 use Rattle.blocks.proofs.Values.{zeros}
 use Rattle.blocks.proofs.Walks.{S}
 use Rattle.ranks.specs.Frames.{Column}
+
+-- what a frame says, where it is of the index's format and rows
+pub record Framed (index : List ℕ) (f : Frame) : Type 0 where
+  pub format-is : f.format ≡ format_of index
+  pub width_is : f.width ≡ width (format_of index)
+  pub total : f.segments ≡ S index
+  pub full_is : f.full ≡ all_set (width (format_of index))
+  pub mask_is : (mask j : ℕ) → mask ≡ all_set (rows_in (width f.format) f.rows j)
+      → mask ≡ all_set (rows_in (width (format_of index)) (row_count index) j)
+
+pub framed : {index : List ℕ} (f : Frame) {F : Format} {R : ℕ} → (f.format ≡ F) × (f.rows ≡ R) → F ≡ format_of index → R ≡ row_count index
+    → Framed index f
+framed f is p q =
+    let format = is.0 ∙ p in
+    let rows = is.1 ∙ q in
+    record {
+      format-is = format;
+      width_is = f.width_is ∙ ap (λ (G : Format). width G) format;
+      total = f.total ∙ ap₂ (λ (G : Format) (r : ℕ). segment_count (width G) r) format rows;
+      full_is = f.full_is ∙ ap (λ (G : Format). all_set (width G)) format;
+      mask_is = λ mask j e. e ∙ ap₂ (λ (G : Format) (r : ℕ). all_set (rows_in (width G) r j)) format rows;
+    }
 
 -- every cursor stands at segment o, and the block has no row but those of the list's places
 pub record Along (index list ns x : List ℕ) (o : ℕ) : Type 0 where

@@ -5,13 +5,12 @@ use Prim.Native.Nat.{ℕ, zero, suc, ◌+◌, ◌-◌, ◌*◌, ◌/◌, ◌^◌
 use mathlib.Core.Bool.{Bool}
 use mathlib.Core.Path.{◌≡◌, refl, sym, ap, ◌∙◌, subst, subst₂}
 use mathlib.Core.List.{List, [], ◌∷◌}
-use lib.ListN.{length, get_or, set, take, drop, replicate, length-take, length-drop}
-use lib.Pow.{pow_pos, pow_mono, shr-shr}
-use lib.Seq.{ext_get_or, get_or-take, get_or-drop}
+use lib.ListN.{length, get_or, take, drop, length-drop}
+use lib.Pow.{pow_pos, shr-shr}
+use lib.Seq.{get_or-drop}
 use native.Mathlib.Nat.{div-one, div-eq_of_lt}
 use native.Mathlib.Decide.{dec_le}
 use native.Mathlib.Omega.{arith}
-use Rattle.meaning.specs.Limits.{most_column}
 use Rattle.meaning.specs.Rows.{bit, count_below}
 use Rattle.meaning.specs.Index.{row_count, bitmap_count}
 use Rattle.meaning.specs.Answer.{named}
@@ -23,7 +22,6 @@ use Rattle.laws.proofs.RowWords.{bit_le}
 use Rattle.laws.proofs.Counting.{count-ext}
 use Rattle.laws.proofs.ColumnDigits.{below_more}
 use Rattle.laws.proofs.Pivoting.{lead_low, narrowed_none, narrowed-lead, narrowed-other, narrowed-all}
-use Rattle.words.proofs.Entries.{Filled, filled-from, filled_more}
 use Rattle.ranks.specs.Frames.{Column}
 use Rattle.ranks.specs.Found.{Top, Stepped, PivotOf}
 
@@ -36,41 +34,10 @@ top_of list from = get_or list 0 0 ∷ drop from list
 abbrev pub top_at : (list : List ℕ) (from : ℕ) → ℕ → ℕ
 top_at list from i = get_or (top_of list from) i 0
 
--- the one that place k of the list has
-pub top-at : (list : List ℕ) (from k : ℕ) → from ≤ k → get_or list k 0 ≡ top_at list from (k - from + 1)
-top-at list from k h =
-    let e : from + (k - from) ≡ k = omega arith in
-    let s : k - from + 1 ≡ suc (k - from) = omega arith in
-    rw s (sym (get_or-drop from list (k - from) 0 ∙ ap (λ (i : ℕ). get_or list i 0) e))
-
--- the first is set
-pub top-first : (list : List ℕ) (from : ℕ)
-    → Filled (top_at list from) (replicate most_column 0) (set (replicate most_column 0) 0 (get_or list 0 0))
-    (from - from + 1)
-top-first list from =
-    let zeros : List ℕ = replicate most_column 0 in
-    let e : from - from ≡ 0 = omega arith in
-    rw e
-    (filled_more (top_at list from) zeros zeros 0 (get_or list 0 0) (omega arith) refl
-    (filled-from (top_at list from) zeros 0 (λ i l. absurd (omega arith))))
-
 module _ (list : List ℕ) (from : ℕ) (first : 1 ≤ from) where
   -- how many there are
   top-length : length (top_of list from) ≡ length list - from + 1
   top-length = omega (arith, length-drop from list)
-
-  -- they are all, once as many are set
-  pub top-all : (r : List ℕ) → length list ≤ most_column
-      → Filled (top_at list from) (replicate most_column 0) r (length list - from + 1) → Top list from r
-  top-all r m g =
-      ext_get_or 0 (take n r) (top_of list from) (omega (arith, short, top-length))
-      (λ i l. get_or-take n r i 0 (omega (arith, short)) ∙ g.done i (omega (arith, short)))
-    where
-      n : ℕ
-      n = length list - from + 1
-
-      short : length (take n r) ≡ n
-      short = omega (arith, length-take n r, g.long)
 
   -- each names a bitmap where the list's do
   top-its : (n : ℕ) → ((i : ℕ) → i < length list → get_or list i 0 < n) → from < length list → (i : ℕ)
@@ -139,15 +106,9 @@ module _ (index : List ℕ) where
 
 -- the part of r that is lent as a list of numbers
 abbrev top_part : (list r : List ℕ) (from : ℕ) → List ℕ
-top_part list r from = take (length list - from + 1 - 0) r
+top_part list r from = take (length list - from + 1) r
 
 module _ (list r : List ℕ) (from : ℕ) (t : Top list from r) where
-  -- those are its numbers
-  top_part_lem : top_part list r from ≡ top_of list from
-  top_part_lem =
-      let n : length list - from + 1 - 0 ≡ length list - from + 1 = omega arith in
-      ap (λ (k : ℕ). take k r) n ∙ t
-
   -- it is a column, and a value of as many digits fits it
   pub top-fits : {index : List ℕ} (m : ℕ) → Column index list → 1 ≤ from → from < length list
       → m < 2 ^ (length list - from)
@@ -155,14 +116,14 @@ module _ (list r : List ℕ) (from : ℕ) (t : Top list from r) where
   unfolding slice_count
   top-fits {index} m g l h v =
       let slices : length (top_of list from) - 1 ≡ length list - from = omega (arith, top-length list from l) in
-      rw (top_part_lem, slices) (top-column list from l g h, v)
+      rw (t, slices) (top-column list from l g h, v)
 
   -- what is counted in it
   pub top-counted : (index : List ℕ) (c m : ℕ) → 1 ≤ from → from < length list
       → c ≡ count_below (row_count index)
       (level (existing index (top_part list r from)) (value_at index (top_part list r from)) m)
       → c ≡ level_from (row_count index) (existing index list) (value_at index list) (from - 1) m
-  top-counted index c m l h e = rw top_part_lem at e ∙ top_count index list from m l h
+  top-counted index c m l h e = rw t at e ∙ top_count index list from m l h
 
 -- ---- one digit more
 
@@ -206,11 +167,6 @@ module _ {index list : List ℕ} {k first P take left : ℕ} (g : Finding index 
   finding-low x q h l e =
       let s : length list - left ≡ suc (length list - 1 - left) = omega (arith, g.within) in
       rw s (omega (arith, g.low))
-
-  -- till then it is short enough for a word to hold one more
-  pub finding-short : 0 < left → length list ≤ most_column → P < 2 ^ 31
-  finding-short h m =
-      omega (arith, g.low, pow_mono {i = length list - 1 - left} {j = 31} (omega arith))
 
   -- one digit more
   pub finding-more : {c q take' : ℕ} → 0 < left

@@ -1,13 +1,13 @@
 -- The pass that makes the body: the words of a block as they are written are the body's segments.
 -- Assumes nothing.
-use Prim.Native.Nat.{ℕ, suc, ◌+◌, ◌-◌, ◌*◌, ◌/◌, ◌^◌, ◌≤◌, ◌<◌}
+use Prim.Native.Nat.{ℕ, suc, ◌+◌, ◌-◌, ◌*◌, ◌^◌, ◌≤◌, ◌<◌}
 use mathlib.Core.Bool.{Bool, true, false, ◌&&◌, ◌||◌}
 use mathlib.Core.Path.{◌≡◌, refl, sym, ap, ap₂, ◌∙◌, subst}
 use mathlib.Core.List.{List}
 use lib.Dec.{eqb, ltb}
 use lib.ListN.{length, get_or, take, drop, length-map, length-replicate, get_or-replicate, get_or-map}
 use lib.Seq.{get_or-take, length-take-le}
-use native.Mathlib.Nat.{mod-eq_of_lt, suc-mul, mul-le-mul_right, le-div_iff_mul-le}
+use native.Mathlib.Nat.{mod-eq_of_lt, suc-mul, mul-le-mul_right}
 use native.Mathlib.Decide.{dec_le, ℕ_discrete}
 use native.Mathlib.Omega.{arith}
 use borrow.Author.Tests.{lt-ltb, le-ltb}
@@ -25,7 +25,7 @@ use Rattle.ewah_write.specs.declared.writer.Writer.{Writer}
 use Rattle.body_write.specs.Bodies.{Growing, RoomFor, Emitted, UpTo}
 use Rattle.body_write.proofs.UpTo.{up-growing, up_room, up_more}
 use Rattle.block_read.specs.Taken.{word_at}
-use Rattle.block_write.specs.Rowed.{row_segments, CleanWord}
+use Rattle.block_write.specs.Rowed.{row_segments, row_length, CleanWord}
 use Rattle.blocks.specs.Blocks.{NextBlock}
 use Rattle.blocks.proofs.Values.{place, place-low}
 use Rattle.blocks.proofs.Segmented.{segs, segs-length, segment-is, word_low}
@@ -33,7 +33,7 @@ use Rattle.blocks.proofs.Runs.{uniform, rows_kind, clean-kind}
 use Rattle.blocks.proofs.Walks.{S}
 use Rattle.pivots.specs.Splits.{SplitBy, Taken}
 use Rattle.ranks.specs.Frames.{Column}
-use Rattle.ranks.specs.Passes.{EndOf, Kept, Spelled, RowLength, cut_rows, cut_body}
+use Rattle.ranks.specs.Passes.{EndOf, Kept, Spelled, cut_rows, cut_body}
 use Rattle.ranks.proofs.Along.{few}
 use Rattle.ranks.proofs.Comparing.{Tested, has-rows, clear, like, tested-ahead, tested-same}
 
@@ -41,21 +41,12 @@ use Rattle.ranks.proofs.Comparing.{Tested, has-rows, clear, like, tested-ahead, 
 abbrev pub own_segments : (op : Ranking) (index list : List ℕ) (value cut : ℕ) → List Segment
 own_segments op index list value cut = segs (format_of index) (row_count index) (cut_rows op index list value cut)
 
--- a cut that is no further than n segments is in one of them, or right behind the last
-pub at_most : {v w cut n : ℕ} → v ≡ w → 0 < v → cut ≤ n * w → cut / v ≤ n
-at_most {v} {w} {cut} {n} e pos h = elim (dec_le (cut / v) n) [
-  | yes g ↦ g
-  | no g ↦
-      let more : suc n ≤ cut / v = omega arith in
-      absurd (omega (arith, (le-div_iff_mul-le pos).0 more, suc-mul n v, ap (λ (k : ℕ). n * k) e))
-]
-
 pub body_is : (op : Ranking) (index list : List ℕ) (value cut : ℕ)
     → words_of (format_of index) (row_count index) (own_segments op index list value cut) ≡ cut_body op index list value cut
 body_is op index list value cut = unfold canonical in refl
 
 -- what a row that a writer of the format G is given must be
-abbrev MayEmit : (G : Format) (v : Writer) (ws : List ℕ) (n : ℕ) (even store : Bool) (room : ℕ) → Type 0
+abbrev pub MayEmit : (G : Format) (v : Writer) (ws : List ℕ) (n : ℕ) (even store : Bool) (room : ℕ) → Type 0
 MayEmit G v ws n even store room =
     Growing G v n
     × (((1 ≤ n) × (n ≤ most_run G) × (even ≡ true → (1 ≤ length ws) × CleanWord G (get_or ws 0 0)) × (even ≡ false → length ws ≡ n))
@@ -114,7 +105,7 @@ module _ {op : Ranking} {index list : List ℕ} {value cut at low o end n : ℕ}
     (ls : (w : ℕ) → get_or s w 0 < 2 ^ word_bits) (tk : Taken a s keep t) (lt : (w : ℕ) → get_or t w 0 < 2 ^ word_bits)
     (kp : Kept o at low keep) (en : EndOf o at (S index) end) (l : low < width (format_of index))
     (cut-is : cut ≡ at * width (format_of index) + low)
-    (ps : Spelled t n even mask full row) (rl : RowLength n even len) (long : length t ≡ block_segments) where
+    (ps : Spelled t n even mask full row) (len-is : len ≡ row_length n even) (long : length t ≡ block_segments) where
   abbrev F : Format
   F = format_of index
 
@@ -220,24 +211,24 @@ module _ {op : Ranking} {index list : List ℕ} {value cut at low o end n : ℕ}
 
     pub words-some : even ≡ true → (1 ≤ length (take len row)) × CleanWord (format_of index) (get_or (take len row) 0 0)
     words-some e =
-        let one = rl.run e in
+        let one : len ≡ 1 = len-is ∙ ap (row_length n) e in
         let many : length words ≡ len = length-take-le len row (omega (arith, ps.long, long)) in
         (omega arith, rw (get_or-take len row 0 0 (omega arith), ps.run e) (run-clean e))
 
     pub words-all : even ≡ false → length (take len row) ≡ n
     words-all e =
-        length-take-le len row (omega (arith, ps.long, long, rl.block e, nb.in_block e)) ∙ rl.block e
+        length-take-le len row (omega (arith, ps.long, long, (len-is ∙ ap (row_length n) e), nb.in_block e)) ∙ (len-is ∙ ap (row_length n) e)
 
     at-word : (b : Bool) → even ≡ b → (i : ℕ) → i < n
         → get_or (row_segments (format_of index) (take len row) n b) i (clean 0) ≡ kind (width (format_of index)) (word_at b row 0 i)
     unfolding row_segments word_at kind all_set
     at-word true e i h =
         get_or-replicate n i (kind w (get_or words 0 0)) (clean 0) h
-        ∙ ap (kind w) (get_or-take len row 0 0 (omega (arith, rl.run e)))
+        ∙ ap (kind w) (get_or-take len row 0 0 (omega (arith, (len-is ∙ ap (row_length n) e))))
     at-word false e i h =
         let z : 0 + i ≡ i = omega arith in
         get_or-map (kind w) words i 0
-        ∙ ap (kind w) (get_or-take len row i 0 (omega (arith, rl.block e)) ∙ ap (λ (k : ℕ). get_or row k 0) (sym z))
+        ∙ ap (kind w) (get_or-take len row i 0 (omega (arith, (len-is ∙ ap (row_length n) e))) ∙ ap (λ (k : ℕ). get_or row k 0) (sym z))
 
     many-segments : (b : Bool) → even ≡ b → length (row_segments (format_of index) (take len row) n b) ≡ n
     unfolding row_segments

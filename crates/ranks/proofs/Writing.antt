@@ -1,7 +1,7 @@
 -- The body that a pass makes with the pivot and the cut that were found is that of the k rows.
 -- Assumes nothing.
 use Prim.Native.Nat.{ℕ, ◌≤◌, ◌<◌}
-use mathlib.Core.Bool.{true, false, true≢false}
+use mathlib.Core.Bool.{true, false}
 use mathlib.Core.Path.{◌≡◌, refl, sym, ap, ◌∙◌}
 use mathlib.Core.List.{List, ◌++◌}
 use lib.ListN.{length, drop}
@@ -14,10 +14,6 @@ use Rattle.laws.proofs.Formats.{canonical-ext}
 use Rattle.laws.proofs.Ranking.{pivot-rows}
 use Rattle.ranks.specs.Found.{PivotOf, CutAt}
 use Rattle.ranks.specs.Passes.{cut_rows, cut_body, Passed, RankWritten}
-
--- where nothing is stored no room is needed
-pub not-stored : (n : ℕ) {room : ℕ} → false ≡ true → n ≤ room
-not-stored n t = absurd (true≢false (sym t))
 
 module _ {op : Ranking} {index list : List ℕ} {k m take cut : ℕ} (pv : PivotOf op index list k m take)
     (ct : CutAt index list m take cut) where

@@ -30,11 +30,6 @@ pub record Spelled (ws : List ℕ) (n : ℕ) (even : Bool) (mask full : ℕ) (r 
   pub last : even ≡ false → (w real : ℕ) → 1 ≤ real → real ≤ w → full ≡ all_set w → mask ≡ all_set real
       → kind w (get_or r (n - 1) 0) ≡ kind real (get_or ws (n - 1) 0 % 2 ^ real)
 
--- one word for a run, and else one for each segment
-pub record RowLength (n : ℕ) (even : Bool) (len : ℕ) : Type 0 where
-  pub run : even ≡ true → len ≡ 1
-  pub block : even ≡ false → len ≡ n
-
 -- the rows that come before the value m, and of those that have it the ones before row `cut`
 abbrev pub cut_rows : (op : Ranking) (index list : List ℕ) (m cut : ℕ) → ℕ → Bool
 cut_rows op index list m cut r = rows_above index list op m r || (rows_level index list m r && ltb r cut)

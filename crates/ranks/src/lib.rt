@@ -3,7 +3,6 @@
 // Calls here have a `requires`; the public ones of `zvonurel` test their input first.
 #![tactic(auto)]
 
-mod frame;
 mod pass;
 mod pivot;
 mod scan;

@@ -6,14 +6,15 @@ ghost use Rattle.meaning.specs.Format.{width};
 ghost use Rattle.meaning.specs.Index.{format_of, row_count};
 ghost use Rattle.column_meaning.specs.Columns.{slice_count};
 ghost use Rattle.ranks.specs.Frames.{Column};
-ghost use Rattle.ranks.specs.Passes.{EndOf, Kept, Spelled, RowLength, cut_body, Passed};
+ghost use Rattle.ranks.specs.Passes.{EndOf, Kept, Spelled, cut_body, Passed};
 
-use crate::frame;
+use blocks::choose::Step;
 use blocks::next;
 use body_write::writer;
 use meaning::{BLOCK_SEGMENTS, BLOCK_WORDS, Ranking, SHORT_NUMBERS};
 use pivots::compare;
 use walk::survey;
+use words::frame::Frame;
 use words::{bits, rows};
 
 // Up to where segments may be taken together from segment o on: the one that the cut is in goes by itself.
@@ -45,33 +46,17 @@ fn kept(o: u32, at: u32, low: u32) -> u32
 }
 
 // The words as they are written: of a block's last segment the mask has the rows, and `full` is the word of one with all rows set.
-fn spelled(
-    words: [u32; BLOCK_SEGMENTS],
-    n: u32,
-    even: bool,
-    mask: u32,
-    full: u32,
-) -> [u32; BLOCK_SEGMENTS]
-    requires { (1 ≤ n) × (even ≡ false → n ≤ block_segments) }
-    ensures { Spelled words n even mask full result }
+fn spelled(words: [u32; BLOCK_SEGMENTS], s: Step, mask: u32, full: u32) -> [u32; BLOCK_SEGMENTS]
+    requires { (1 ≤ s.n) × (s.even ≡ false → s.n ≤ block_segments) }
+    ensures { Spelled words s.n s.even mask full result }
 {
-    if even {
+    if s.even {
         return words;
     }
-    let last = n as usize - 1;
+    let last = s.n as usize - 1;
     let mut r = words;
     r[last] = rows::spelled(words[last], mask, full);
     r
-}
-
-// How many words stand for n segments: one, where they are all alike.
-fn row_length(n: u32, even: bool) -> usize
-    ensures { RowLength n even result }
-{
-    if even {
-        return 1;
-    }
-    n as usize
 }
 
 // The body's words, counted, and written where `store` says so.
@@ -90,9 +75,8 @@ pub fn pass(
         × (store ≡ true → length (cut_body op index.now list.now value cut) ≤ length out.old) }
     ensures { Passed op index.now list.now value cut out.old out.new store result }
 {
-    let f = frame::of(index);
+    let f = Frame::of(contents::format(index), contents::rows(index));
     let format = f.format;
-    let segments = f.segments;
     let at = cut / f.width;
     let low = cut % f.width;
     let mut numbers: [u32; SHORT_NUMBERS] = [0; SHORT_NUMBERS];
@@ -101,15 +85,16 @@ pub fn pass(
     let mut w = writer::start(format);
     let mut run = false;
     let mut o: u32 = 0;
-    while o < segments {
-        let end = end_of(o, at, segments);
+    // Kept: a turn goes on by a block or a run, however long that is; a `for` has no such step.
+    while o < f.segments {
+        let end = end_of(o, at, f.segments);
         let s = next::next(format, index, list, &mut numbers, &mut x, o, end, run);
-        let mask = frame::mask(f, o + s.n);
+        let mask = f.mask(o + s.n);
         let told = compare::split(op, &x, list.len() - 1, value);
         let rows = compare::taken(told, kept(o, at, low));
-        let row = spelled(rows, s.n, s.even, mask, f.full);
-        let len = row_length(s.n, s.even);
-        let v = block_write::emit_apart(format, out, w, &row[0..len], s.n, s.even, mask, store);
+        let row = spelled(rows, s, mask, f.full);
+        let len = block_write::row_length(s.n, s.even);
+        let v = block_write::emit_apart(format, out, w, &row[..len], s.n, s.even, mask, store);
         w = v;
         run = s.even;
         o += s.n;

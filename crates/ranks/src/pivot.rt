@@ -26,12 +26,9 @@ fn top(list: &[u32], from: usize) -> [u32; MOST_COLUMN]
     ensures { Top list.now from result }
 {
     let mut r: [u32; MOST_COLUMN] = [0; MOST_COLUMN];
+    let slices = &list[from..];
     r[0] = list[0];
-    let mut k = from;
-    while k < list.len() {
-        r[k - from + 1] = list[k];
-        k += 1;
-    }
+    r[1..slices.len() + 1].copy_from_slice(slices);
     r
 }
 
@@ -45,7 +42,7 @@ fn count_top(index: &[u32], list: &[u32], from: usize, value: u32) -> u32
 {
     let named = top(list, from);
     let len = list.len() - from + 1;
-    scan::count(index, &named[0..len], value)
+    scan::count(index, &named[..len], value)
 }
 
 // One digit more, where c rows have the digits so far and then the first one.
@@ -73,12 +70,10 @@ pub fn find(op: Ranking, index: &[u32], list: &[u32], k: u32) -> Pivot
 {
     let first = compare::lead(op);
     let mut p = Pivot { value: 0, take: k };
-    let mut left = list.len() - 1;
-    while 0 < left {
+    for left in (1..list.len()).rev() {
         let c = count_top(index, list, left, 2 * p.value + first);
         let q = narrowed(p, c, first);
         p = q;
-        left -= 1;
     }
     p
 }

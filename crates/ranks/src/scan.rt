@@ -6,13 +6,14 @@ ghost use Rattle.column_meaning.specs.Columns.{slice_count};
 ghost use Rattle.ranks.specs.Frames.{Column};
 ghost use Rattle.ranks.specs.Found.{rows_level, Scanned, CutAt};
 
-use crate::frame;
 use blocks::next;
 use meaning::{BLOCK_WORDS, Ranking, SHORT_NUMBERS};
 use pivots::{compare, count, place};
 use walk::survey;
+use words::frame::Frame;
 
 // How many rows were counted, and, if these are at least as many as were to be found, the row behind the last of those.
+// Kept: of the two callers one asks for the count alone and the other for the row alone; a Result gives each an arm that never comes.
 #[derive(Clone, Copy)]
 struct Found {
     count: u32,
@@ -26,18 +27,27 @@ fn scan(index: &[u32], list: &[u32], value: u32, most: u32) -> Found
     requires value_bound { value < 2 ^ slice_count list.now }
     ensures { Scanned index.now list.now value most result.count result.row }
 {
-    let f = frame::of(index);
+    let f = Frame::of(contents::format(index), contents::rows(index));
     let format = f.format;
-    let segments = f.segments;
     let mut numbers: [u32; SHORT_NUMBERS] = [0; SHORT_NUMBERS];
     survey::open(format, index, list, &mut numbers);
     let mut x: [u32; BLOCK_WORDS] = [0; BLOCK_WORDS];
     let mut total: u32 = 0;
     let mut run = false;
     let mut o: u32 = 0;
-    while o < segments {
-        let s = next::next(format, index, list, &mut numbers, &mut x, o, segments, run);
-        let mask = frame::mask(f, o + s.n);
+    // Kept: a turn goes on by a block or a run, however long that is; a `for` has no such step.
+    while o < f.segments {
+        let s = next::next(
+            format,
+            index,
+            list,
+            &mut numbers,
+            &mut x,
+            o,
+            f.segments,
+            run,
+        );
+        let mask = f.mask(o + s.n);
         let told = compare::split(Ranking::Largest, &x, list.len() - 1, value);
         let same = told.same;
         let c = count::count(same, s.n, s.even, mask);

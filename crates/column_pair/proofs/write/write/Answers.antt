@@ -1,9 +1,10 @@
 -- `column_pair::write::write` meets its contract: measured, laid out, and written where it fits.
 -- Assumes nothing.
-use Prim.Native.Nat.{ℕ, ◌+◌, ◌*◌, ◌≤◌}
-use mathlib.Core.Path.{◌≡◌, ap}
+use Prim.Native.Nat.{ℕ, ◌+◌, ◌*◌, ◌≤◌, ◌<◌}
+use mathlib.Core.Path.{◌≡◌, ap, subst}
 use mathlib.Core.List.{List}
-use lib.ListN.{length, get_or, replicate}
+use lib.ListN.{length, get_or, take, replicate}
+use lib.Seq.{get_or-take, length-take-le}
 use native.Mathlib.Omega.{arith}
 use Rattle.meaning.specs.Limits.{most_starts, head_words, entry_words}
 use Rattle.meaning.specs.Index.{format_of, row_count}
@@ -12,7 +13,8 @@ use Rattle.meaning.specs.declared.Pairing.{Pairing}
 use Rattle.laws.proofs.NewIndexes.{room_within}
 use Rattle.blocks.proofs.Values.{zeros}
 use Rattle.new_index.specs.Layouts.{StartsOf, Headed}
-use Rattle.new_index.specs.Writers.{writer_of, Laid}
+use Rattle.new_index.specs.Writers.{writer_of, no_writer, Laid}
+use Rattle.ewah_write.specs.declared.writer.Writer.{Writer}
 use Rattle.pairs.specs.Passes.{Columns, body_of}
 use Rattle.laws.specs.ColumnLaws.{pair_index}
 use Rattle.column_pair.proofs.Laying.{nowhere-laid, nothing-kept, none-stored, headed-as, body-low, need-is, laid, contents-fit, exact, written}
@@ -51,8 +53,8 @@ module _ (s : After-starts-starts) where
   abbrev old : List ℕ
   old = s.args.out.now
 
-  abbrev ws : List ℕ
-  ws = s.pass-measured.result.numbers
+  abbrev ws : List Writer
+  ws = take (n + 1) s.pass-measured.result
 
   abbrev starts : List ℕ
   starts = s.starts-starts.result
@@ -60,11 +62,14 @@ module _ (s : After-starts-starts) where
   cs : Columns index first second n
   cs = s.requires
 
+  many : length ws ≡ n + 1
+  many = length-take-le (n + 1) s.pass-measured.result (omega (arith, s.pass-measured.ensures.writers-long, cs.few))
+
   used : (i : ℕ) → i ≤ n → (writer_of ws i).used ≡ length (body_of op index first second n i)
-  used = s.pass-measured.ensures.used
+  used i h = rw (get_or-take (n + 1) s.pass-measured.result i no_writer (omega arith)) (s.pass-measured.ensures.used i h)
 
   st : StartsOf ws (n + 1) (head_words + entry_words * (n + 1)) starts
-  st = s.starts-starts.ensures
+  st = subst (λ (k : ℕ). StartsOf ws k (head_words + entry_words * (n + 1)) starts) many s.starts-starts.ensures
 
   -- measuring stored nothing
   same : s.pass-measured.new.out ≡ old
@@ -93,11 +98,15 @@ pass-measured-requires c =
 
 pub starts-starts-requires : goal.starts-starts-requires
 starts-starts-requires c =
-    let p = c.pass-measured.ensures in (
+    let p = c.pass-measured.ensures in
+    let k = c.args.n + 1 in
+    let many = length-take-le k c.pass-measured.result (omega (arith, p.writers-long, c.requires.few)) in (
+      omega (arith, many, c.requires.few),
       omega (arith, c.requires.few),
-      p.numbers-long,
-      omega (arith, c.requires.few),
-      λ i h. omega (arith, p.used i (omega arith), body-low c.args.op c.args.index.now c.args.first.now c.args.second.now c.args.n c.requires i),
+      λ i h.
+          let l : i < k = omega (arith, many) in
+          rw (get_or-take k c.pass-measured.result i no_writer l)
+          (omega (arith, p.used i (omega arith), body-low c.args.op c.args.index.now c.args.first.now c.args.second.now c.args.n c.requires i)),
     )
 
 pub returns-then-room-need : goal.returns-then-room-need

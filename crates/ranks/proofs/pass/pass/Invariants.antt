@@ -16,4 +16,4 @@ invariant-loop-o l =
     × (length l.out ≡ length l.initial.out)
 
 abbrev pub decreases-loop-o : goal.decreases-loop-o
-decreases-loop-o l = l.segments - l.o
+decreases-loop-o l = l.f.segments - l.o

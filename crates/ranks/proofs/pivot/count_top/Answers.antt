@@ -3,10 +3,11 @@
 use Rattle.ranks.proofs.Narrowing.{top-fits, top-counted}
 use Rattle.ranks.proofs.pivot.count_top.Goals as goal
 
-pub count-requires : goal.count-requires
-count-requires c =
-    let t = c.top-named in let both = top-fits c.args.list.now t.result c.args.from t.ensures c.args.value
-    c.requires.column c.requires.le_from.0 c.requires.le_from.1 c.requires.le_from.2 in record { column = both.0; value_bound = both.1 }
+pub count-requires-clause-value_bound : goal.count-requires-clause-value_bound
+count-requires-clause-value_bound c =
+    let t = c.top-named in
+    let p = c.requires.le_from in
+    (top-fits c.args.list.now t.result c.args.from t.ensures c.args.value c.requires.column p.0 p.1 p.2).1
 
 pub returns : goal.returns
 returns c =

@@ -14,4 +14,4 @@ invariant-loop-o l =
     × (l.total ≤ l.most) × (0 < l.o → l.total < l.most)
 
 abbrev pub decreases-loop-o : goal.decreases-loop-o
-decreases-loop-o l = l.segments - l.o
+decreases-loop-o l = l.f.segments - l.o
