@@ -7,7 +7,7 @@ use mathlib.Core.List.{List}
 use lib.ListN.{length, replicate}
 use native.Mathlib.Nat.{zero-mul}
 use native.Mathlib.Omega.{arith}
-use Rattle.meaning.specs.Limits.{most_segments, block_words, place_numbers, short_numbers}
+use Rattle.meaning.specs.Limits.{most_segments, block_words}
 use Rattle.meaning.specs.Rows.{sum_below, count_below}
 use Rattle.meaning.specs.Segment.{segment_count, all_set, rows_in}
 use Rattle.meaning.specs.Format.{width}
@@ -18,6 +18,7 @@ use Rattle.column_meaning.specs.Columns.{slice_count}
 use Rattle.laws.proofs.Formats.{width-pos, segments-most}
 use Rattle.laws.proofs.RowWords.{rows_fit}
 use Rattle.laws.proofs.Counting.{count-le}
+use Rattle.ewah.specs.declared.cursor.Cursor.{Cursor}
 use Rattle.walk.specs.Queries.{Standing}
 use Rattle.blocks.specs.Blocks.{Walking, Cleared, NextBlock}
 use Rattle.blocks.proofs.Values.{zeros}
@@ -47,16 +48,12 @@ framed f is p q =
     }
 
 -- every cursor stands at segment o, and the block has no row but those of the list's places
-pub record Along (index list ns x : List ℕ) (o : ℕ) : Type 0 where
+pub record Along (index list : List ℕ) (at : List Cursor) (x : List ℕ) (o : ℕ) : Type 0 where
   pub here : o ≤ S index
-  pub walking : Walking index list ns o
+  pub walking : Walking index list at o
   pub cleared : Cleared list x
 
 module _ {index list : List ℕ} (cs : Column index list) where
-  -- a query of a short list has room for the places of a column
-  pub room : (n : ℕ) → n ≡ short_numbers → place_numbers * length list ≤ n
-  room n e = omega (arith, cs.few)
-
   -- a pivot has no more digits than the column has slices
   pub pivot-low : {m : ℕ} → m < 2 ^ slice_count list → m < 2 ^ (length list - 1)
   unfolding slice_count
@@ -65,16 +62,16 @@ module _ {index list : List ℕ} (cs : Column index list) where
   pub few : S index ≤ most_segments
   few = segments-most (format_of index) (row_count index) cs.facts.head.few-rows
 
-  pub along-none : {ns : List ℕ} → length ns ≡ short_numbers → Standing (format_of index) index list ns (length list) 0
-      → Along index list ns (replicate block_words 0) 0
+  pub along-none : {at : List Cursor} → length at ≡ length list → Standing (format_of index) index list at (length list) 0
+      → Along index list at (replicate block_words 0) 0
   along-none e st = record {
     here = omega arith;
     walking = record { standing = st; long = e };
     cleared = record { long = refl; past = λ i h. zeros block_words i };
   }
 
-module _ {index list : List ℕ} {o end n : ℕ} {even : Bool} {ns x : List ℕ} (nb : NextBlock index list o end n even ns x) where
-  pub along-more : end ≤ S index → Along index list ns x (o + n)
+module _ {index list : List ℕ} {o end n : ℕ} {even : Bool} {at : List Cursor} {x : List ℕ} (nb : NextBlock index list o end n even at x) where
+  pub along-more : end ≤ S index → Along index list at x (o + n)
   along-more h = record { here = omega (arith, nb.within); walking = nb.walking; cleared = nb.cleared }
 
 -- how many rows the first o segments have
@@ -88,7 +85,7 @@ none_before index p =
     rw e
 
 -- at the end these are all
-pub all-rows : {index list ns x : List ℕ} {o : ℕ} → Along index list ns x o → S index ≤ o → rows_before index o ≡ row_count index
+pub all-rows : {index list : List ℕ} {at : List Cursor} {x : List ℕ} {o : ℕ} → Along index list at x o → S index ≤ o → rows_before index o ≡ row_count index
 all-rows {index} {o = o} g l =
     let e : o ≡ S index = omega (arith, g.here) in
     rw e (omega (arith, rows_fit (width (format_of index)) (width-pos (format_of index)) (row_count index)))

@@ -20,6 +20,7 @@ use Rattle.laws.proofs.Formats.{width-pos, width-le}
 use Rattle.adder.specs.Digits.{number_at}
 use Rattle.block_read.specs.Taken.{word_at}
 use Rattle.walk.specs.Queries.{place_body}
+use Rattle.ewah.specs.declared.cursor.Cursor.{Cursor}
 use Rattle.blocks.specs.Blocks.{NextBlock}
 use Rattle.blocks.proofs.Values.{exists-bit, value-number, place, place-low, words-at, number_same}
 use Rattle.blocks.proofs.Segmented.{segment-clear, word_low}
@@ -33,8 +34,8 @@ pub record Tested (x : List ℕ) (n : ℕ) (g : ℕ → Bool) (t : List ℕ) : T
   pub bits : (w j : ℕ) → w < block_segments → j < word_bits
       → is_set (get_or t w 0) j ≡ is_set (get_or x w 0) j && g (number_at x n w j)
 
-module _ {index list : List ℕ} {o end n : ℕ} {even : Bool} {ns x : List ℕ} (cs : Column index list)
-    (nb : NextBlock index list o end n even ns x) {g : ℕ → Bool} {t : List ℕ} (ts : Tested x (length list - 1) g t) where
+module _ {index list : List ℕ} {o end n : ℕ} {even : Bool} {cursors : List Cursor} {x : List ℕ} (cs : Column index list)
+    (nb : NextBlock index list o end n even cursors x) {g : ℕ → Bool} {t : List ℕ} (ts : Tested x (length list - 1) g t) where
   abbrev F : Format
   F = format_of index
 

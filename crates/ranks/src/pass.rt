@@ -11,8 +11,9 @@ ghost use Rattle.ranks.specs.Passes.{EndOf, Kept, Spelled, cut_body, Passed};
 use blocks::choose::Step;
 use blocks::next;
 use body_write::writer;
-use meaning::{BLOCK_SEGMENTS, BLOCK_WORDS, Ranking, SHORT_NUMBERS};
+use meaning::{BLOCK_SEGMENTS, BLOCK_WORDS, Ranking, SHORT_NAMED};
 use pivots::compare;
+use walk::query::ENDED;
 use walk::survey;
 use words::frame::Frame;
 use words::{bits, rows};
@@ -79,8 +80,9 @@ pub fn pass(
     let format = f.format;
     let at = cut / f.width;
     let low = cut % f.width;
-    let mut numbers: [u32; SHORT_NUMBERS] = [0; SHORT_NUMBERS];
-    survey::open(format, index, list, &mut numbers);
+    let mut short = [ENDED; SHORT_NAMED];
+    let cursors = &mut short[..list.len()];
+    survey::open(format, index, list, cursors);
     let mut x: [u32; BLOCK_WORDS] = [0; BLOCK_WORDS];
     let mut w = writer::start(format);
     let mut run = false;
@@ -88,7 +90,7 @@ pub fn pass(
     // Kept: a turn goes on by a block or a run, however long that is; a `for` has no such step.
     while o < f.segments {
         let end = end_of(o, at, f.segments);
-        let s = next::next(format, index, list, &mut numbers, &mut x, o, end, run);
+        let s = next::next(format, index, list, cursors, &mut x, o, end, run);
         let mask = f.mask(o + s.n);
         let told = compare::split(op, &x, list.len() - 1, value);
         let rows = compare::taken(told, kept(o, at, low));

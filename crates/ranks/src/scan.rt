@@ -7,8 +7,9 @@ ghost use Rattle.ranks.specs.Frames.{Column};
 ghost use Rattle.ranks.specs.Found.{rows_level, Scanned, CutAt};
 
 use blocks::next;
-use meaning::{BLOCK_WORDS, Ranking, SHORT_NUMBERS};
+use meaning::{BLOCK_WORDS, Ranking, SHORT_NAMED};
 use pivots::{compare, count, place};
+use walk::query::ENDED;
 use walk::survey;
 use words::frame::Frame;
 
@@ -29,24 +30,16 @@ fn scan(index: &[u32], list: &[u32], value: u32, most: u32) -> Found
 {
     let f = Frame::of(contents::format(index), contents::rows(index));
     let format = f.format;
-    let mut numbers: [u32; SHORT_NUMBERS] = [0; SHORT_NUMBERS];
-    survey::open(format, index, list, &mut numbers);
+    let mut short = [ENDED; SHORT_NAMED];
+    let cursors = &mut short[..list.len()];
+    survey::open(format, index, list, cursors);
     let mut x: [u32; BLOCK_WORDS] = [0; BLOCK_WORDS];
     let mut total: u32 = 0;
     let mut run = false;
     let mut o: u32 = 0;
     // Kept: a turn goes on by a block or a run, however long that is; a `for` has no such step.
     while o < f.segments {
-        let s = next::next(
-            format,
-            index,
-            list,
-            &mut numbers,
-            &mut x,
-            o,
-            f.segments,
-            run,
-        );
+        let s = next::next(format, index, list, cursors, &mut x, o, f.segments, run);
         let mask = f.mask(o + s.n);
         let told = compare::split(Ranking::Largest, &x, list.len() - 1, value);
         let same = told.same;

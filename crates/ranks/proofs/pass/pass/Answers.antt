@@ -64,7 +64,7 @@ module _ (e : At-row) where
   cut-is : e.args.cut ≡ at * width F + low
   cut-is = sym (div-add-mod' e.args.cut e.of-f.result.width) ∙ ap (λ (w : ℕ). at * w + low) fr.width_is
 
-  nb : NextBlock index e.args.list.now o e.end_of-end.result m e.next-s.result.even e.next-s.new.numbers e.next-s.new.x
+  nb : NextBlock index e.args.list.now o e.end_of-end.result m e.next-s.result.even e.next-s.new.cursors e.next-s.new.x
   nb = e.next-s.ensures
 
   en : EndOf o at (S index) e.end_of-end.result

@@ -11,7 +11,7 @@ use Rattle.ranks.proofs.pass.pass.Given as goal
 
 abbrev pub invariant-loop-o : goal.invariant-loop-o
 invariant-loop-o l =
-    Along l.index l.list l.numbers l.x l.o
+    Along l.index l.list l.cursors l.x l.o
     × UpTo (format_of l.index) (row_count l.index) (own_segments l.op l.index l.list l.value l.cut) l.store l.initial.out l.out l.w l.o
     × (length l.out ≡ length l.initial.out)
 

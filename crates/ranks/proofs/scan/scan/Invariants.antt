@@ -10,7 +10,7 @@ use Rattle.ranks.proofs.scan.scan.Given as goal
 
 abbrev pub invariant-loop-o : goal.invariant-loop-o
 invariant-loop-o l =
-    Along l.index l.list l.numbers l.x l.o × (l.total ≡ count_below (rows_before l.index l.o) (rows_level l.index l.list l.value))
+    Along l.index l.list l.cursors l.x l.o × (l.total ≡ count_below (rows_before l.index l.o) (rows_level l.index l.list l.value))
     × (l.total ≤ l.most) × (0 < l.o → l.total < l.most)
 
 abbrev pub decreases-loop-o : goal.decreases-loop-o
