@@ -34,8 +34,8 @@ pub record Tested (x : List ℕ) (n : ℕ) (g : ℕ → Bool) (t : List ℕ) : T
   pub bits : (w j : ℕ) → w < block_segments → j < word_bits
       → is_set (get_or t w 0) j ≡ is_set (get_or x w 0) j && g (number_at x n w j)
 
-module _ {index list : List ℕ} {o end n : ℕ} {even : Bool} {at : List Cursor} {x : List ℕ} (cs : Column index list)
-    (nb : NextBlock index list o end n even at x) {g : ℕ → Bool} {t : List ℕ} (ts : Tested x (length list - 1) g t) where
+module _ {index list : List ℕ} {o end n : ℕ} {even : Bool} {cursors : List Cursor} {x : List ℕ} (cs : Column index list)
+    (nb : NextBlock index list o end n even cursors x) {g : ℕ → Bool} {t : List ℕ} (ts : Tested x (length list - 1) g t) where
   abbrev F : Format
   F = format_of index
 

@@ -39,16 +39,7 @@ fn scan(index: &[u32], list: &[u32], value: u32, most: u32) -> Found
     let mut o: u32 = 0;
     // Kept: a turn goes on by a block or a run, however long that is; a `for` has no such step.
     while o < f.segments {
-        let s = next::next(
-            format,
-            index,
-            list,
-            cursors,
-            &mut x,
-            o,
-            f.segments,
-            run,
-        );
+        let s = next::next(format, index, list, cursors, &mut x, o, f.segments, run);
         let mask = f.mask(o + s.n);
         let told = compare::split(Ranking::Largest, &x, list.len() - 1, value);
         let same = told.same;

@@ -120,17 +120,17 @@ place-behind-requires c =
 
 pub overflow_mul-from : goal.overflow_mul-from
 overflow_mul-from c =
-    let k = c.before.before.before.before in
+    let k = c.before.before.before.before.before in
     rw (fr k).width_is (omega (arith, row_fits k _ (got k _ c.if-most-sum.true c.loop-o-test.true c.place-behind.ensures).0))
 
 pub overflow_add-row : goal.overflow_add-row
 overflow_add-row c =
-    let k = c.before.before.before.before in
+    let k = c.before.before.before.before.before in
     rw (fr k).width_is (omega (arith, row_fits k _ (got k _ c.if-most-sum.true c.loop-o-test.true c.place-behind.ensures).0))
 
 pub returns-then-most-sum : goal.returns-then-most-sum
 returns-then-most-sum c =
-    let k = c.before.before.before.before in
+    let k = c.before.before.before.before.before in
     rw (fr k).width_is (got k _ c.if-most-sum.true c.loop-o-test.true c.place-behind.ensures).1
 
 pub loop-o-preserved : goal.loop-o-preserved
