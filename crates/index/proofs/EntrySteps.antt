@@ -1,19 +1,15 @@
 -- The entries of an index, one by one, and where a body lies.
 -- Assumes nothing.
-use Prim.Native.Nat.{ℕ, suc, ◌+◌, ◌-◌, ◌^◌, ◌≤◌, ◌<◌}
-use mathlib.Core.Path.{◌≡◌, sym, ap, ◌∙◌, subst}
+use Prim.Native.Nat.{ℕ, suc, ◌+◌, ◌-◌, ◌≤◌, ◌<◌}
+use mathlib.Core.Path.{◌≡◌, sym, ◌∙◌, subst}
 use mathlib.Core.List.{List}
 use native.Mathlib.Omega.{arith}
 use borrow.Author.Tests.{lt-ltb, le-ltb, eq-eqb, ne_eqb}
 use lib.Dec.{ltb}
 use lib.ListN.{length}
-use Rattle.meaning.specs.Limits.{most_rows}
-use Rattle.laws.specs.Laws.{HeadFacts, EntryFacts}
 use Rattle.meaning.specs.Refusal.{Verdict, refused, sound, refuse_if, ◌then◌}
 use Rattle.meaning.specs.Format.{body_fault}
-use Rattle.meaning.specs.declared.Format.{Format}
 use Rattle.meaning.specs.Index.{format_of, row_count, bitmap_count, entry_place, start_of, length_of, body_at, entries_fault, bodies_fault}
-use Rattle.contents.proofs.Places.{body-within, body-length}
 use Rattle.std.specs.Prelude.{Result, Ok, Err}
 use Rattle.answers.specs.declared.refusal.Refusal.{Refusal}
 use Rattle.answers.specs.declared.refusal.Fault.TheVariants.{WrongContents}
@@ -99,17 +95,3 @@ pub fault-of : (index : List ℕ) (k rows : ℕ) (t v : Verdict) → rows ≡ ro
     → t ≡ body_fault (format_of index) k (start_of index k) rows (body_at index k) → t ≡ v
     → body_fault (format_of index) k (start_of index k) (row_count index) (body_at index k) ≡ v
 fault-of index k rows t v e h g = rw e at (sym h ∙ g)
-
-module _ (index : List ℕ) (h : HeadFacts index) (g : EntryFacts index) (k rows from : ℕ) (b : List ℕ) where
-  -- what a body's check asks of its rows and places, where its start and its words were read before
-  pub body-asked : k < bitmap_count index → rows ≡ row_count index → from ≡ start_of index k → b ≡ body_at index k
-      → (rows ≤ most_rows) × (from + length b < 2 ^ 64)
-  body-asked few e f same = (
-    omega (arith, h.few-rows),
-    omega (arith, ap length same, body-length index k g few, body-within index k g few, h.few_words),
-  )
-
--- the fault of a body, where its format, its start and its words were read before
-pub body-told : (t : Verdict) (F G : Format) (k from place rows : ℕ) (b c : List ℕ)
-    → t ≡ body_fault F k from rows b → F ≡ G → from ≡ place → b ≡ c → t ≡ body_fault G k place rows c
-body-told t F G k from place rows b c h e f g = rw (← e, ← f, ← g) h

@@ -89,8 +89,7 @@ fn check_entries(index: &[u32]) -> Result<(), Refusal>
     Ok(())
 }
 
-// Body k, with places counted from word 0 of the index. `bodies::check` has the same switch; here both ways are
-// compiled into the loop over the bodies, which a call for each short body would slow.
+// Body k, with places counted from word 0 of the index.
 fn check_body(format: Format, index: &[u32], rows: u32, k: u32) -> Result<(), Refusal>
     requires head_facts { HeadFacts index.now }
     requires entry_facts { EntryFacts index.now }
@@ -101,10 +100,7 @@ fn check_body(format: Format, index: &[u32], rows: u32, k: u32) -> Result<(), Re
 {
     let start = contents::start(index, k);
     let body = contents::body(index, k);
-    match format {
-        Format::Ewah => ewah::check::check(body, rows, k, start as u64),
-        Format::Wah => wah::check::check(body, rows, k, start as u64),
-    }
+    bodies::check::check(format, body, rows, k, start as u64)
 }
 
 // The bodies.
