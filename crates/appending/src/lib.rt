@@ -56,7 +56,13 @@ fn find(state: AppendState, out: &[u32]) -> Option<Place>
 
 // What is left where state and buffer belong together: too many rows, a bad argument, a pad bit, no room, or the longer
 // body.
-fn append_at(p: Place, rows: u32, out: &mut [u32], more: u32, plain: &[u32]) -> Result<usize, Refusal>
+fn append_at(
+    p: Place,
+    rows: u32,
+    out: &mut [u32],
+    more: u32,
+    plain: &[u32],
+) -> Result<usize, Refusal>
     requires rows_le_most_rows { rows ≤ most_rows }
     requires by_index { (q : ℕ → Bool) × PlaceOf rows q out.old p }
     ensures { (q : ℕ → Bool) → PlaceOf rows q out.old p

@@ -7,7 +7,9 @@ ghost use Rattle.answers.specs.Told.{outcome_of};
 use answers::refusal::Refusal;
 use meaning::Format;
 
-// Of bitmap number `bitmap`, a body of that many rows whose first word has the place `start`.
+// Of bitmap number `bitmap`, a body of that many rows whose first word has the place `start`. Inline: a call for each
+// short body would slow the check of an index.
+#[inline]
 pub fn check(
     format: Format,
     body: &[u32],

@@ -35,7 +35,13 @@ fn slices(op: Pairing, first: &[u32], second: &[u32]) -> usize
 }
 
 // Of two columns with no stray row; 9 where the answer does not fit, or would be longer than an index may be.
-fn write_pair(op: Pairing, index: &[u32], first: &[u32], second: &[u32], out: &mut [u32]) -> Result<usize, Refusal>
+fn write_pair(
+    op: Pairing,
+    index: &[u32],
+    first: &[u32],
+    second: &[u32],
+    out: &mut [u32],
+) -> Result<usize, Refusal>
     requires index_facts { IndexFacts index.now }
     requires first_value { meaning.bad_column index.now most_column first.now ≡ false }
     requires second_value { meaning.bad_column index.now most_column second.now ≡ false }
@@ -70,7 +76,13 @@ fn pair_second(
 }
 
 // Of two columns that lists name.
-pub fn pair(op: Pairing, index: &[u32], first: &[u32], second: &[u32], out: &mut [u32]) -> Result<usize, Refusal>
+pub fn pair(
+    op: Pairing,
+    index: &[u32],
+    first: &[u32],
+    second: &[u32],
+    out: &mut [u32],
+) -> Result<usize, Refusal>
     requires { IndexFacts index.now }
     ensures { Wrote (meaning.ask_pair index.now op first.now second.now
         (length out.old)) result out.old out.new }

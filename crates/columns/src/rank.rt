@@ -47,7 +47,13 @@ fn check_rank(index: &[u32], list: &[u32], k: u32) -> Result<(), Refusal>
 }
 
 // Of a column in which at least k rows exist; 9 where the answer does not fit.
-fn write_ranked(op: Ranking, index: &[u32], list: &[u32], k: u32, out: &mut [u32]) -> Result<usize, Refusal>
+fn write_ranked(
+    op: Ranking,
+    index: &[u32],
+    list: &[u32],
+    k: u32,
+    out: &mut [u32],
+) -> Result<usize, Refusal>
     requires index_facts { IndexFacts index.now }
     requires k_value { meaning.bad_rank index.now list.now k ≡ false }
     ensures { Wrote (write (format_of index.now) (row_count index.now)
@@ -62,7 +68,13 @@ fn write_ranked(op: Ranking, index: &[u32], list: &[u32], k: u32, out: &mut [u32
 }
 
 // Of the column that a list names.
-pub fn ranked(op: Ranking, index: &[u32], list: &[u32], k: u32, out: &mut [u32]) -> Result<usize, Refusal>
+pub fn ranked(
+    op: Ranking,
+    index: &[u32],
+    list: &[u32],
+    k: u32,
+    out: &mut [u32],
+) -> Result<usize, Refusal>
     requires { IndexFacts index.now }
     ensures { Wrote (meaning.ask_ranked index.now op list.now k (length out.old))
         result out.old out.new }

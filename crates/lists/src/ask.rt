@@ -68,7 +68,12 @@ fn entry_is_bad(table: &[u32]) -> bool
 }
 
 // The rows at whose number the table has a 1; 8 for a bad list, or unless the table has one entry more than the list, each 0 or 1.
-pub fn symmetric(index: &[u32], list: &[u32], table: &[u32], out: &mut [u32]) -> Result<Report, Refusal>
+pub fn symmetric(
+    index: &[u32],
+    list: &[u32],
+    table: &[u32],
+    out: &mut [u32],
+) -> Result<Report, Refusal>
     requires { IndexFacts index.now }
     ensures { Reported index.now list.now
         (meaning.ask_symmetric index.now list.now table.now (length out.old))

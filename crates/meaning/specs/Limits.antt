@@ -42,10 +42,6 @@ counter_planes = 9
 abbrev pub most_counted : ℕ
 most_counted = 2 ^ counter_planes - 1
 
--- for short lists: the places of a query of their own
-abbrev pub short_named : ℕ
-short_named = 64
-
 -- Request 1: the fewest numbers that name a column (existence and one slice), the most (existence and 32 slices), and the most
 -- where only a value is asked (existence and the 33 slices that a sum or, request 7, a difference can have)
 abbrev pub least_column : ℕ

@@ -64,7 +64,13 @@ pub fn compress(format: Format, rows: u32, plain: &[u32], out: &mut [u32]) -> Re
 }
 
 // A body written anew, in canonical form, in the format `to`.
-pub fn rewrite(from: Format, to: Format, body: &[u32], rows: u32, out: &mut [u32]) -> Result<usize, Refusal>
+pub fn rewrite(
+    from: Format,
+    to: Format,
+    body: &[u32],
+    rows: u32,
+    out: &mut [u32],
+) -> Result<usize, Refusal>
     ensures { Wrote (rewriting.rewrite from to rows body.now (length out.old))
         result out.old out.new }
 {

@@ -32,7 +32,13 @@ pub fn signed_value(index: &[u32], column: &[u32], row: u32) -> Result<i64, Refu
 // then the slices
 
 // What an operation makes of them.
-fn pair(op: Pairing, index: &[u32], first: &[u32], second: &[u32], out: &mut [u32]) -> Result<usize, Refusal>
+fn pair(
+    op: Pairing,
+    index: &[u32],
+    first: &[u32],
+    second: &[u32],
+    out: &mut [u32],
+) -> Result<usize, Refusal>
     ensures { Wrote (columns.pair index.now op first.now second.now
         (length out.old)) result out.old out.new }
 {
@@ -49,7 +55,12 @@ pub fn sum(index: &[u32], first: &[u32], second: &[u32], out: &mut [u32]) -> Res
 }
 
 // The differences, the first less the second, as a signed column of one slice more than the wider has.
-pub fn signed_difference(index: &[u32], first: &[u32], second: &[u32], out: &mut [u32]) -> Result<usize, Refusal>
+pub fn signed_difference(
+    index: &[u32],
+    first: &[u32],
+    second: &[u32],
+    out: &mut [u32],
+) -> Result<usize, Refusal>
     ensures { Wrote (columns.signed_difference index.now first.now second.now
         (length out.old)) result out.old out.new }
 {
@@ -57,7 +68,12 @@ pub fn signed_difference(index: &[u32], first: &[u32], second: &[u32], out: &mut
 }
 
 // The smaller of both values, with as many slices as the wider column has.
-pub fn smaller(index: &[u32], first: &[u32], second: &[u32], out: &mut [u32]) -> Result<usize, Refusal>
+pub fn smaller(
+    index: &[u32],
+    first: &[u32],
+    second: &[u32],
+    out: &mut [u32],
+) -> Result<usize, Refusal>
     ensures { Wrote (columns.smaller index.now first.now second.now
         (length out.old)) result out.old out.new }
 {
@@ -65,7 +81,12 @@ pub fn smaller(index: &[u32], first: &[u32], second: &[u32], out: &mut [u32]) ->
 }
 
 // The differences, and 0 where they are negative, with as many slices as the wider column has.
-pub fn difference_or_zero(index: &[u32], first: &[u32], second: &[u32], out: &mut [u32]) -> Result<usize, Refusal>
+pub fn difference_or_zero(
+    index: &[u32],
+    first: &[u32],
+    second: &[u32],
+    out: &mut [u32],
+) -> Result<usize, Refusal>
     ensures { Wrote (columns.difference_or_zero index.now first.now second.now
         (length out.old)) result out.old out.new }
 {
@@ -76,7 +97,13 @@ pub fn difference_or_zero(index: &[u32], first: &[u32], second: &[u32], out: &mu
 // format; of equal values the lowest rows come first
 
 // The k rows whose values come first.
-fn ranked(op: Ranking, index: &[u32], column: &[u32], k: u32, out: &mut [u32]) -> Result<usize, Refusal>
+fn ranked(
+    op: Ranking,
+    index: &[u32],
+    column: &[u32],
+    k: u32,
+    out: &mut [u32],
+) -> Result<usize, Refusal>
     ensures wrote { Wrote (columns.ranked index.now op column.now k (length out.old))
         result out.old out.new }
     ensures rank_demand { RankAsked index.now column.now k

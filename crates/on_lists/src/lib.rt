@@ -26,7 +26,12 @@ pub fn threshold(index: &[u32], list: &[u32], t: u32, out: &mut [u32]) -> Result
 }
 
 // The rows at whose number the table has a 1, as a body in canonical form.
-pub fn symmetric(index: &[u32], list: &[u32], table: &[u32], out: &mut [u32]) -> Result<Report, Refusal>
+pub fn symmetric(
+    index: &[u32],
+    list: &[u32],
+    table: &[u32],
+    out: &mut [u32],
+) -> Result<Report, Refusal>
     ensures { Reported index.now list.now
         (meaning.symmetric index.now list.now table.now (length out.old))
         result out.old out.new }

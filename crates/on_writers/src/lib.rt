@@ -23,7 +23,12 @@ pub fn begin(buffer: &[u32]) -> AppendState
 
 // A batch of rows, as plain words, behind those that the writer has: the buffer then begins with all of them as an EWAH
 // body in canonical form, and the state says how many rows and words there are. A refusal changes neither.
-pub fn append(state: &mut AppendState, out: &mut [u32], rows: u32, plain: &[u32]) -> Result<usize, Refusal>
+pub fn append(
+    state: &mut AppendState,
+    out: &mut [u32],
+    rows: u32,
+    plain: &[u32],
+) -> Result<usize, Refusal>
     ensures wrote { Wrote (batches.append state.old out.old (batch_of rows plain.now))
         result out.old out.new }
     ensures state_after { state.new

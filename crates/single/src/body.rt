@@ -37,7 +37,13 @@ pub fn nth(format: Format, body: &[u32], rows: u32, n: u32) -> Result<u32, Refus
 
 // The body in canonical form of the format `to`; 9 where it does not fit.
 // It is measured first, unless the buffer surely has room.
-pub fn rewrite(from: Format, to: Format, body: &[u32], rows: u32, out: &mut [u32]) -> Result<usize, Refusal>
+pub fn rewrite(
+    from: Format,
+    to: Format,
+    body: &[u32],
+    rows: u32,
+    out: &mut [u32],
+) -> Result<usize, Refusal>
     requires rows_le_most_rows { rows ≤ most_rows }
     requires sound_facts { SoundFacts from rows body.now }
     ensures { Wrote (meaning.write to rows (rows_of from body.now) (length out.old))
@@ -54,7 +60,13 @@ pub fn rewrite(from: Format, to: Format, body: &[u32], rows: u32, out: &mut [u32
 }
 
 // The same, into a buffer with room for it.
-fn write_fitting(from: Format, to: Format, body: &[u32], rows: u32, out: &mut [u32]) -> Result<usize, Refusal>
+fn write_fitting(
+    from: Format,
+    to: Format,
+    body: &[u32],
+    rows: u32,
+    out: &mut [u32],
+) -> Result<usize, Refusal>
     requires rows_le_most_rows { rows ≤ most_rows }
     requires sound_facts { SoundFacts from rows body.now }
     requires body_in_bounds { length (canonical to rows (rows_of from body.now)) ≤ length out.old }

@@ -28,21 +28,33 @@ fn writes<F: FnOnce(&mut [u32]) -> Result<usize, Refusal>>(call: F, words: usize
 pub fn compresses(format: Format, rows: u32, plain: &[u32], words: usize, after: &[u32])
     requires { Writes (meaning.compress format rows plain.now 4) words after.now }
 {
-    writes(|out| zvonurel::compress(format, rows, plain, out), words, after);
+    writes(
+        |out| zvonurel::compress(format, rows, plain, out),
+        words,
+        after,
+    );
 }
 
 // A sound body that gives plain words.
 pub fn expands(format: Format, rows: u32, body: &[u32], words: usize, after: &[u32])
     requires { Writes (meaning.expand format rows body.now 4) words after.now }
 {
-    writes(|out| zvonurel::expand(format, body, rows, out), words, after);
+    writes(
+        |out| zvonurel::expand(format, body, rows, out),
+        words,
+        after,
+    );
 }
 
 // A body written anew.
 pub fn rewrites(from: Format, to: Format, rows: u32, body: &[u32], words: usize, after: &[u32])
     requires { Writes (rewriting.rewrite from to rows body.now 4) words after.now }
 {
-    writes(|out| zvonurel::rewrite(from, to, body, rows, out), words, after);
+    writes(
+        |out| zvonurel::rewrite(from, to, body, rows, out),
+        words,
+        after,
+    );
 }
 
 // A body that is refused.

@@ -86,7 +86,15 @@ fn looped() {
     cases::sound(&index);
     cases::threshold(&index, &list, 2, 2, 1, &[0x0002_0000, 0xA, 7, 7]);
     cases::histogram(&index, &list, &counts);
-    cases::refuses(&index, &list, 4, &mut [7, 7], &[7, 7], Fault::BadArgument, 0);
+    cases::refuses(
+        &index,
+        &list,
+        4,
+        &mut [7, 7],
+        &[7, 7],
+        Fault::BadArgument,
+        0,
+    );
     cases::refuses(&index, &list, 2, &mut [7], &[7], Fault::NoRoom, 2);
 }
 
@@ -148,8 +156,20 @@ fn wah_bodies() {
         2,
         &[0xFFFF_FFFF, 0xFF, 7, 7],
     );
-    cases::faulty(Format::Wah, &[0x8000_0002, 0x8000_0000], 62, Fault::EmptyFill, 1);
-    cases::faulty(Format::Wah, &[0x7FFF_FFFF, 0x7FFF_FFFF], 40, Fault::PadBit, 1);
+    cases::faulty(
+        Format::Wah,
+        &[0x8000_0002, 0x8000_0000],
+        62,
+        Fault::EmptyFill,
+        1,
+    );
+    cases::faulty(
+        Format::Wah,
+        &[0x7FFF_FFFF, 0x7FFF_FFFF],
+        40,
+        Fault::PadBit,
+        1,
+    );
     cases::faulty(Format::Wah, &[0x8000_0003], 62, Fault::WrongSegments, 0);
 }
 

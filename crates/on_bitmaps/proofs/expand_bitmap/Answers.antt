@@ -3,7 +3,6 @@
 use lib.ListN.{length}
 use Rattle.meaning.specs.Index.{row_count, rows_at}
 use Rattle.meaning.specs.Answer.{bitmap_refusal, ask_plain, expand_bitmap}
-
 use Rattle.answers.proofs.Tells.{wrote-stopped, wrote_then}
 use Rattle.on_bitmaps.proofs.Guards.{known-index}
 use Rattle.on_bitmaps.proofs.expand_bitmap.Goals as goal

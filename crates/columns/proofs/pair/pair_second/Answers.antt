@@ -2,7 +2,6 @@
 -- Assumes nothing.
 use lib.ListN.{length}
 use Rattle.column_meaning.specs.Columns.{write_pair}
-
 use Rattle.answers.proofs.Tells.{wrote-stopped, wrote_then}
 use Rattle.columns.proofs.Asking.{good-column}
 use native.Mathlib.Omega.{arith}
