@@ -36,6 +36,7 @@ fn find(ws: &[u32], k: u32) -> u32
 
 // What the segments of one marker say of a set row that is asked for: it is this row of theirs, or so many set rows are
 // still to pass.
+// Kept: a Result of two u32 would not say which is a row and which a number of rows to pass.
 #[derive(Clone, Copy)]
 pub enum Sought {
     Here(u32),

@@ -6,7 +6,7 @@ ghost use Rattle.laws.specs.Pivot.{lead};
 ghost use Rattle.pivots.specs.Splits.{Refined, SplitBy, Taken};
 
 use meaning::{BLOCK_SEGMENTS, BLOCK_WORDS, Ranking};
-use words::vectors;
+use words::{bits, vectors};
 
 // Of the rows of a block those whose value comes before the pivot's, and those that have it.
 #[derive(Clone, Copy)]
@@ -25,21 +25,14 @@ pub fn lead(op: Ranking) -> u32
     }
 }
 
-// A word whose bits are all so.
-fn filled(on: bool) -> u32
-    ensures { (j : ℕ) → j < word_bits → is_set result j ≡ on }
-{
-    if on { 0xFFFF_FFFF } else { 0 }
-}
-
 // One digit more, which x has. Of the rows that agreed with the pivot so far those agree on whose digit is its own; the others come
 // before it if theirs is the digit that comes first, and else behind it.
 fn refine(s: Compared, x: [u32; BLOCK_SEGMENTS], digit: u32, first: u32) -> Compared
     requires { digit < 2 }
     ensures { Refined digit first s.ahead s.same x result.ahead result.same }
 {
-    let flip = filled(digit == 0);
-    let gain = filled(digit != first);
+    let flip = bits::filled(digit == 0);
+    let gain = bits::filled(digit != first);
     let before = s.ahead;
     let agreed = s.same;
     let mut ahead: [u32; BLOCK_SEGMENTS] = [0; BLOCK_SEGMENTS];

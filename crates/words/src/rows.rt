@@ -1,7 +1,7 @@
 // Rows laid out in segments: how many segments, and which bits of one are rows. A segment has 32 rows in plain words and in EWAH
 // bodies, and 31 in WAH bodies.
 ghost use Rattle.std.specs.Prelude.{◌≡◌, cond, ℕ, ◌%◌, ◌-◌, ◌^◌, ◌≤◌, ◌<◌, leb};
-ghost use Rattle.meaning.specs.Segment.{segment_count, last_rows, last_limit, rows_in, all_set, clean, mixed, kind};
+ghost use Rattle.meaning.specs.Segment.{segment_count, last_rows, last_limit, all_set, clean, mixed, kind};
 ghost use Rattle.meaning.specs.Format.{width};
 ghost use Rattle.meaning.specs.declared.Format.{Format};
 
@@ -86,18 +86,6 @@ pub fn last_mask(format: Format, rows: u32) -> u32
         return 0;
     }
     bits::low_ones(last_rows_of(format, rows))
-}
-
-// The bits of the segment before `end` that are rows: `full`, all of them, or those of the last segment.
-pub fn mask_before(full: u32, last: u32, segments: u32, end: u32) -> u32
-    ensures { (F : Format) (R : ℕ) → full ≡ all_set (width F) → (1 ≤ R → last ≡ all_set (last_rows (width F) R))
-        → segments ≡ segment_count (width F) R → 1 ≤ end → end ≤ segments
-        → result ≡ all_set (rows_in (width F) R (end - 1)) }
-{
-    if end < segments {
-        return full;
-    }
-    last
 }
 
 // The word that a segment is written as, of whose bits the mask has the rows: `full`, the word of a whole segment of
