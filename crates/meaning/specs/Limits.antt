@@ -42,17 +42,6 @@ counter_planes = 9
 abbrev pub most_counted : ℕ
 most_counted = 2 ^ counter_planes - 1
 
--- the numbers that a query keeps for each place
-abbrev pub place_numbers : ℕ
-place_numbers = 4
-
--- for short lists: the places of a query of their own, and its numbers
-abbrev pub short_named : ℕ
-short_named = 64
-
-abbrev pub short_numbers : ℕ
-short_numbers = place_numbers * short_named
-
 -- Request 1: the fewest numbers that name a column (existence and one slice), the most (existence and 32 slices), and the most
 -- where only a value is asked (existence and the 33 slices that a sum or, request 7, a difference can have)
 abbrev pub least_column : ℕ
