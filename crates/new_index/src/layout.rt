@@ -28,7 +28,7 @@ pub fn write_contents(format: Format, out: &mut [u32], rows: u32, starts: &[usiz
         × (get_or starts.now (i + 1) 0 < 4294967296) }
     ensures { Headed format out.old rows starts.now count out.new count }
 {
-    out[0] = contents::kind(format);
+    out[0] = u32::from(format);
     out[1] = rows;
     out[2] = count as u32;
     for i in 0..count {
