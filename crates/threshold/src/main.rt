@@ -34,6 +34,7 @@ fn list<W: Write>(writer: &mut W, mut listing: Listing<'_>) -> io::Result<()>
     ensures { OnOk result (Appends (W.contents writer.old) (W.contents writer.new) (lines_left listing.entry)) }
 {
     let mut chunk = ArrayString::<CHUNK_BYTES>::new();
+    // Kept: a turn lists as many rows as a chunk takes; a `for` has no such step.
     while listing.row < listing.rows {
         listing.fill(&mut chunk);
         writer.write_all(chunk.as_str().as_bytes())?;

@@ -1,4 +1,5 @@
 // One WAH body alone: the calls of `lib` on an EWAH body, one for one, with `zv_wah_` before their names.
+// Kept: one export for each format: the names are C's, and C has no enum of this library's.
 ghost use Rattle.std.specs.Prelude.{length};
 ghost use Rattle.meaning.specs.declared.Format.TheVariants.{Wah};
 ghost use Rattle.meaning.specs.Answer as meaning;

@@ -1,5 +1,6 @@
 // Rewriting into a body, or an index, of the format that a call is named for:
 // of a body alone, of a bitmap, of a whole index.
+// Kept: one export for each format: the names are C's, and C has no enum of this library's.
 ghost use Rattle.std.specs.Prelude.{length};
 ghost use Rattle.meaning.specs.declared.Format.TheVariants.{Ewah, Wah};
 ghost use Rattle.meaning.specs.Rewriting as rewriting;
