@@ -47,7 +47,11 @@ fn take_place(
 {
     let from = k * BLOCK_SEGMENTS;
     let row = &mut x[from..from + BLOCK_SEGMENTS];
-    *c = block_read::take(format, contents::body(index, b), *c, row, n, even);
+    let d = block_read::take(format, contents::body(index, b), *c, row, n, even);
+    // Part by part, as in `walk::survey`.
+    c.piece = d.piece;
+    c.next = d.next;
+    c.dirty = d.dirty;
 }
 
 // Every cursor goes n segments on in its body, which has the index's format; row k of x becomes the words of place k.

@@ -63,8 +63,13 @@ fn move_place(format: Format, index: &[u32], k: u32, c: &mut Cursor, n: u32, s: 
     requires room { Room s }
     ensures { Moved format (body_at index.now k) c.old n c.new s result }
 {
-    *c = cursor::advance(format, contents::body(index, k), *c, n);
-    weigh(s, c.piece)
+    let d = cursor::advance(format, contents::body(index, k), *c, n);
+    let piece = d.piece;
+    // Part by part, as they were made: a whole cursor is copied by wider loads, which wait for the stores of its parts.
+    c.piece = piece;
+    c.next = d.next;
+    c.dirty = d.dirty;
+    weigh(s, piece)
 }
 
 // Every cursor goes n segments on in its body, which has the index's format.

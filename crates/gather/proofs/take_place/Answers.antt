@@ -12,7 +12,7 @@ pub returns : goal.returns
 returns c =
     let a = c.args in
     let p = c.requires.b_bound in
-    let t = c.take in
+    let t = c.take-d in
     let taken = rw c.body.ensures.result_value at t.ensures in
     row-of-block a.format (body_at a.index.now a.b) a.c.now a.n t.result a.even a.x.now t.new.row (a.k * block_segments) _ refl
     (omega (arith, p.1, p.2)) p.5 taken

@@ -7,5 +7,5 @@ use Rattle.walk.proofs.survey.move_place.Goals as goal
 pub returns : goal.returns
 returns c =
     let a = c.args in
-    moved a.format (body_at a.index.now a.k) c.body.result.now a.c.now a.n a.s c.weigh.result c.advance.result
-    c.body.ensures.result_value c.requires.k_bound.1 c.requires.k_bound.2 c.advance.ensures c.weigh.ensures
+    moved a.format (body_at a.index.now a.k) c.body.result.now a.c.now a.n a.s c.weigh.result c.advance-d.result
+    c.body.ensures.result_value c.requires.k_bound.1 c.requires.k_bound.2 c.advance-d.ensures c.weigh.ensures
