@@ -57,7 +57,12 @@ fn compress(format: Format, plain: &[u32], rows: u32, out: &mut [u32]) -> usize
 }
 
 // The same, with what is told.
-fn write_fitting(format: Format, plain: &[u32], rows: u32, out: &mut [u32]) -> Result<usize, Refusal>
+fn write_fitting(
+    format: Format,
+    plain: &[u32],
+    rows: u32,
+    out: &mut [u32],
+) -> Result<usize, Refusal>
     requires plain_rows { PlainRows rows plain.now }
     requires plain_in_bounds { length (canonical format rows (has_row 32 plain.now)) ≤ length out.old }
     ensures { Wrote (meaning.write format rows (has_row 32 plain.now) (length out.old))
@@ -68,7 +73,12 @@ fn write_fitting(format: Format, plain: &[u32], rows: u32, out: &mut [u32]) -> R
 
 // Plain words written in canonical form; 9 where they do not fit. They are measured first, unless the buffer surely has
 // room.
-pub fn write_plain(format: Format, plain: &[u32], rows: u32, out: &mut [u32]) -> Result<usize, Refusal>
+pub fn write_plain(
+    format: Format,
+    plain: &[u32],
+    rows: u32,
+    out: &mut [u32],
+) -> Result<usize, Refusal>
     requires { PlainRows rows plain.now }
     ensures { Wrote (meaning.write format rows (has_row 32 plain.now) (length out.old))
         result out.old out.new }
