@@ -6,24 +6,24 @@ use Rattle.on_bitmaps.proofs.bitmap.Goals as goal
 
 pub body-requires : goal.body-requires
 body-requires c =
-    let h = part-laws.known _ _ (sound-is c.bitmap_refusal.result _ c.bitmap_refusal.ensures c.in_ok-bitmap_refusal.was) in record {
+    let h = part-laws.known _ _ (sound-is c.bitmap_refusal.result _ c.bitmap_refusal.ensures c.in-Ok.is) in record {
       head_facts = h.facts.head;
       entry_facts = h.facts.entries;
       k_bound = h.below;
     }
 
-pub returns-in_err-bitmap_refusal : goal.returns-in_err-bitmap_refusal
-returns-in_err-bitmap_refusal c =
+pub returns-in-Err : goal.returns-in-Err
+returns-in-Err c =
     let a = c.args in
-    let f = refused-is c.bitmap_refusal.result _ c.bitmap_refusal.ensures _ c.in_err-bitmap_refusal.was in record {
+    let f = refused-is c.bitmap_refusal.result _ c.bitmap_refusal.ensures _ c.in-Err.is in record {
       result_value = sym (part-laws.none a.index.now a.k _ _ _ f);
       ref_ptr_value = refl;
-      ref_ptr_value_2 = λ s. absurd (refused-not-sound f s);
+      ref_ptr_value_2 = λ s. absurd (refused-not-sound _ f s);
     }
 
-pub returns : goal.returns
-returns c =
-    let h = part-laws.known _ _ (sound-is c.bitmap_refusal.result _ c.bitmap_refusal.ensures c.in_ok-bitmap_refusal.was) in record {
+pub returns-in-Ok : goal.returns-in-Ok
+returns-in-Ok c =
+    let h = part-laws.known _ _ (sound-is c.bitmap_refusal.result _ c.bitmap_refusal.ensures c.in-Ok.is) in record {
       result_value = c.body.ensures.result_value ∙ sym h.part;
       ref_ptr_value = c.body.ensures.ref_ptr_value;
       ref_ptr_value_2 = λ s. c.body.ensures.ref_ptr_value_2;
