@@ -21,6 +21,7 @@ fn pair(op: Logical, index: &[u32], j: u32, k: u32, out: &mut [u32]) -> Result<u
 }
 
 // The rows that both have.
+#[tactic(auto, unfolding(meaning::specs::Answer::and))]
 pub fn and(index: &[u32], j: u32, k: u32, out: &mut [u32]) -> Result<usize, Refusal>
     ensures { Wrote (meaning.and index.now j k (length out.old))
         result out.old out.new }
@@ -29,6 +30,7 @@ pub fn and(index: &[u32], j: u32, k: u32, out: &mut [u32]) -> Result<usize, Refu
 }
 
 // The rows that one or both have.
+#[tactic(auto, unfolding(meaning::specs::Answer::or))]
 pub fn or(index: &[u32], j: u32, k: u32, out: &mut [u32]) -> Result<usize, Refusal>
     ensures { Wrote (meaning.or index.now j k (length out.old))
         result out.old out.new }
@@ -37,6 +39,7 @@ pub fn or(index: &[u32], j: u32, k: u32, out: &mut [u32]) -> Result<usize, Refus
 }
 
 // The rows that just one of the two has.
+#[tactic(auto, unfolding(meaning::specs::Answer::xor))]
 pub fn xor(index: &[u32], j: u32, k: u32, out: &mut [u32]) -> Result<usize, Refusal>
     ensures { Wrote (meaning.xor index.now j k (length out.old))
         result out.old out.new }
@@ -45,6 +48,7 @@ pub fn xor(index: &[u32], j: u32, k: u32, out: &mut [u32]) -> Result<usize, Refu
 }
 
 // The rows that j has and k has not.
+#[tactic(auto, unfolding(meaning::specs::Answer::and_not))]
 pub fn and_not(index: &[u32], j: u32, k: u32, out: &mut [u32]) -> Result<usize, Refusal>
     ensures { Wrote (meaning.and_not index.now j k (length out.old))
         result out.old out.new }
