@@ -1,5 +1,6 @@
 -- Questions on columns: what is refused, in its order, and that what is left is the answer.
 -- Assumes nothing.
+use Rattle.std.specs.Prelude.{Ok, Err}
 use Prim.Native.Nat.{ℕ, suc, ◌-◌, ◌≤◌, ◌<◌}
 use mathlib.Core.Bool.{Bool, true, false, not, ◌||◌}
 use mathlib.Core.Path.{◌≡◌, refl, sym, ap, ap₂, ◌∙◌, subst}
@@ -114,14 +115,6 @@ module _ (index list : List ℕ) (r : ℕ) where
 
 -- how many slices the wider has
 module _ (first second : List ℕ) where
-  pub wider-second : length first < length second → length second - 1 ≡ wider first second
-  unfolding wider slice_count
-  wider-second h = omega arith
-
-  pub wider-first : length second ≤ length first → length first - 1 ≡ wider first second
-  unfolding wider slice_count
-  wider-first h = omega arith
-
   pub wider-low : length first ≤ most_column → length second ≤ most_column → wider first second < most_column
   unfolding wider slice_count
   wider-low h g = omega arith

@@ -29,8 +29,10 @@ fn slices(op: Pairing, first: &[u32], second: &[u32]) -> usize
 {
     let w = wider(first, second);
     match op {
-        Pairing::Sum | Pairing::Difference => w + 1,
-        Pairing::Smaller | Pairing::DifferenceOrZero => w,
+        Pairing::Sum => w + 1,
+        Pairing::Difference => w + 1,
+        Pairing::Smaller => w,
+        Pairing::DifferenceOrZero => w,
     }
 }
 

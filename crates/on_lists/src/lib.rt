@@ -2,7 +2,7 @@
 // `zvonurel` passes them on, and says what every `ensures` settles.
 #![tactic(auto)]
 
-ghost use Rattle.std.specs.Prelude.{length};
+ghost use Rattle.std.specs.Prelude.{◌≡◌, length};
 ghost use Rattle.meaning.specs.Answer as meaning;
 ghost use Rattle.laws.specs.Demands.{Asked, ThresholdDemand};
 ghost use Rattle.answers.specs.Told.{answered_of, outcome_of, Reported};

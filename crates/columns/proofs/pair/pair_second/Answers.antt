@@ -7,8 +7,8 @@ use Rattle.columns.proofs.Asking.{good-column}
 use native.Mathlib.Omega.{arith}
 use Rattle.columns.proofs.pair.pair_second.Goals as goal
 
-pub strays-checked-requires : goal.strays-checked-requires
-strays-checked-requires c =
+pub strays-requires : goal.strays-requires
+strays-requires c =
     let g = good-column _ _ _ c.requires.second_value in record {
       index_facts = c.requires.index_facts;
       least_column_in_bounds = (g.0, omega (arith, g.1), g.2);

@@ -1,10 +1,8 @@
--- `columns::pair::wider` meets its contract.
--- Assumes nothing.
-use Rattle.columns.proofs.Asking.{wider-first, wider-second}
+-- `columns::pair::wider` meets its contract: the larger length, less existence. Assumes nothing.
+use native.Mathlib.Omega.{arith}
+use Rattle.column_meaning.specs.Columns.{wider, slice_count}
 use Rattle.columns.proofs.pair.wider.Goals as goal
 
-pub returns-then-first-second : goal.returns-then-first-second
-returns-then-first-second c = wider-second _ _ c.if-first-second.true
-
 pub returns : goal.returns
-returns c = wider-first _ _ c.if-first-second.false
+unfolding wider slice_count
+returns c = omega (arith, c.max.ensures)

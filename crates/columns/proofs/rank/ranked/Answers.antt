@@ -5,8 +5,8 @@ use mathlib.Core.Path.{refl, ◌∙◌, subst}
 use mathlib.Core.List.{List}
 use Rattle.meaning.specs.Refusal.{Outcome, Verdict}
 use Rattle.answers.specs.Told.{Wrote}
-use Rattle.answers.proofs.Checks.{stopped, sound-is}
-use Rattle.answers.proofs.Tells.{wrote_then}
+use Rattle.answers.proofs.Checks.{sound-is}
+use Rattle.answers.proofs.Tells.{wrote-stopped, wrote_then}
 use Rattle.columns.proofs.Asking.{rank_verdict, rank-passed, writes, ranked-then}
 use Rattle.columns.proofs.rank.ranked.Goals as goal
 
@@ -21,11 +21,10 @@ write_ranked-requires c =
 pub returns-in_err-check_rank : goal.returns-in_err-check_rank
 returns-in_err-check_rank c =
     let a = c.args in
-    let v : Verdict = rank_verdict a.index.now a.list.now a.k in
-    let w = writes a.index.now a.list.now a.k a.op a.out.now in
-    wrote-refused a.out.now _ _
-    (stopped c.check_rank.result v c.check_rank.ensures w c.from_residual.result _ c.in_err-check_rank.was c.from_residual.ensures.1
-    ∙ ranked-then a.index.now a.list.now a.k a.op a.out.now)
+    subst (λ (o : Outcome (List ℕ)). Wrote o c.from_residual.result a.out.now a.out.now)
+    (ranked-then a.index.now a.list.now a.k a.op a.out.now)
+    (wrote-stopped _ (rank_verdict a.index.now a.list.now a.k) (writes a.index.now a.list.now a.k a.op a.out.now) _ _ _
+    c.check_rank.ensures c.in_err-check_rank.was c.from_residual.ensures.1)
 
 pub returns : goal.returns
 returns c =
