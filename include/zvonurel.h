@@ -116,9 +116,9 @@
  * matter, expand the body instead.
  *
  * STACK. A call needs less than ZV_MOST_STACK bytes of stack, whatever it is given: none recurses, and none has an
- * array whose length depends on the input. tests/c/stack.c measures some 14 KiB for zv_sum and the other calls on two
- * columns, 8 KiB for zv_histogram, 5 KiB for the calls that answer with a body over bitmaps of an index, zv_largest and
- * zv_smallest among them, and less than 1 KiB for any other. A program's first memcpy or memset may add some 3 KiB,
+ * array whose length depends on the input. tests/c/stack.c measures some 16 KiB for zv_sum and the other calls on two
+ * columns, 13 KiB for zv_histogram, 11 KiB for the calls that answer with a body over bitmaps of an index, some 6 KiB for
+ * zv_largest and zv_smallest, and less than 1 KiB for any other. A program's first memcpy or memset may add some 3 KiB,
  * while the system looks for it.
  */
 #ifndef ZVONUREL_H
