@@ -66,5 +66,5 @@ module _ (s s' : Listing) (of : SameRows s s') (h : s.row < s.rows) where
 -- ---- all chunks
 
 pub chunks-list : ChunksList
-chunks-list n _ _ (none s h) = sym (rest-past (rows_of s.format s.body.now) s.rows s.row h)
-chunks-list n _ _ (more s out s' rest c cs) = ap (λ (t : List ℕ). out ++ t) (chunks-list n s' rest cs) ∙ sym c.same
+chunks-list _ _ (none s h) = sym (rest-past (rows_of s.format s.body.now) s.rows s.row h)
+chunks-list _ _ (more n s out s' rest c cs) = ap (λ (t : List ℕ). out ++ t) (chunks-list s' rest cs) ∙ sym c.same

@@ -29,11 +29,11 @@ pub record Chunk (n : ℕ) (s : Listing) (out : List ℕ) (s' : Listing) (out' :
   -- with room for a line it goes on
   pub on : s.row < s.rows → length out + LINE_BYTES ≤ n → s.row < s'.row
 
--- chunks one after the other, each into an empty buffer, from a listing to one that has no row left: their bytes are `text`
-pub data Chunks (n : ℕ) : Listing → List ℕ → Type 0 where
-  none : (s : Listing) → s.rows ≤ s.row → Chunks n s []
-  more : (s : Listing) (out : List ℕ) (s' : Listing) (text : List ℕ) → Chunk n s [] s' out → Chunks n s' text → Chunks n s (out ++ text)
+-- chunks one after the other, each into an empty buffer of its own length, from a listing to one that has no row left: their bytes are `text`
+pub data Chunks : Listing → List ℕ → Type 0 where
+  none : (s : Listing) → s.rows ≤ s.row → Chunks s []
+  more : (n : ℕ) (s : Listing) (out : List ℕ) (s' : Listing) (text : List ℕ) → Chunk n s [] s' out → Chunks s' text → Chunks s (out ++ text)
 
 -- they list all that was to come; proved in `proofs/Stepping`
 abbrev pub ChunksList : Type 0
-ChunksList = (n : ℕ) (s : Listing) (text : List ℕ) → Chunks n s text → text ≡ lines_left s
+ChunksList = (s : Listing) (text : List ℕ) → Chunks s text → text ≡ lines_left s
