@@ -1,8 +1,8 @@
 /*
  * Zvonurel for C: bitmaps of 32-bit words, in EWAH or in WAH, that answer a question rightly or refuse it.
  *
- * Link libzvonurel_c.a, which needs nothing but C's memcpy, memmove and memset. In the repository that this header is
- * from, `./build` proves and writes it and `./install` puts both where pkg-config finds them; there crates/zvonurel_c has the
+ * Link libzvonurel_c.a, which needs nothing but C's memcpy and memset. In the repository that this header is from,
+ * `./build` proves and writes it and `./install` puts both where pkg-config finds them; there crates/zvonurel_c has the
  * contract of each call, and every one is proved. What this header itself computes, sizes and texts, is tested and not
  * proved. Other files that are named here are that repository's too.
  *
@@ -118,7 +118,7 @@
  * STACK. A call needs less than ZV_MOST_STACK bytes of stack, whatever it is given: none recurses, and none has an
  * array whose length depends on the input. tests/c/stack.c measures some 16 KiB for zv_sum and the other calls on two
  * columns, 13 KiB for zv_histogram, 11 KiB for the calls that answer with a body over bitmaps of an index, some 6 KiB for
- * zv_largest and zv_smallest, and less than 1 KiB for any other. A program's first call of these may add some 3 KiB,
+ * zv_largest and zv_smallest, and less than 1 KiB for any other. A program's first memcpy or memset may add some 3 KiB,
  * while the system looks for it.
  */
 #ifndef ZVONUREL_H

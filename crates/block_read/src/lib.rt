@@ -12,6 +12,7 @@ ghost use Rattle.block_read.specs.Taken.{HasAhead, SpanTaken, RowTaken};
 use bodies::cursor;
 use ewah::cursor::{Cursor, Piece};
 use meaning::Format;
+use words::copies;
 
 // The next segments of a clean run, as many as the row has words.
 fn take_run(
@@ -38,7 +39,7 @@ fn take_dirty(format: Format, body: &[u32], c: Cursor, row: &mut [u32]) -> Curso
     ensures { SpanTaken format body.now c (length row.old) row.new result }
 {
     let from = c.next - 1;
-    row.copy_from_slice(&body[from..from + row.len()]);
+    copies::copy(row, &body[from..from + row.len()]);
     cursor::pass(format, body, c, row.len() as u32)
 }
 

@@ -19,7 +19,7 @@ use ewah::marker;
 use ewah::marker::Marker;
 use ewah_write::writer::Writer;
 use meaning::{Format, MOST_DIRTY};
-use words::rows;
+use words::{copies, rows};
 
 // The words that a row of n segments has: one where all are alike.
 pub fn row_length(n: u32, even: bool) -> usize
@@ -115,7 +115,7 @@ fn push_words(out: &mut [u32], w: Writer, words: &[u32]) -> Writer
     let at = w.at;
     let used = w.used;
     let r = grow_words(w, words.len() as u32);
-    out[used..used + words.len()].copy_from_slice(words);
+    copies::copy(&mut out[used..used + words.len()], words);
     out[at] = marker::word(r.last);
     r
 }

@@ -12,6 +12,7 @@ ghost use Rattle.ranks.specs.Found.{Top, Stepped, PivotOf};
 use crate::scan;
 use meaning::{MOST_COLUMN, Ranking};
 use pivots::compare;
+use words::copies;
 
 // The value, and how many rows that have it are taken.
 #[derive(Clone, Copy)]
@@ -28,7 +29,7 @@ fn top(list: &[u32], from: usize) -> [u32; MOST_COLUMN]
     let mut r: [u32; MOST_COLUMN] = [0; MOST_COLUMN];
     let slices = &list[from..];
     r[0] = list[0];
-    r[1..slices.len() + 1].copy_from_slice(slices);
+    copies::copy(&mut r[1..slices.len() + 1], slices);
     r
 }
 

@@ -2,6 +2,7 @@
 #![tactic(auto)]
 
 pub mod bits;
+pub mod copies;
 pub mod frame;
 pub mod rows;
 pub mod vectors;

@@ -6,8 +6,8 @@ use Rattle.block_read.proofs.Joining.{dirty-taken}
 use native.Mathlib.Omega.{arith}
 use Rattle.block_read.proofs.take_dirty.Goals as goal
 
-pub slice_bounds-copy_from_slice-end : goal.slice_bounds-copy_from_slice-end
-slice_bounds-copy_from_slice-end c =
+pub slice_bounds-copy-end : goal.slice_bounds-copy-end
+slice_bounds-copy-end c =
     let a = c.args in
     let h = c.requires.has_ahead in
     let p = c.requires.by_index in
@@ -22,4 +22,4 @@ returns c =
     let p = c.requires.by_index in
     let there = words-there a.format a.body.now h.0 a.c h.1 _ p.0.1 (length a.row.now) c.requires.in_order p.1 p.2 h.2 in
     dirty-taken _ _ _ _ _ _ _ p.0.1 c.requires.in_order p.2 there
-    _ (omega arith) c.copy_from_slice.ensures.after (rw c.copy_from_slice.ensures.len at c.pass.ensures)
+    _ (omega arith) c.copy.ensures.after (rw c.copy.ensures.len at c.pass.ensures)

@@ -1,5 +1,4 @@
--- `ewah_read::expand::place` meets its contract. The invariant: the first i words behind the run are dirty words, and the others are
--- as they were.
+-- `words::copies::copy` meets its contract. The invariant: the first i words are copied, and the others are as they were.
 -- Assumes nothing.
 use native.Mathlib.Omega.{arith}
 use Prim.Native.Nat.{ℕ, suc, ◌+◌, ◌<◌}
@@ -8,7 +7,7 @@ use mathlib.Core.List.{List, ◌++◌}
 use lib.ListN.{length, get_or, set, take, drop, length-set}
 use lib.Seq.{paste-suc}
 use native.Mathlib.Numerals.{add-one}
-use Rattle.ewah_read.proofs.expand.place.Goals as goal
+use Rattle.words.proofs.copies.copy.Goals as goal
 
 -- one word more
 copy_more : (n : ℕ) (s d : List ℕ) → n < length s → n < length d → set (take n s ++ drop n d) n (get_or s n 0) ≡ take (n + 1) s ++ drop (n + 1) d
@@ -21,9 +20,8 @@ copy_more n s d hs hd =
 pub loop-i-preserved : goal.loop-i-preserved
 loop-i-preserved c =
     let h = c.loop-i in
-    let from = c.args.dirty.now in
-    let out = c.split_at_mut-run.result.1.now in
-    let all : length out ≡ length from = omega (arith, c.split_at_mut-run.ensures.back_len) in (
+    let from = c.args.from.now in
+    let out = c.args.out.now in (
       simp length-set (omega arith),
       ap (λ (l : List ℕ). set l h.i (get_or from h.i 0)) h.invariant.1 ∙ copy_more h.i from out (omega arith) (omega arith),
     )
