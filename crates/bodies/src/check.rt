@@ -8,8 +8,8 @@ use answers::refusal::Refusal;
 use meaning::Format;
 
 // Of bitmap number `bitmap`, a body of that many rows whose first word has the place `start`. Inline: a call for each
-// short body would slow the check of an index.
-#[inline]
+// short body would slow the check of an index, and the compiler leaves it out where it may.
+#[inline(always)]
 pub fn check(
     format: Format,
     body: &[u32],

@@ -26,12 +26,14 @@ pub fn last_rows<const W: u32>(rows: u32) -> u32
     (rows - 1) % W + 1
 }
 
-// Whether a word sets a pad bit as the last segment of that many rows. A shift tells it, with no mask to work out.
+// Whether a word sets a pad bit as the last segment of that many rows. A shift tells it, with no mask to work out; a last segment of
+// 32 rows has no pad bit, and that is tested first, so that a loop over words is compiled once more for it, with no shift.
 pub fn sets_pad<const W: u32>(rows: u32, x: u32) -> bool
     requires { (2 ≤ W) × (W ≤ 32) × (1 ≤ rows) }
     ensures { result ≡ leb (last_limit W rows) x }
 {
-    (x as u64) >> last_rows::<W>(rows) != 0
+    let real = last_rows::<W>(rows);
+    real < 32 && (x as u64) >> real != 0
 }
 
 // ---- either format
