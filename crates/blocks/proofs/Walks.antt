@@ -36,7 +36,7 @@ module _ {index list : List ℕ} {cs : List Cursor} {o : ℕ} (g : Walking index
   module _ {n : ℕ} {even : Bool} {x : List ℕ} {cs' : List Cursor} {x' : List ℕ}
       (gd : Gathered (format_of index) index list cs n even x cs' x') where
     pub walking_on : Walking index list cs' (o + n)
-    walking_on = record { standing = gd.on o g.standing; long = gd.long ∙ g.long }
+    walking_on = record { standing = gd.on o g.standing; long = omega (arith, gd.long, g.long) }
 
     pub still-cleared : Cleared list x → Cleared list x'
     still-cleared z = record { long = gd.rows_long; past = λ i h. gd.rest i h ∙ z.past i h }

@@ -22,7 +22,7 @@ pub record Chosen (near end o n : ℕ) (even : Bool) : Type 0 where
 -- there is a cursor for each place, and every one stands at segment o of its body
 pub record Walking (index list : List ℕ) (cs : List Cursor) (o : ℕ) : Type 0 where
   pub standing : Standing (format_of index) index list cs (length list) o
-  pub long : length cs ≡ length list
+  pub long : length list ≤ length cs
 
 -- a block whose rows past a list's are empty
 pub record Cleared (list x : List ℕ) : Type 0 where

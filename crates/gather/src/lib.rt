@@ -69,7 +69,7 @@ pub fn gather(
     requires entry_facts { EntryFacts index.now }
     requires listed { Listed index.now list.now }
     requires standing_before { StandingBefore (format_of index.now) index.now list.now cursors.old n }
-    requires cursors_len { (length cursors.old ≡ length list.now) × (length x.old ≡ block_words)
+    requires cursors_len { (length list.now ≤ length cursors.old) × (length x.old ≡ block_words)
         × (length list.now ≤ most_value_column) × (1 ≤ n)
         × (even ≡ true → (k : ℕ) → k < length list.now → n ≤ left_of (cursor_of cursors.old k).piece)
         × (even ≡ false → n ≤ block_segments) }

@@ -66,7 +66,7 @@ module _ {index list : List ℕ} (cs : Column index list) where
       → Along index list at (replicate block_words 0) 0
   along-none e st = record {
     here = omega arith;
-    walking = record { standing = st; long = e };
+    walking = record { standing = st; long = omega (arith, e) };
     cleared = record { long = refl; past = λ i h. zeros block_words i };
   }
 

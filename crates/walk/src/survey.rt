@@ -54,6 +54,15 @@ fn weigh(s: Survey, piece: Piece) -> Survey
     }
 }
 
+// A cursor put in place of another, part by part, as they were made: a whole one is copied by wider loads, which wait for the stores of its parts.
+fn put(c: &mut Cursor, d: Cursor)
+    ensures { c.new ≡ d }
+{
+    c.piece = d.piece;
+    c.next = d.next;
+    c.dirty = d.dirty;
+}
+
 // A cursor goes n segments on in the body of bitmap k, and its piece is counted in.
 fn move_place(format: Format, index: &[u32], k: u32, c: &mut Cursor, n: u32, s: Survey) -> Survey
     requires head_facts { HeadFacts index.now }
@@ -63,12 +72,16 @@ fn move_place(format: Format, index: &[u32], k: u32, c: &mut Cursor, n: u32, s: 
     requires room { Room s }
     ensures { Moved format (body_at index.now k) c.old n c.new s result }
 {
+    // A run that goes on is met most often: of its cursor only the piece changes.
+    if let Piece::Clean(value, left) = c.piece {
+        if n < left {
+            c.piece = Piece::Clean(value, left - n);
+            return weigh(s, Piece::Clean(value, left - n));
+        }
+    }
     let d = cursor::advance(format, contents::body(index, k), *c, n);
     let piece = d.piece;
-    // Part by part, as they were made: a whole cursor is copied by wider loads, which wait for the stores of its parts.
-    c.piece = piece;
-    c.next = d.next;
-    c.dirty = d.dirty;
+    put(c, d);
     weigh(s, piece)
 }
 
@@ -84,7 +97,7 @@ pub fn advance(
     requires head_facts { HeadFacts index.now }
     requires entry_facts { EntryFacts index.now }
     requires listed { Listed index.now list.now }
-    requires cursors_len { (length cursors.old ≡ length list.now) × (1 ≤ n) × ((i : ℕ) → i < length list.now
+    requires cursors_len { (length list.now ≤ length cursors.old) × (1 ≤ n) × ((i : ℕ) → i < length list.now
         → (n ≤ left_of (cursor_of cursors.old i).piece)
         × InOrder (format_of index.now) (body_at index.now (get_or list.now i 0)) (cursor_of cursors.old i)) }
     ensures { MovedAll (format_of index.now) index.now list.now
@@ -102,8 +115,8 @@ pub fn open(format: Format, index: &[u32], list: &[u32], cursors: &mut [Cursor])
     requires format_value { format ≡ format_of index.now }
     requires index_facts { IndexFacts index.now }
     requires listed { Listed index.now list.now }
-    requires cursors_len { length cursors.old ≡ length list.now }
-    ensures { (length cursors.new ≡ length list.now)
+    requires cursors_len { length list.now ≤ length cursors.old }
+    ensures { (length cursors.new ≡ length cursors.old)
         × Standing (format_of index.now) index.now list.now cursors.new
         (length list.now) 0 }
 {

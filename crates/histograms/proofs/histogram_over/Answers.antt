@@ -15,9 +15,10 @@ use Rattle.histograms.proofs.histogram_over.Goals as goal
 
 pub loop-o-init : goal.loop-o-init
 loop-o-init c =
-    let su = rw c.«open».ensures.0 at c.all-s.ensures in record {
+    let long = c.«open».ensures.0 ∙ c.requires.cursors_len in
+    let su = rw long at c.all-s.ensures in record {
       laid = laid c.of-frame.ensures c.format.ensures c.rows.ensures;
-      counting = counting-none (along-none c.«open».ensures.1 c.«open».ensures.0 su)
+      counting = counting-none (along-none c.«open».ensures.1 long su)
           (length-replicate {A = ℕ} histogram_counts 0) (λ k h. get_or-replicate {A = ℕ} histogram_counts k 0 0 h);
     }
 
@@ -45,7 +46,7 @@ advance-s-requires-clause-cursors_len c =
     let l = c.loop-o.invariant in
     let a = l.counting.along in
     let n = next-stretch a l.laid c.requires.walkable c.loop-o-test.true in
-    (a.long, n.is.some, λ k h. (n.left-each k h, (a.standing k h).in_order))
+    (omega (arith, a.long), n.is.some, λ k h. (n.left-each k h, (a.standing k h).in_order))
 
 pub loop-o-smaller : goal.loop-o-smaller
 loop-o-smaller c =

@@ -13,4 +13,4 @@ pub returns : goal.returns
 returns c =
     let r = c.requires in
     let t = r.format_value in
-    next-block r.walking t.1 c.choose-step.ensures (rw r.walking.long at c.nearest-near.ensures) r.index_facts r.listed t.4 r.cleared c.gather.ensures
+    next-block r.walking t.1 c.choose-step.ensures (λ k h. c.nearest-near.ensures k (omega (arith, h, r.walking.long))) r.index_facts r.listed t.4 r.cleared c.gather.ensures

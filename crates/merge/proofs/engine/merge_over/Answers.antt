@@ -1,7 +1,7 @@
 -- `merge::engine::merge_over` meets its contract. The invariant: the cursors are on their way at segment o, and the writer
 -- has put the answer's first o segments.
 -- Assumes nothing.
-use mathlib.Core.Path.{subst}
+use mathlib.Core.Path.{subst, ◌∙◌}
 use mathlib.Core.List.{[]}
 use native.Mathlib.Omega.{arith}
 use Rattle.meaning.specs.declared.Format.{Format}
@@ -14,9 +14,10 @@ use Rattle.merge.proofs.engine.merge_over.Goals as goal
 pub loop-o-init : goal.loop-o-init
 loop-o-init c =
     let d = laid c.of-frame.ensures c.format.ensures c.rows.ensures in
-    let su = rw c.«open».ensures.0 at c.all-s.ensures in record {
+    let long = c.«open».ensures.0 ∙ c.requires.cursors_len in
+    let su = rw long at c.all-s.ensures in record {
       laid = d;
-      merging = merging-none (along-none c.«open».ensures.1 c.«open».ensures.0 su)
+      merging = merging-none (along-none c.«open».ensures.1 long su)
           (subst (λ (F : Format). Stands F c.start-w.result []) d.format-is c.start-w.ensures);
     }
 
@@ -44,7 +45,7 @@ advance-s-requires-clause-cursors_len c =
     let l = c.loop-o.invariant in
     let a = l.merging.along in
     let n = next-stretch a l.laid c.requires.mergeable.walkable c.loop-o-test.true in
-    (a.long, n.is.some, λ k h. (n.left-each k h, (a.standing k h).in_order))
+    (omega (arith, a.long), n.is.some, λ k h. (n.left-each k h, (a.standing k h).in_order))
 
 pub overflow_add-stretches : goal.overflow_add-stretches
 overflow_add-stretches c =

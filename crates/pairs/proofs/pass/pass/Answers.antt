@@ -69,10 +69,10 @@ module _ (s : Spelt) where
   ch = rw total at s.choose-s.ensures
 
   near1 : (k : ℕ) → k < length s.args.first.now → near ≤ left_of (cursor_of s.loop-o.p k).piece
-  near1 = rw s.loop-o.invariant.0.first-walking.long at s.nearest-near.ensures.first
+  near1 k h = s.nearest-near.ensures.first k (omega (arith, h, s.loop-o.invariant.0.first-walking.long))
 
   near2 : even ≡ true → (k : ℕ) → k < length s.args.second.now → near ≤ left_of (cursor_of s.loop-o.q k).piece
-  near2 e = rw s.loop-o.invariant.0.second-walking.long at s.nearest-near.ensures.second (ch.in-runs e)
+  near2 e k h = s.nearest-near.ensures.second (ch.in-runs e) k (omega (arith, h, s.loop-o.invariant.0.second-walking.long))
 
   mask_is : s.mask-mask.result ≡ all_set (rows_in (width F) R (o + m - 1))
   mask_is =
@@ -101,9 +101,13 @@ pub loop-o-init : goal.loop-o-init
 loop-o-init c =
     let s = c.args in
     let e = c.«open».ensures in
-    let f = c.open-2.ensures in (
+    let r = c.requires.columns in
+    let f = c.open-2.ensures in
+    let long₁ : length c.«open».new.cursors ≡ length s.first.now = e.0 ∙ length-take-le (length s.first.now) _ (omega (arith, r.few, r.first_fits)) in
+    let long₂ : length c.open-2.new.cursors ≡ length s.second.now = f.0 ∙ length-take-le (length s.second.now) _ (omega (arith, r.few, r.second_fits)) in (
       passing-none s.op s.index.now s.first.now s.second.now s.n s.starts.now s.out.now s.store
-          _ _ _ c.requires.columns (record { standing = e.1; long = e.0 }) (record { standing = f.1; long = f.0 })
+          _ _ _ c.requires.columns (record { standing = e.1; long = omega (arith, long₁) })
+          (record { standing = f.1; long = omega (arith, long₂) })
           c.start-ws.ensures.0 (c.of-f.ensures.0 ∙ c.format.ensures) c.start-ws.ensures.1,
       refl,
       record { long = refl; past = λ i h. zeros block_words i },

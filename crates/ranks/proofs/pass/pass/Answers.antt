@@ -22,6 +22,7 @@ use Rattle.ranks.specs.Passes.{EndOf, cut_rows, cut_body}
 use Rattle.ranks.proofs.Along.{Framed, framed, pivot-low, along-none, along-more}
 use Rattle.ranks.proofs.Passing.{MayEmit, own_segments, body_is, may-emit, up_next}
 use borrow.Author.Rules.{rules}
+use lib.Seq.{length-take-le}
 use native.Mathlib.Omega.{arith}
 use Rattle.ranks.proofs.pass.pass.Lts
 use Rattle.ranks.proofs.pass.pass.Reads
@@ -97,7 +98,7 @@ pub loop-o-init : goal.loop-o-init
 loop-o-init c =
     let e = c.«open».ensures in
     let fr = framed c.of-f.result c.of-f.ensures c.format.ensures c.rows.ensures in (
-      along-none c.requires.column e.0 e.1,
+      along-none c.requires.column (e.0 ∙ length-take-le (length c.args.list.now) _ (omega (arith, c.requires.column.few))) e.1,
       up_none (row_count c.args.index.now) (own_segments c.args.op c.args.index.now c.args.list.now c.args.value c.args.cut) c.args.store
           c.args.out.now (subst (λ (G : Format). Stands G c.start-w.result []) fr.format-is c.start-w.ensures),
       refl,

@@ -22,6 +22,7 @@ use Rattle.ranks.specs.Frames.{Column}
 use Rattle.ranks.specs.Found.{rows_level, Scanned}
 use Rattle.ranks.proofs.Along.{Framed, framed, rows_before, few, pivot-low, along-none, along-more, all-rows, none_before, count_fits}
 use borrow.Author.Rules.{rules}
+use lib.Seq.{length-take-le}
 use native.Mathlib.Omega.{arith}
 use Rattle.ranks.proofs.Scanning.{rows-most, reached, scanned-all}
 use Rattle.ranks.proofs.scan.scan.Lts
@@ -96,7 +97,7 @@ module _ (k : After-count-c) where
 pub loop-o-init : goal.loop-o-init
 loop-o-init c =
     let e = c.«open».ensures in
-    (along-none c.requires.column e.0 e.1, none_before c.args.index.now _, omega arith, λ h. absurd (omega arith))
+    (along-none c.requires.column (e.0 ∙ length-take-le (length c.args.list.now) _ (omega (arith, c.requires.column.few))) e.1, none_before c.args.index.now _, omega arith, λ h. absurd (omega arith))
 
 pub split-told-requires : goal.split-told-requires
 split-told-requires c =

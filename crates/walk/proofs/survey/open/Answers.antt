@@ -23,7 +23,7 @@ loop-i-preserved c =
     let some = none-empty a.format a.index.now a.list.now l.i r.format_value r.index_facts r.listed t in
     let here = opened a.format (place_body a.index.now a.list.now l.i) c.open.result some (rw c.body.ensures.result_value at c.open.ensures) in record {
       long = length-set l.cursors l.i c.open.result ∙ l.invariant.long;
-      standing = standing-more a.format a.index.now a.list.now l.cursors l.i 0 c.open.result (omega (arith, t, l.invariant.long)) l.invariant.standing here;
+      standing = standing-more a.format a.index.now a.list.now l.cursors l.i 0 c.open.result (omega (arith, t, l.invariant.long, r.cursors_len)) l.invariant.standing here;
     }
 
 pub returns : goal.returns

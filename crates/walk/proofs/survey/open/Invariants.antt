@@ -7,6 +7,6 @@ use Rattle.walk.proofs.survey.open.Given as goal
 
 abbrev pub invariant-loop-i : goal.invariant-loop-i
 invariant-loop-i l = record {
-  long : length l.cursors ≡ length l.list;
+  long : length l.cursors ≡ length l.initial.cursors;
   standing : Standing l.format l.index l.list l.cursors l.i 0;
 }
