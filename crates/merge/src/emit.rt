@@ -23,8 +23,14 @@ pub fn emit(
     ensures { (real : ℕ) → mask ≡ 2 ^ real - 1
         → Emitted format real out.old out.new w (part_segments format part) store result }
 {
+    if store {
+        return match part {
+            Part::Run(value, n) => writer::push_run(format, out, w, value, n, mask),
+            Part::Word(x) => writer::push_segment(format, out, w, x, mask),
+        };
+    }
     match part {
-        Part::Run(value, n) => writer::emit_run(format, out, w, value, n, mask, store),
-        Part::Word(x) => writer::emit_segment(format, out, w, x, mask, store),
+        Part::Run(value, n) => writer::grow_run(format, w, value, n),
+        Part::Word(x) => writer::grow_segment(format, w, x),
     }
 }
