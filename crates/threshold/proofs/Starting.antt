@@ -1,9 +1,9 @@
--- From the outcome of the threshold question to the first chunk of the output.
+-- From the outcome of the threshold question to the head of the output, or the line of its refusal.
 -- Assumes nothing.
-use Prim.Native.Nat.{ℕ, ◌+◌, ◌-◌, ◌*◌, ◌/◌, ◌%◌, min, ◌≤◌, ◌<◌}
+use Prim.Native.Nat.{ℕ, ◌+◌, ◌*◌, ◌/◌, ◌%◌, min, ◌≤◌, ◌<◌}
 use mathlib.Core.Path.{◌≡◌, refl, sym, ap, subst, ◌∙◌}
-use mathlib.Core.Bool.{Bool, true, false, not}
-use mathlib.Core.List.{List, ◌++◌, append-nil}
+use mathlib.Core.Bool.{true, false, not}
+use mathlib.Core.List.{List, ◌++◌}
 use native.Mathlib.Omega.{arith}
 use lib.Dec.{eqb, ltb}
 use lib.ListN.{length, get_or, set, take, drop, length-take}
@@ -15,10 +15,8 @@ use Rattle.meaning.specs.Limits.{most_rows, most_bitmaps, head_words}
 use Rattle.meaning.specs.Rows.{count_below}
 use Rattle.meaning.specs.Segment.{tabulate}
 use Rattle.meaning.specs.Refusal.{Outcome, refused, answer, Verdict, sound, ◌then◌}
-use Rattle.meaning.specs.Ewah.{pieces, decode}
 use Rattle.meaning.specs.Format.{width, rows_of, canonical}
 use Rattle.meaning.specs.declared.Format.{Format}
-use Rattle.meaning.specs.declared.Format.TheVariants.{Ewah}
 use Rattle.meaning.specs.Index.{format_of, row_count, bitmap_count}
 use Rattle.laws.specs.Laws.{SoundFacts, HeadFacts, IndexFacts}
 use Rattle.meaning.specs.Answer.{check, threshold, ask_threshold, right_rows, words_reported}
@@ -31,8 +29,6 @@ use Rattle.answers.specs.declared.refusal.Refusal.{Refusal}
 use Rattle.std.specs.Prelude.{Result, Ok, Err}
 use Rattle.answers.specs.declared.answer.Report.{Report}
 use Rattle.answers.specs.Told.{number_of, answered_of, words_in, Reported}
-use Rattle.text.specs.declared.lines.Head.{Head}
-use Rattle.threshold.specs.declared.start.Begun.{Begun}
 use Rattle.text.specs.Lines.{refused_text, head_text, lines_from}
 use Rattle.threshold.specs.Output.{answer_room, all_named, outcome_text, asked, most_bytes, ragged, words_of, output_of}
 use Rattle.text.specs.Standings.{Covers}

@@ -8,6 +8,7 @@ ghost use Rattle.text.specs.Listings.{lines_left};
 
 use arrayvec::ArrayString;
 use input::MOST_BYTES;
+use std::fmt::{Display, Write as _};
 use std::io;
 use std::io::{Read, Write};
 use streams::Got;
@@ -18,14 +19,35 @@ mod input;
 mod start;
 mod streams;
 
-// The bytes of a chunk of the listing.
-const CHUNK_BYTES: usize = 65536;
+// Room for the lines in front of the listing.
+const HEAD_BYTES: usize = 128;
+
+// The bytes of a chunk of the listing: a line is put in as long as 21 bytes of 64 KiB are left, of which it takes 11 at most.
+const CHUNK_BYTES: usize = 65536 - 10;
 
 // Room for the longest input, and one byte more.
 fn room() -> [u8; MOST_BYTES + 1]
     ensures { most_bytes + 1 ≡ length result }
 {
     [0; MOST_BYTES + 1]
+}
+
+// The bytes of a chunk.
+fn bytes_of<const N: usize>(text: &ArrayString<N>) -> &[u8]
+    ensures { result.now ≡ text.now.bytes }
+{
+    text.as_str().as_bytes()
+}
+
+// Writes a text of a few lines at once, since a reader is not to see a part of it; one that has no room there, in parts.
+fn say<W: Write, D: Display + Copy + Drop>(writer: &mut W, text: D) -> io::Result<()>
+    ensures { OnOk result (IfSome (D.output text) (Appends (W.contents writer.old) (W.contents writer.new))) }
+{
+    let mut lines = ArrayString::<HEAD_BYTES>::new();
+    if write!(lines, "{text}").is_err() {
+        return write!(writer, "{text}");
+    }
+    writer.write_all(lines.as_str().as_bytes())
 }
 
 // Writes the lines of a body's set rows, chunk by chunk: each is what comes next of the listing, and all together are the
@@ -37,7 +59,7 @@ fn list<W: Write>(writer: &mut W, mut listing: Listing<'_>) -> io::Result<()>
     // Kept: a turn lists as many rows as a chunk takes; a `for` has no such step.
     while listing.row < listing.rows {
         listing.fill(&mut chunk);
-        writer.write_all(chunk.as_str().as_bytes())?;
+        writer.write_all(bytes_of(&chunk))?;
         chunk.clear();
     }
     Ok(())
@@ -53,10 +75,10 @@ fn run<R: Read, W: Write>(reader: &mut R, writer: &mut W) -> io::Result<()>
     let Got { bytes, ended } = streams::read_full(reader, &mut input);
     let mut answer = start::word_room();
     match start::begin(&input[..bytes], &mut answer) {
-        Err(refusal) => write!(writer, "{}", RefusalLine(refusal))?,
+        Err(refusal) => say(writer, RefusalLine(refusal))?,
         Ok(begun) => {
             let head = begun.head;
-            write!(writer, "{head}")?;
+            say(writer, head)?;
             list(
                 writer,
                 Listing::new(begun.format, &answer[..begun.words], head.rows),

@@ -1,5 +1,5 @@
 -- `threshold::start::named` meets its contract. Assumes nothing.
-use Rattle.std.proofs.Common.{rules, arith}
+use Rattle.std.proofs.Common.{arith}
 use Rattle.meaning.specs.Index.{bitmap_count}
 use Rattle.threshold.proofs.start.named.Goals as goal
 
