@@ -12,7 +12,7 @@ use meaning::{BLOCK_WORDS, Pairing};
 
 mod chain;
 mod choose;
-mod rows;
+pub mod rows;
 
 // What an operation makes of each word of the rows of x and y: which rows exist in both, and the n digits of their values.
 pub fn pair(

@@ -11,7 +11,7 @@ use meaning::Format;
 use words::{bits, rows};
 
 // The first `rows` rows of a body, from `row` on: which bit of its segment that is, and the cursor at the segment.
-#[derive(Drop)]
+#[derive(Clone, Copy)]
 pub struct Listing<'a> {
     pub format: Format,
     pub body: &'a [u32],
