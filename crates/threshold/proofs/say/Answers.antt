@@ -15,5 +15,5 @@ returns g c =
     let calls : WritesText _ c.new-lines.result (g.D.Display.output c.args.text) c.write.new.self = search rules in
     on_ok_weaker c.write_all.result
     (λ whole. if_some_weaken (g.D.Display.output c.args.text) _ (Appends old new)
-        (λ bs w. subst (Appends old new) (c.as_bytes.ensures.value ∙ c.as_str.ensures.value ∙ contents_after_writes _ (λ s. s.bytes) (λ s xs t e. e) _ bs _ w ∙ ap (λ xs. xs ++ bs) c.new-lines.ensures) whole) calls)
+    (λ bs w. subst (Appends old new) (c.as_bytes.ensures.value ∙ c.as_str.ensures.value ∙ contents_after_writes _ (λ s. s.bytes) (λ s xs t e. e) _ bs _ w ∙ ap (λ xs. xs ++ bs) c.new-lines.ensures) whole) calls)
     c.write_all.ensures.bytes
