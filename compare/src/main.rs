@@ -37,6 +37,7 @@ mod tails;
 mod tear;
 mod too_long;
 mod walk;
+mod writes;
 
 use std::process::ExitCode;
 
@@ -65,7 +66,8 @@ difference, or a refusal never reached.
              seconds each)
 --only CASE  this one case alone, without the fixed ones and the table
 --program PATH  gives the cases' indexes to the program at PATH, and compares
-             what it writes with the reference
+             what it writes with the reference; of the fixed inputs each write too:
+             the head, or the line of a refusal, is one, and chunks are whole lines
 --limits     instead of cases: bodies of the most rows, lists of the most numbers
              over them, and indexes as long as they may be and longer, with the
              seconds of both and the peak of memory (minutes, gigabytes)";

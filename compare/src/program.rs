@@ -1,4 +1,5 @@
-//! Runs the program on many inputs and compares its output, byte for byte, with the reference's.
+//! Runs the program on many inputs and compares its output, byte for byte, with the reference's, and of the fixed inputs
+//! looks at each write.
 
 use std::collections::BTreeMap;
 use std::io::Write;
@@ -13,12 +14,16 @@ use crate::encode::{entry_place, fill, full, index_in, last_mask, marker, one_ru
 use crate::generate::{generate, Form};
 use crate::random::Random;
 use crate::samples::{Samples, SAMPLES};
+use crate::writes::{are_whole, writes};
 
 /// The most bytes that the program reads.
 const MOST_BYTES: usize = 65_536;
 
 /// Far more bytes than these.
 const FAR_BYTES: usize = 200_000;
+
+/// The longest output of which each write is looked at.
+const MOST_WATCHED: usize = 4_000_000;
 
 const WORD_BYTES: usize = size_of::<u32>();
 
@@ -172,6 +177,7 @@ fn kind(told: &[u8]) -> String {
 pub fn run(program: &str, seed: u64, cases: u64) -> bool {
     let begun = Instant::now();
     let mut inputs = fixed();
+    let watched = inputs.len();
     for case in 0..cases {
         let mut random = Random::for_case(seed, case);
         let input = generate(&mut random, false);
@@ -188,6 +194,14 @@ pub fn run(program: &str, seed: u64, cases: u64) -> bool {
             println!("program    {:?}", String::from_utf8_lossy(&told[..told.len().min(200)]));
             println!("reference  {:?}", String::from_utf8_lossy(&expected[..expected.len().min(200)]));
             return false;
+        }
+        if i < watched && told.len() <= MOST_WATCHED {
+            let parts = writes(program, input);
+            if parts.concat() != told || !are_whole(&parts) {
+                let lengths: Vec<usize> = parts.iter().map(Vec::len).collect();
+                println!("DIFFERENCE  input {i} of {} bytes: it is written in parts of {lengths:?} bytes", input.len());
+                return false;
+            }
         }
         *reached.entry(kind(&told)).or_insert(0) += 1;
     }

@@ -1,6 +1,7 @@
 -- Numbers and lines in ASCII, of which the program's output is made.
 -- Assumes nothing.
 use Rattle.std.specs.Prelude.{ℕ, zero, suc, ◌+◌, ◌/◌, ◌%◌, Bool, cond, List, [], ◌∷◌, ◌++◌, ltb}
+pub use Rattle.answers.specs.Printed.{refused_label}
 
 -- the decimal digits of n, the highest first and no zero before them; `most` bounds how many they are
 unfoldable pub digits_of : (most n : ℕ) → List ℕ
@@ -21,10 +22,6 @@ line n = decimal n ++ 10 ∷ []
 unfoldable pub field : ℕ → List ℕ
 unfolding decimal
 field n = decimal n ++ 32 ∷ []
-
--- "refused "
-abbrev pub refused_label : List ℕ
-refused_label = 114 ∷ 101 ∷ 102 ∷ 117 ∷ 115 ∷ 101 ∷ 100 ∷ 32 ∷ []
 
 -- "rows "
 abbrev pub rows_label : List ℕ
