@@ -19,10 +19,15 @@ pub record Chosen (near end o n : ℕ) (even : Bool) : Type 0 where
   pub several : even ≡ true → 2 ≤ n
   pub in_block : even ≡ false → n ≤ block_segments
 
+-- each place has a cursor, which stands at segment o of its body; there may be more cursors behind these
+pub record Placed (index list : List ℕ) (cs : List Cursor) (o : ℕ) : Type 0 where
+  pub standing : Standing (format_of index) index list cs (length list) o
+  pub long : length list ≤ length cs
+
 -- there is a cursor for each place, and every one stands at segment o of its body
 pub record Walking (index list : List ℕ) (cs : List Cursor) (o : ℕ) : Type 0 where
   pub standing : Standing (format_of index) index list cs (length list) o
-  pub long : length list ≤ length cs
+  pub long : length cs ≡ length list
 
 -- a block whose rows past a list's are empty
 pub record Cleared (list x : List ℕ) : Type 0 where
@@ -41,14 +46,22 @@ AllAlike w x =
     (k j : ℕ) → j < w → is_set (get_or x (k * block_segments + 0) 0) j ≡ is_set (get_or x (k * block_segments + 0) 0) 0
 
 -- the n segments from o on, none behind `end`, became the block x', in a run one clean word for each place, and the
--- cursors went on
-pub record NextBlock (index list : List ℕ) (o end n : ℕ) (even : Bool) (cs' : List Cursor) (x' : List ℕ) : Type 0 where
+-- cursors went on: At says where they stand
+pub record NextAt (At : ℕ → Type 0) (index list : List ℕ) (o end n : ℕ) (even : Bool) (x' : List ℕ) : Type 0 where
   pub some : 1 ≤ n
   pub within : o + n ≤ end
   pub in_block : even ≡ false → n ≤ block_segments
   pub several : even ≡ true → 2 ≤ n
   pub in-run : n ≤ most_run (format_of index)
-  pub walking : Walking index list cs' (o + n)
+  pub walking : At (o + n)
   pub cleared : Cleared list x'
   pub block : BlockOf index list o n even x'
   pub alike : even ≡ true → AllAlike (width (format_of index)) x'
+
+-- in a slice that may have more cursors than the list has places
+abbrev pub NextPlaced : (index list : List ℕ) (o end n : ℕ) (even : Bool) (cs' : List Cursor) (x' : List ℕ) → Type 0
+NextPlaced index list o end n even cs' x' = NextAt (Placed index list cs') index list o end n even x'
+
+-- in a slice that has just as many
+abbrev pub NextBlock : (index list : List ℕ) (o end n : ℕ) (even : Bool) (cs' : List Cursor) (x' : List ℕ) → Type 0
+NextBlock index list o end n even cs' x' = NextAt (Walking index list cs') index list o end n even x'

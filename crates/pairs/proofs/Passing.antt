@@ -22,7 +22,7 @@ use Rattle.body_write.specs.Bodies.{Stands, Growing, RoomFor, UpTo}
 use Rattle.body_write.proofs.UpTo.{up_none, up-growing, up_room, up_more, up-used, up-all}
 use Rattle.walk.specs.Queries.{cursor_of}
 use Rattle.block_write.specs.Rowed.{CleanWord}
-use Rattle.blocks.specs.Blocks.{Chosen, BlockOf, Walking}
+use Rattle.blocks.specs.Blocks.{Chosen, BlockOf, Placed}
 use Rattle.blocks.proofs.Segmented.{segs, segs-length}
 use Rattle.blocks.proofs.Walks.{S, all_alike, run-low}
 use Rattle.new_index.specs.Writers.{row_of, writer_of, region, Laid, EmittedAll}
@@ -46,8 +46,8 @@ module _ (op : Pairing) (index first second : List ℕ) (n : ℕ) (starts old : 
   -- both lists' cursors stand at segment o, and of each body the first o segments are put, in its part of the buffer
   pub record Passing (out : List ℕ) (at₁ at₂ : List Cursor) (ws : List Writer) (o : ℕ) : Type 0 where
     pub here : o ≤ S index
-    pub first-walking : Walking index first at₁ o
-    pub second-walking : Walking index second at₂ o
+    pub first-walking : Placed index first at₁ o
+    pub second-walking : Placed index second at₂ o
     pub writers-long : length ws ≡ most_value_column
     pub bodies : (i : ℕ) → i ≤ n
         → UpTo (format_of index) (row_count index) (own_segments op index first second n i) store
@@ -56,8 +56,8 @@ module _ (op : Pairing) (index first second : List ℕ) (n : ℕ) (starts old : 
     pub front : take (get_or starts 0 0) out ≡ take (get_or starts 0 0) old
     pub back : drop (get_or starts (n + 1) 0) out ≡ drop (get_or starts (n + 1) 0) old
 
-  pub passing-none : (at₁ at₂ : List Cursor) (ws : List Writer) → Columns index first second n → Walking index first at₁ 0
-      → Walking index second at₂ 0 → length ws ≡ most_value_column → {f : Format} → f ≡ format_of index
+  pub passing-none : (at₁ at₂ : List Cursor) (ws : List Writer) → Columns index first second n → Placed index first at₁ 0
+      → Placed index second at₂ 0 → length ws ≡ most_value_column → {f : Format} → f ≡ format_of index
       → ((i : ℕ) → i < most_value_column → Stands f (writer_of ws i) []) → Passing old at₁ at₂ ws 0
   passing-none at₁ at₂ ws cs a b h e g = record {
     here = omega arith;
@@ -154,7 +154,7 @@ module _ {op : Pairing} {index first second : List ℕ} {n : ℕ} {starts old : 
           → {out' : List ℕ} {at₁' at₂' : List Cursor} {ys : List Writer}
           → ((real : ℕ) → mask ≡ 2 ^ real - 1
           → EmittedAll f real starts out out' (take (n + 1) ws) ys (length (take (n + 1) ws)) (row_of f z' m even) store)
-          → Walking index first at₁' (o + m) → Walking index second at₂' (o + m)
+          → Placed index first at₁' (o + m) → Placed index second at₂' (o + m)
           → Passing op index first second n starts old store out' at₁' at₂' (ys ++ drop (n + 1) ws) (o + m)
       unfolding all_set
       passing-more {f} is {mask} rows {out'} {at₁'} {at₂'} {ys} put w1 w2 = record {

@@ -20,7 +20,7 @@ use Rattle.laws.proofs.RowWords.{rows_fit}
 use Rattle.laws.proofs.Counting.{count-le}
 use Rattle.ewah.specs.declared.cursor.Cursor.{Cursor}
 use Rattle.walk.specs.Queries.{Standing}
-use Rattle.blocks.specs.Blocks.{Walking, Cleared, NextBlock}
+use Rattle.blocks.specs.Blocks.{Placed, Cleared, NextPlaced}
 use Rattle.blocks.proofs.Values.{zeros}
 use Rattle.blocks.proofs.Walks.{S}
 use Rattle.ranks.specs.Frames.{Column}
@@ -50,7 +50,7 @@ framed f is p q =
 -- every cursor stands at segment o, and the block has no row but those of the list's places
 pub record Along (index list : List ℕ) (at : List Cursor) (x : List ℕ) (o : ℕ) : Type 0 where
   pub here : o ≤ S index
-  pub walking : Walking index list at o
+  pub walking : Placed index list at o
   pub cleared : Cleared list x
 
 module _ {index list : List ℕ} (cs : Column index list) where
@@ -70,7 +70,7 @@ module _ {index list : List ℕ} (cs : Column index list) where
     cleared = record { long = refl; past = λ i h. zeros block_words i };
   }
 
-module _ {index list : List ℕ} {o end n : ℕ} {even : Bool} {at : List Cursor} {x : List ℕ} (nb : NextBlock index list o end n even at x) where
+module _ {index list : List ℕ} {o end n : ℕ} {even : Bool} {at : List Cursor} {x : List ℕ} (nb : NextPlaced index list o end n even at x) where
   pub along-more : end ≤ S index → Along index list at x (o + n)
   along-more h = record { here = omega (arith, nb.within); walking = nb.walking; cleared = nb.cleared }
 

@@ -21,7 +21,7 @@ use Rattle.adder.specs.Digits.{number_at}
 use Rattle.block_read.specs.Taken.{word_at}
 use Rattle.walk.specs.Queries.{place_body}
 use Rattle.ewah.specs.declared.cursor.Cursor.{Cursor}
-use Rattle.blocks.specs.Blocks.{NextBlock}
+use Rattle.blocks.specs.Blocks.{NextPlaced}
 use Rattle.blocks.proofs.Values.{exists-bit, value-number, place, place-low, words-at, number_same}
 use Rattle.blocks.proofs.Segmented.{segment-clear, word_low}
 use Rattle.blocks.proofs.Runs.{number-alike}
@@ -35,7 +35,7 @@ pub record Tested (x : List ℕ) (n : ℕ) (g : ℕ → Bool) (t : List ℕ) : T
       → is_set (get_or t w 0) j ≡ is_set (get_or x w 0) j && g (number_at x n w j)
 
 module _ {index list : List ℕ} {o end n : ℕ} {even : Bool} {cursors : List Cursor} {x : List ℕ} (cs : Column index list)
-    (nb : NextBlock index list o end n even cursors x) {g : ℕ → Bool} {t : List ℕ} (ts : Tested x (length list - 1) g t) where
+    (nb : NextPlaced index list o end n even cursors x) {g : ℕ → Bool} {t : List ℕ} (ts : Tested x (length list - 1) g t) where
   abbrev F : Format
   F = format_of index
 

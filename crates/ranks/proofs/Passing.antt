@@ -27,7 +27,7 @@ use Rattle.body_write.proofs.UpTo.{up-growing, up_room, up_more}
 use Rattle.block_read.specs.Taken.{word_at}
 use Rattle.block_write.specs.Rowed.{row_segments, row_length, CleanWord}
 use Rattle.ewah.specs.declared.cursor.Cursor.{Cursor}
-use Rattle.blocks.specs.Blocks.{NextBlock}
+use Rattle.blocks.specs.Blocks.{NextPlaced}
 use Rattle.blocks.proofs.Values.{place, place-low}
 use Rattle.blocks.proofs.Segmented.{segs, segs-length, segment-is, word_low}
 use Rattle.blocks.proofs.Runs.{uniform, rows_kind, clean-kind}
@@ -101,7 +101,7 @@ module _ {o at low w keep end n S : ℕ} (kp : Kept o at low keep) (en : EndOf o
 -- ---- a block
 
 module _ {op : Ranking} {index list : List ℕ} {value cut at low o end n : ℕ} {even : Bool} {cursors : List Cursor} {x a s : List ℕ} {keep mask full len : ℕ}
-    {t row : List ℕ} (cs : Column index list) (nb : NextBlock index list o end n even cursors x)
+    {t row : List ℕ} (cs : Column index list) (nb : NextPlaced index list o end n even cursors x)
     (sp : SplitBy op x (length list - 1) value a s) (la : (w : ℕ) → get_or a w 0 < 2 ^ word_bits)
     (ls : (w : ℕ) → get_or s w 0 < 2 ^ word_bits) (tk : Taken a s keep t) (lt : (w : ℕ) → get_or t w 0 < 2 ^ word_bits)
     (kp : Kept o at low keep) (en : EndOf o at (S index) end) (l : low < width (format_of index))

@@ -17,7 +17,7 @@ use Rattle.ewah_write.specs.declared.writer.Writer.{Writer}
 use Rattle.walk.specs.Queries.{cursor_of}
 use Rattle.blocks.specs.Blocks.{Chosen, BlockOf}
 use Rattle.blocks.proofs.Values.{zeros}
-use Rattle.blocks.proofs.Walks.{before, walking_on, still-cleared, block_of}
+use Rattle.blocks.proofs.Walks.{before, placed_on, still-cleared, block_of}
 use Rattle.new_index.specs.Writers.{no_writer}
 use Rattle.pairs.specs.Spellings.{Spelled}
 use Rattle.pairs.proofs.Passing.{MayEmit, passing-none, may-emit, passing-more, passing-all}
@@ -112,6 +112,8 @@ loop-o-init c =
       refl,
       record { long = refl; past = λ i h. zeros block_words i },
       record { long = refl; past = λ i h. zeros block_words i },
+      long₁,
+      long₂,
     )
 
 pub gather-requires-in-loop-o-clause-standing_before : goal.gather-requires-in-loop-o-clause-standing_before
@@ -142,10 +144,12 @@ loop-o-preserved c =
     let g = l.invariant.0 in (
       passing-more c.requires.columns g (ch s) (near1 s) (near2 s) (blocks1 s) (blocks2 s) c.pair.ensures (spelled s)
           (format-is s) (mask_is s) c.emit_all.ensures
-          (walking_on g.first-walking c.gather.ensures) (walking_on g.second-walking c.gather-in-loop-o.ensures),
+          (placed_on g.first-walking c.gather.ensures) (placed_on g.second-walking c.gather-in-loop-o.ensures),
       (spelled s).long ∙ c.pair.ensures.long,
       still-cleared g.first-walking c.gather.ensures l.invariant.2,
       still-cleared g.second-walking c.gather-in-loop-o.ensures l.invariant.3,
+      c.gather.ensures.long ∙ l.invariant.4,
+      c.gather-in-loop-o.ensures.long ∙ l.invariant.5,
     )
 
 pub returns : goal.returns

@@ -12,6 +12,7 @@ abbrev pub invariant-loop-o : goal.invariant-loop-o
 invariant-loop-o l =
     Passing l.op l.index l.first l.second l.n l.starts l.initial.out l.store l.out l.p l.q l.ws l.o
     × (length l.z ≡ block_words) × Cleared l.first l.x × Cleared l.second l.y
+    × (length l.p ≡ length l.first) × (length l.q ≡ length l.second)
 
 abbrev pub decreases-loop-o : goal.decreases-loop-o
 decreases-loop-o l = l.f.segments - l.o

@@ -15,7 +15,7 @@ use Rattle.meaning.specs.declared.Format.{Format}
 use Rattle.laws.proofs.Formats.{width-pos}
 use Rattle.body_write.specs.Bodies.{Stands}
 use Rattle.body_write.proofs.UpTo.{up_none, up-used, up-all}
-use Rattle.blocks.specs.Blocks.{NextBlock}
+use Rattle.blocks.specs.Blocks.{NextPlaced}
 use Rattle.blocks.proofs.Segmented.{segs-length}
 use Rattle.blocks.proofs.Walks.{S}
 use Rattle.ranks.specs.Passes.{EndOf, cut_rows, cut_body}
@@ -65,8 +65,8 @@ module _ (e : At-row) where
   cut-is : e.args.cut ≡ at * width F + low
   cut-is = sym (div-add-mod' e.args.cut e.of-f.result.width) ∙ ap (λ (w : ℕ). at * w + low) fr.width_is
 
-  nb : NextBlock index e.args.list.now o e.end_of-end.result m e.next-s.result.even e.next-s.new.cursors e.next-s.new.x
-  nb = e.next-s.ensures
+  nb : NextPlaced index e.args.list.now o e.end_of-end.result m e.next-s.result.even e.next-s.new.cursors e.next-s.new.x
+  nb = e.next-s.ensures.block
 
   en : EndOf o at (S index) e.end_of-end.result
   en = subst (λ (k : ℕ). EndOf o at k e.end_of-end.result) fr.total e.end_of-end.ensures
@@ -97,17 +97,19 @@ module _ (e : At-row) where
 pub loop-o-init : goal.loop-o-init
 loop-o-init c =
     let e = c.«open».ensures in
+    let long = e.0 ∙ length-take-le (length c.args.list.now) _ (omega (arith, c.requires.column.few)) in
     let fr = framed c.of-f.result c.of-f.ensures c.format.ensures c.rows.ensures in (
-      along-none c.requires.column (e.0 ∙ length-take-le (length c.args.list.now) _ (omega (arith, c.requires.column.few))) e.1,
+      along-none c.requires.column long e.1,
       up_none (row_count c.args.index.now) (own_segments c.args.op c.args.index.now c.args.list.now c.args.value c.args.cut) c.args.store
           c.args.out.now (subst (λ (G : Format). Stands G c.start-w.result []) fr.format-is c.start-w.ensures),
       refl,
+      long,
     )
 
 pub split-told-requires : goal.split-told-requires
 split-told-requires c =
     let cs = c.requires.column in
-    (omega (arith, cs.few), c.next-s.ensures.cleared.long, pivot-low cs c.requires.value_bound.0)
+    (omega (arith, cs.few), c.next-s.ensures.block.cleared.long, pivot-low cs c.requires.value_bound.0)
 
 pub emit_apart-v-requires-clause-growing : goal.emit_apart-v-requires-clause-growing
 emit_apart-v-requires-clause-growing c = (may c.before.before).0
@@ -128,6 +130,7 @@ loop-o-preserved c =
           (low-less e) (cut-is e) c.spelled-row.ensures c.row_length-len.ensures (row-long e) (fr e).full_is (mask_is e) (fr e).format-is
           l.invariant.1 put.ensures,
       put.auto.out ∙ l.invariant.2,
+      (e.next-s.ensures.as_many l.invariant.3).walking.long,
     )
 
 pub returns : goal.returns

@@ -14,6 +14,7 @@ invariant-loop-o l =
     Along l.index l.list l.cursors l.x l.o
     × UpTo (format_of l.index) (row_count l.index) (own_segments l.op l.index l.list l.value l.cut) l.store l.initial.out l.out l.w l.o
     × (length l.out ≡ length l.initial.out)
+    × (length l.cursors ≡ length l.list)
 
 abbrev pub decreases-loop-o : goal.decreases-loop-o
 decreases-loop-o l = l.f.segments - l.o

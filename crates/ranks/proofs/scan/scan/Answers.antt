@@ -14,7 +14,7 @@ use Rattle.meaning.specs.Format.{width}
 use Rattle.meaning.specs.Index.{format_of, row_count}
 use Rattle.meaning.specs.declared.Format.{Format}
 use Rattle.pivots.specs.Splits.{HasRows, Reached}
-use Rattle.blocks.specs.Blocks.{NextBlock}
+use Rattle.blocks.specs.Blocks.{NextPlaced}
 use Rattle.laws.proofs.Formats.{width-le}
 use Rattle.blocks.proofs.Walks.{S}
 use Rattle.ranks.proofs.Comparing.{Tested, has-rows, run-rows, tested-same}
@@ -57,8 +57,8 @@ module _ (k : After-count-c) where
   fr : Framed index k.of-f.result
   fr = framed k.of-f.result k.of-f.ensures k.format.ensures k.rows.ensures
 
-  nb : NextBlock index list o k.of-f.result.segments m k.next-s.result.even k.next-s.new.cursors k.next-s.new.x
-  nb = k.next-s.ensures
+  nb : NextPlaced index list o k.of-f.result.segments m k.next-s.result.even k.next-s.new.cursors k.next-s.new.x
+  nb = k.next-s.ensures.block
 
   low : (w : ℕ) → get_or k.split-told.result.same w 0 < 2 ^ 32
   low w = let f : Fits w32 (get_or k.split-told.result.same w 0) = search rules in f.fits
@@ -97,16 +97,17 @@ module _ (k : After-count-c) where
 pub loop-o-init : goal.loop-o-init
 loop-o-init c =
     let e = c.«open».ensures in
-    (along-none c.requires.column (e.0 ∙ length-take-le (length c.args.list.now) _ (omega (arith, c.requires.column.few))) e.1, none_before c.args.index.now _, omega arith, λ h. absurd (omega arith))
+    let long = e.0 ∙ length-take-le (length c.args.list.now) _ (omega (arith, c.requires.column.few)) in
+    (along-none c.requires.column long e.1, none_before c.args.index.now _, omega arith, (λ h. absurd (omega arith)), long)
 
 pub split-told-requires : goal.split-told-requires
 split-told-requires c =
     let cs = c.requires.column in
-    (omega (arith, cs.few), c.next-s.ensures.cleared.long, pivot-low cs c.requires.value_bound)
+    (omega (arith, cs.few), c.next-s.ensures.block.cleared.long, pivot-low cs c.requires.value_bound)
 
 pub count-c-requires : goal.count-c-requires
 count-c-requires c =
-    let nb = c.next-s.ensures in
+    let nb = c.next-s.ensures.block in
     let total = (framed c.of-f.result c.of-f.ensures c.format.ensures c.rows.ensures).total in
     (nb.some, omega (arith, nb.within, total, few c.requires.column), nb.in_block)
 
@@ -115,7 +116,7 @@ overflow_add-sum c = omega (arith, sum_is c.before, sum_fits c.before)
 
 pub place-behind-requires : goal.place-behind-requires
 place-behind-requires c =
-    let nb = c.next-s.ensures in
+    let nb = c.next-s.ensures.block in
     let fr = framed c.of-f.result c.of-f.ensures c.format.ensures c.rows.ensures in
     (omega (arith, nb.within, fr.total, few c.requires.column), nb.in_block, omega (arith, fr.width_is, width-le (format_of c.args.index.now)))
 
@@ -137,7 +138,7 @@ returns-then-most-sum c =
 pub loop-o-preserved : goal.loop-o-preserved
 loop-o-preserved c =
     let k = c.before.before.before in
-    (along-more (nb k) (omega (arith, (fr k).total)), sum_is k, omega (arith, c.if-most-sum.false), λ h. omega (arith, c.if-most-sum.false))
+    (along-more (nb k) (omega (arith, (fr k).total)), sum_is k, omega (arith, c.if-most-sum.false), (λ h. omega (arith, c.if-most-sum.false)), (k.next-s.ensures.as_many k.loop-o.invariant.4).walking.long)
 
 pub returns : goal.returns
 returns c =
