@@ -87,7 +87,8 @@ module _ {index list : List ℕ} {cs : List Cursor} {near end o n : ℕ} {even :
         (λ k l. omega (arith, ch.several e, ch.in_pieces e, far k l));
   }
 
--- ---- the same of a slice that has just as many cursors as the list has places
+-- ---- the same of a slice that has just as many cursors as the list has places, for a caller that lends one: `next` promises it
+-- by `next-walking`, and the passes here are content with `Placed`
 
 pub placed : {index list : List ℕ} {cs : List Cursor} {o : ℕ} → Walking index list cs o → Placed index list cs o
 placed g = record { standing = g.standing; long = omega (arith, g.long) }
@@ -98,8 +99,8 @@ pub walking_on : {index list : List ℕ} {cs : List Cursor} {o : ℕ} → Walkin
 walking_on g gd = record { standing = gd.on _ g.standing; long = gd.long ∙ g.long }
 
 -- a next block's cursors told in another way
-next-at : {At At' : ℕ → Type 0} {index list : List ℕ} {o end n : ℕ} {even : Bool} {x' : List ℕ} → (At (o + n) → At' (o + n))
-    → NextAt At index list o end n even x' → NextAt At' index list o end n even x'
+next-at : {At At' : ℕ → Type 0} {index list : List ℕ} {o end n : ℕ} {even : Bool} {x' : List ℕ}
+    → (At (o + n) → At' (o + n)) → NextAt At index list o end n even x' → NextAt At' index list o end n even x'
 next-at told nb = record {
   some = nb.some;
   within = nb.within;

@@ -47,7 +47,7 @@ framed f is p q =
       mask_is = λ mask j e. e ∙ ap₂ (λ (G : Format) (r : ℕ). all_set (rows_in (width G) r j)) format rows;
     }
 
--- every cursor stands at segment o, and the block has no row but those of the list's places
+-- every place's cursor stands at segment o, and the block has no row but those of the list's places
 pub record Along (index list : List ℕ) (at : List Cursor) (x : List ℕ) (o : ℕ) : Type 0 where
   pub here : o ≤ S index
   pub walking : Placed index list at o

@@ -138,7 +138,13 @@ returns-then-most-sum c =
 pub loop-o-preserved : goal.loop-o-preserved
 loop-o-preserved c =
     let k = c.before.before.before in
-    (along-more (nb k) (omega (arith, (fr k).total)), sum_is k, omega (arith, c.if-most-sum.false), (λ h. omega (arith, c.if-most-sum.false)), (k.next-s.ensures.as_many k.loop-o.invariant.4).walking.long)
+    let fewer = c.if-most-sum.false in (
+      along-more (nb k) (omega (arith, (fr k).total)),
+      sum_is k,
+      omega (arith, fewer),
+      (λ h. omega (arith, fewer)),
+      (k.next-s.ensures.as_many k.loop-o.invariant.4).walking.long,
+    )
 
 pub returns : goal.returns
 returns c =
